@@ -1,5 +1,6 @@
 -- Peaks of numbers that are read off runs.
-use Rattle.std.proofs.Common.{◌≡◌, ◌≢◌, ◌∙◌, ℕ, ◌<◌, ◌≤◌, List, map, length, get_or, Contains, Option, Some, None, IfSome, IfNone, arith, sym, ap, ap₂, subst, inl, inr}
+use Rattle.std.proofs.Common.{◌≡◌, ◌≢◌, ◌∙◌, ℕ, ◌<◌, ◌≤◌, List, map, length, get_or, Contains, Option, Some, None}
+use Rattle.std.proofs.Common.{IfSome, IfNone, arith, sym, ap, ap₂, subst, inl, inr}
 use Rattle.std.proofs.lemmas.List.{get_or_default}
 use Rattle.std.proofs.lemmas.Bool.{cases_lt}
 use Rattle.cpg_base.specs.Numbers.{numbers_below}
@@ -19,25 +20,31 @@ use Rattle.cpg_all_runs.proofs.Measured.{HasIn, AreMeasured, measured}
 module _ (g : Graph) (order : List ℕ) (top : IsTopological g order) where
   module _ (frozen : List (Option ℕ)) (s : Scenario) (t : Times) (run : IsRun g order frozen s t) where
     -- what the search among the processes finds
-    pub ends_last : (by : Option ℕ) → IfSome by (λ p. IsFirstEnding t t.finish p) → IfNone by ((q : ℕ) → q < process_count g → get_or t.ends q None ≢ Some t.finish) → IsLeastEnding g t t.finish by
+    pub ends_last : (by : Option ℕ) → IfSome by (λ p. IsFirstEnding t t.finish p) →
+        IfNone by ((q : ℕ) → q < process_count g → get_or t.ends q None ≢ Some t.finish) →
+        IsLeastEnding g t t.finish by
     ends_last None some none = elim (cases_lt 0 (process_count g)) [
       | inl pos ↦ let r = finish_is_end g order top frozen s t run pos in absurd (none r.0 r.1 r.2)
       | inr z ↦ omega arith
     ]
     ends_last (Some p) some none = (some.ends, some.first)
 
-  module _ (value : Times → ℕ) (urgency : List ℕ) (frozen : List (Option ℕ)) (list : List Scenario) (all : AreScenarios g list) (numbers : List ℕ) (m : AreMeasured g order frozen value list numbers)
+  module _ (value : Times → ℕ) (urgency : List ℕ) (frozen : List (Option ℕ)) (list : List Scenario)
+      (all : AreScenarios g list) (numbers : List ℕ) (m : AreMeasured g order frozen value list numbers)
       (at : ℕ) (f : IsFirstGreatest g urgency (length list) list numbers at) where
     -- the number of a lawful scenario
-    number_is : (s : Scenario) (t : Times) (c : Contains list s) → IsRun g order frozen s t → get_or numbers c.0 0 ≡ value t
+    number_is : (s : Scenario) (t : Times) (c : Contains list s) → IsRun g order frozen s t →
+        get_or numbers c.0 0 ≡ value t
     number_is s t c run =
         let h = m.each c.0 s c.1 in
         sym h.2 ∙ ap value (run_unique g order top frozen s h.0 t (subst (λ z. IsRun g order frozen z h.0) c.2 h.1) run)
 
-    pub peak_greatest : (s : Scenario) (t : Times) → IsScenario g s → IsRun g order frozen s t → value t ≤ get_or numbers at 0
+    pub peak_greatest : (s : Scenario) (t : Times) → IsScenario g s → IsRun g order frozen s t →
+        value t ≤ get_or numbers at 0
     peak_greatest s t lawful run = let c = all.all s lawful in omega (arith, f.most c.0 c.1, number_is s t c run)
 
-    pub peak_least : (s d : Scenario) → s ≡ get_or list at d → IsLeast g urgency (HasIn g order frozen value (get_or numbers at 0)) s
+    pub peak_least : (s d : Scenario) → s ≡ get_or list at d →
+        IsLeast g urgency (HasIn g order frozen value (get_or numbers at 0)) s
     peak_least s d e = record {
       lawful = all.lawful s (at, f.there, get_or_default list at s d f.there ∙ sym e);
       holds = subst (HasIn g order frozen value (get_or numbers at 0)) (sym e) (m.each at d f.there);
@@ -48,16 +55,21 @@ module _ (g : Graph) (order : List ℕ) (top : IsTopological g order) where
     }
 
   -- the number of the run of a scenario
-  one_number : (value : Times → ℕ) (frozen : List (Option ℕ)) (n : ℕ) (s : Scenario) (t : Times) → HasIn g order frozen value n s → IsRun g order frozen s t → value t ≡ n
+  one_number : (value : Times → ℕ) (frozen : List (Option ℕ)) (n : ℕ) (s : Scenario) (t : Times) →
+      HasIn g order frozen value n s → IsRun g order frozen s t → value t ≡ n
   one_number value frozen n s t has run = ap value (run_unique g order top frozen s t has.0 run has.1) ∙ has.2
 
-  module _ (urgency : List ℕ) (frozen : List (Option ℕ)) (list : List Scenario) (all : AreScenarios g list) (runs : List Times) (are : AreRuns g order frozen list runs)
-      (numbers : List ℕ) (at : ℕ) (f : IsFirstGreatest g urgency (length list) list numbers at) (s : Scenario) (t : Times) (scenario_at : (d : Scenario) → s ≡ get_or list at d)
+  module _ (urgency : List ℕ) (frozen : List (Option ℕ)) (list : List Scenario) (all : AreScenarios g list)
+      (runs : List Times) (are : AreRuns g order frozen list runs)
+      (numbers : List ℕ) (at : ℕ) (f : IsFirstGreatest g urgency (length list) list numbers at) (s : Scenario)
+      (t : Times) (scenario_at : (d : Scenario) → s ≡ get_or list at d)
       (run_at : (d : Times) → t ≡ get_or runs at d) (by : Option ℕ) where
     its_run : IsRun g order frozen s t
-    its_run = subst (λ z. IsRun g order frozen z t) (sym (scenario_at s)) (subst (IsRun g order frozen (get_or list at s)) (sym (run_at t)) (are.each at s t f.there))
+    its_run = subst (λ z. IsRun g order frozen z t) (sym (scenario_at s))
+        (subst (IsRun g order frozen (get_or list at s)) (sym (run_at t)) (are.each at s t f.there))
 
-    pub is_worst : numbers ≡ map (λ u. u.finish) runs → IfSome by (λ p. IsFirstEnding t t.finish p) → IfNone by ((q : ℕ) → q < process_count g → get_or t.ends q None ≢ Some t.finish) →
+    pub is_worst : numbers ≡ map (λ u. u.finish) runs → IfSome by (λ p. IsFirstEnding t t.finish p) →
+        IfNone by ((q : ℕ) → q < process_count g → get_or t.ends q None ≢ Some t.finish) →
         IsWorst g urgency order frozen (get_or numbers at 0) s by
     is_worst is some none =
         let m = measured g order frozen (λ u. u.finish) list runs numbers are is in
@@ -65,26 +77,35 @@ module _ (g : Graph) (order : List ℕ) (top : IsTopological g order) where
         record {
           greatest = peak_greatest (λ u. u.finish) urgency frozen list all numbers m at f;
           least = least;
-          by = λ u run. subst (λ n. IsLeastEnding g u n by) (one_number (λ v. v.finish) frozen (get_or numbers at 0) s u least.holds run)
-              (subst (λ (v : Times). IsLeastEnding g v v.finish by) (run_unique g order top frozen s t u its_run run) (ends_last frozen s t its_run by some none));
+          by = λ u run. subst (λ n. IsLeastEnding g u n by)
+              (one_number (λ v. v.finish) frozen (get_or numbers at 0) s u least.holds run)
+              (subst (λ (v : Times). IsLeastEnding g v v.finish by) (run_unique g order top frozen s t u its_run run)
+              (ends_last frozen s t its_run by some none));
         }
 
-    pub is_excess : numbers ≡ map (excess_in_run g) runs → IsLeastExceeding g t (excess_in_run g t) by → IsExcess g urgency order frozen (get_or numbers at 0) s by
+    pub is_excess : numbers ≡ map (excess_in_run g) runs → IsLeastExceeding g t (excess_in_run g t) by →
+        IsExcess g urgency order frozen (get_or numbers at 0) s by
     is_excess is exceeds =
         let m = measured g order frozen (excess_in_run g) list runs numbers are is in
         let least = peak_least (excess_in_run g) urgency frozen list all numbers m at f s s (scenario_at s) in
         record {
           greatest = peak_greatest (excess_in_run g) urgency frozen list all numbers m at f;
           least = least;
-          by = λ u run. subst (λ n. IsLeastExceeding g u n by) (one_number (excess_in_run g) frozen (get_or numbers at 0) s u least.holds run)
-              (subst (λ (v : Times). IsLeastExceeding g v (excess_in_run g v) by) (run_unique g order top frozen s t u its_run run) exceeds);
+          by = λ u run. subst (λ n. IsLeastExceeding g u n by)
+              (one_number (excess_in_run g) frozen (get_or numbers at 0) s u least.holds run)
+              (subst (λ (v : Times). IsLeastExceeding g v (excess_in_run g v) by)
+              (run_unique g order top frozen s t u its_run run) exceeds);
         }
 
 -- if something exceeds, some process has the greatest excess
-pub least_exceeding : (g : Graph) (t : Times) (by : Option ℕ) → 0 < excess_in_run g t → IfSome by (IsFirstExceeding g t (excess_in_run g t)) →
-    IfNone by ((q : ℕ) → q < process_count g → excess_of g t q ≢ excess_in_run g t) → IsLeastExceeding g t (excess_in_run g t) by
-least_exceeding g t None some found none = elim (greatest_cases (map (excess_of g t) (numbers_below (process_count g)))) [
-  | inl z ↦ z
-  | inr c ↦ let r = Contains-map_parts (excess_of g t) (numbers_below (process_count g)) (excess_in_run g t) c in absurd (none r.0 (numbers-Contains (process_count g) r.0 r.1) r.2)
-]
+pub least_exceeding : (g : Graph) (t : Times) (by : Option ℕ) → 0 < excess_in_run g t →
+    IfSome by (IsFirstExceeding g t (excess_in_run g t)) →
+    IfNone by ((q : ℕ) → q < process_count g → excess_of g t q ≢ excess_in_run g t) →
+    IsLeastExceeding g t (excess_in_run g t) by
+least_exceeding g t None some found none =
+    elim (greatest_cases (map (excess_of g t) (numbers_below (process_count g)))) [
+      | inl z ↦ z
+      | inr c ↦ let r = Contains-map_parts (excess_of g t) (numbers_below (process_count g)) (excess_in_run g t) c in
+          absurd (none r.0 (numbers-Contains (process_count g) r.0 r.1) r.2)
+    ]
 least_exceeding g t (Some p) some found none = (some, found.has, found.first)

@@ -11,9 +11,12 @@ use Rattle.cpg_base.specs.Scenario.{Scenario, is_before}
 use Rattle.cpg_base.proofs.ScenarioOrder.{before_irreflexive, before_one_way, not_before_transitive}
 use Rattle.cpg_all_runs.specs.Peaks.{IsFirstGreatest}
 
-module _ (g : Graph) (urgency : List ℕ) (n : ℕ) (list : List Scenario) (numbers : List ℕ) (at : ℕ) (f : IsFirstGreatest g urgency n list numbers at) where
+module _ (g : Graph) (urgency : List ℕ) (n : ℕ) (list : List Scenario) (numbers : List ℕ) (at : ℕ)
+    (f : IsFirstGreatest g urgency n list numbers at) where
   -- the one at n is greater, or as great and before it
-  pub takes_it : get_or numbers at 0 ≤ get_or numbers n 0 → (get_or numbers n 0 ≡ get_or numbers at 0 → (d : Scenario) → is_before g urgency (get_or list n d) (get_or list at d) ≡ true) →
+  pub takes_it : get_or numbers at 0 ≤ get_or numbers n 0 →
+      (get_or numbers n 0 ≡ get_or numbers at 0 → (d : Scenario) →
+      is_before g urgency (get_or list n d) (get_or list at d) ≡ true) →
       IsFirstGreatest g urgency (n + 1) list numbers n
   takes_it much earlier = record {
     there = omega arith;
@@ -22,7 +25,8 @@ module _ (g : Graph) (urgency : List ℕ) (n : ℕ) (list : List Scenario) (numb
       | inr ne ↦ omega (arith, f.most i (omega arith))
     ];
     first = λ i d l e. elim (cases_eq i n) [
-      | inl same ↦ ap (λ j. is_before g urgency (get_or list j d) (get_or list n d)) same ∙ before_irreflexive g urgency (get_or list n d)
+      | inl same ↦ ap (λ j. is_before g urgency (get_or list j d) (get_or list n d)) same
+          ∙ before_irreflexive g urgency (get_or list n d)
       | inr ne ↦
           let m = f.most i (omega arith) in
           not_before_transitive g urgency (get_or list n d) (get_or list at d) (get_or list i d)
@@ -32,7 +36,9 @@ module _ (g : Graph) (urgency : List ℕ) (n : ℕ) (list : List Scenario) (numb
   }
 
   -- it is less, or as great and not before it
-  pub skips_it : get_or numbers n 0 ≤ get_or numbers at 0 → (get_or numbers n 0 ≡ get_or numbers at 0 → (d : Scenario) → is_before g urgency (get_or list n d) (get_or list at d) ≡ false) →
+  pub skips_it : get_or numbers n 0 ≤ get_or numbers at 0 →
+      (get_or numbers n 0 ≡ get_or numbers at 0 → (d : Scenario) →
+      is_before g urgency (get_or list n d) (get_or list at d) ≡ false) →
       IsFirstGreatest g urgency (n + 1) list numbers at
   skips_it few later = record {
     there = let l = f.there in omega arith;
@@ -41,21 +47,26 @@ module _ (g : Graph) (urgency : List ℕ) (n : ℕ) (list : List Scenario) (numb
       | inr ne ↦ omega (arith, f.most i (omega arith))
     ];
     first = λ i d l e. elim (cases_eq i n) [
-      | inl same ↦ ap (λ j. is_before g urgency (get_or list j d) (get_or list at d)) same ∙ later (sym (ap (λ j. get_or numbers j 0) same) ∙ e) d
+      | inl same ↦ ap (λ j. is_before g urgency (get_or list j d) (get_or list at d)) same
+          ∙ later (sym (ap (λ j. get_or numbers j 0) same) ∙ e) d
       | inr ne ↦ f.first i d (omega arith) e
     ];
   }
 
-pub starts_it : (g : Graph) (urgency : List ℕ) (list : List Scenario) (numbers : List ℕ) → IsFirstGreatest g urgency 1 list numbers 0
+pub starts_it : (g : Graph) (urgency : List ℕ) (list : List Scenario) (numbers : List ℕ) →
+    IsFirstGreatest g urgency 1 list numbers 0
 starts_it g urgency list numbers = record {
   there = omega arith;
   most = λ i l. omega (arith, ap (λ j. get_or numbers j 0) (let e : i ≡ 0 = omega arith in e));
-  first = λ i d l e. ap (λ j. is_before g urgency (get_or list j d) (get_or list 0 d)) (let z : i ≡ 0 = omega arith in z) ∙ before_irreflexive g urgency (get_or list 0 d);
+  first = λ i d l e. ap (λ j. is_before g urgency (get_or list j d) (get_or list 0 d)) (let z : i ≡ 0 = omega arith in
+      z) ∙ before_irreflexive g urgency (get_or list 0 d);
 }
 
 -- the greatest of one number more
-pub greatest_more : (f : ℕ → ℕ) (n : ℕ) → greatest (map f (numbers_below (n + 1))) ≡ max (greatest (map f (numbers_below n))) (f n)
-greatest_more f n = ap (λ xs. greatest (map f xs)) (below_push n) ∙ ap greatest (map_push f (numbers_below n) n) ∙ greatest_push (map f (numbers_below n)) (f n)
+pub greatest_more : (f : ℕ → ℕ) (n : ℕ) →
+    greatest (map f (numbers_below (n + 1))) ≡ max (greatest (map f (numbers_below n))) (f n)
+greatest_more f n = ap (λ xs. greatest (map f xs)) (below_push n) ∙ ap greatest (map_push f (numbers_below n) n)
+    ∙ greatest_push (map f (numbers_below n)) (f n)
 
 pub the_max : (a b : ℕ) → ord_max nat_cmp a b ≡ max a b
 the_max a b = grind (arith, common_steps)

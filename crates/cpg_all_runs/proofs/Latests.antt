@@ -1,5 +1,6 @@
 -- The search for the greatest time of an item.
-use Rattle.std.proofs.Common.{◌≡◌, ◌∙◌, ℕ, ◌+◌, ◌<◌, ◌≤◌, max, List, [], ◌∷◌, length, get_or, Contains, Option, Some, None, option_to_list, unwrap_or, arith, refl, sym, ap, subst, inl, inr, ◌⊎◌}
+use Rattle.std.proofs.Common.{◌≡◌, ◌∙◌, ℕ, ◌+◌, ◌<◌, ◌≤◌, max, List, [], ◌∷◌, length, get_or, Contains, Option, Some}
+use Rattle.std.proofs.Common.{None, option_to_list, unwrap_or, arith, refl, sym, ap, subst, inl, inr, ◌⊎◌}
 use Rattle.std.proofs.lemmas.Bool.{cases_eq, cases_lt}
 use Rattle.std.proofs.lemmas.Option.{none-some}
 use Rattle.std.proofs.lemmas.List.{get_or_default}
@@ -22,7 +23,8 @@ pub record IsUpTo (latest : Option ℕ) (time : ℕ) : Type 0 where
   pub few : time ≤ most
 
 -- in some scenario the item has the time
-pub record HasTime (g : Graph) (order : List ℕ) (frozen : List (Option ℕ)) (x : ℕ) (list : List Scenario) (time : ℕ) : Type 0 where
+pub record HasTime (g : Graph) (order : List ℕ) (frozen : List (Option ℕ)) (x : ℕ) (list : List Scenario)
+    (time : ℕ) : Type 0 where
   pub scenario : Scenario
   pub listed : Contains list scenario
   pub times : Times
@@ -30,9 +32,12 @@ pub record HasTime (g : Graph) (order : List ℕ) (frozen : List (Option ℕ)) (
   pub has : get_or times.times x None ≡ Some time
 
 -- the greatest time in the first n scenarios
-pub record IsLatest (g : Graph) (order : List ℕ) (frozen : List (Option ℕ)) (x n : ℕ) (list : List Scenario) (latest : Option ℕ) : Type 0 where
+pub record IsLatest (g : Graph) (order : List ℕ) (frozen : List (Option ℕ)) (x n : ℕ) (list : List Scenario)
+    (latest : Option ℕ) : Type 0 where
   pub reached : (time : ℕ) → latest ≡ Some time → HasTime g order frozen x list time
-  pub above : (i : ℕ) (s : Scenario) (t : Times) (time : ℕ) → i < n → get_or list i s ≡ s → IsRun g order frozen s t → get_or t.times x None ≡ Some time → IsUpTo latest time
+  pub above : (i : ℕ) (s : Scenario) (t : Times) (time : ℕ) → i < n → get_or list i s ≡ s → IsRun g order frozen s t →
+      get_or t.times x None ≡ Some time →
+      IsUpTo latest time
 
 later_cases : (a b : Option ℕ) (time : ℕ) → later a b ≡ Some time → (a ≡ Some time) ⊎ (b ≡ Some time)
 later_cases None b time e = inr e
@@ -45,7 +50,11 @@ later_cases (Some m) (Some n) time e = elim (cases_lt m n) [
 later_first : (a b : Option ℕ) (time : ℕ) → IsUpTo a time → IsUpTo (later a b) time
 later_first None b time u = absurd (none-some u.most u.is)
 later_first (Some m) None time u = u
-later_first (Some m) (Some n) time u = record { most = max m n; is = refl; few = let e : m ≡ u.most = same_some m u.most u.is in let f = u.few in omega arith }
+later_first (Some m) (Some n) time u = record {
+  most = max m n;
+  is = refl;
+  few = let e : m ≡ u.most = same_some m u.most u.is in let f = u.few in omega arith;
+}
   where
     same_some : (a b : ℕ) → Some a ≡ Some b → a ≡ b
     same_some a b e = cc
@@ -54,14 +63,17 @@ later_second : (a : Option ℕ) (time : ℕ) → IsUpTo (later a (Some time)) ti
 later_second None time = record { most = time; is = refl; few = omega arith }
 later_second (Some m) time = record { most = max m time; is = refl; few = omega arith }
 
-module _ (g : Graph) (order : List ℕ) (top : IsTopological g order) (frozen : List (Option ℕ)) (x : ℕ) (list : List Scenario) where
+module _ (g : Graph) (order : List ℕ) (top : IsTopological g order) (frozen : List (Option ℕ)) (x : ℕ)
+    (list : List Scenario) where
   pub latest_first : IsLatest g order frozen x 0 list None
   latest_first = record {
     reached = λ time e. absurd (none-some time e);
     above = λ i s t time l at run e. absurd (omega arith);
   }
 
-  pub latest_more : (n : ℕ) (latest : Option ℕ) (s : Scenario) (t : Times) → n < length list → get_or list n s ≡ s → IsRun g order frozen s t → IsLatest g order frozen x n list latest →
+  pub latest_more : (n : ℕ) (latest : Option ℕ) (s : Scenario) (t : Times) → n < length list → get_or list n s ≡ s →
+      IsRun g order frozen s t →
+      IsLatest g order frozen x n list latest →
       IsLatest g order frozen x (n + 1) list (later latest (get_or t.times x None))
   latest_more n latest s t within at run before = record {
     reached = λ time e. elim (later_cases latest (get_or t.times x None) time e) [
@@ -72,15 +84,18 @@ module _ (g : Graph) (order : List ℕ) (top : IsTopological g order) (frozen : 
       | inl same ↦
           let is : z ≡ s = sym here ∙ ap (λ j. get_or list j z) same ∙ get_or_default list n z s within ∙ at in
           let one : u ≡ t = run_unique g order top frozen s u t (subst (λ y. IsRun g order frozen y u) is other) run in
-          subst (λ o. IsUpTo (later latest o) time) (sym (ap (λ (v : Times). get_or v.times x None) (sym one) ∙ e)) (later_second latest time)
+          subst (λ o. IsUpTo (later latest o) time) (sym (ap (λ (v : Times). get_or v.times x None) (sym one) ∙ e))
+          (later_second latest time)
       | inr apart ↦ later_first latest (get_or t.times x None) time (before.above i z u time (omega arith) here other e)
     ];
   }
 
   module _ (all : AreExamples g list) (within : x < item_count g) (unset : get_or frozen x None ≡ None) where
     -- the time of an active item that is not set
-    time_unset : (s : Scenario) (t : Times) (run : IsRun g order frozen s t) → greatest (unfrozen_time g order s t x ∷ option_to_list (get_or frozen x None)) ≡ unfrozen_time g order s t x
-    time_unset s t run = ap (λ o. greatest (unfrozen_time g order s t x ∷ option_to_list o)) unset ∙ (let e = greatest-cons (unfrozen_time g order s t x) [] in omega arith)
+    time_unset : (s : Scenario) (t : Times) (run : IsRun g order frozen s t) →
+        greatest (unfrozen_time g order s t x ∷ option_to_list (get_or frozen x None)) ≡ unfrozen_time g order s t x
+    time_unset s t run = ap (λ o. greatest (unfrozen_time g order s t x ∷ option_to_list o)) unset
+        ∙ (let e = greatest-cons (unfrozen_time g order s t x) [] in omega arith)
 
     would_have : (time : ℕ) → HasTime g order frozen x list time → WouldHave g order frozen x time
     would_have time h =
@@ -91,21 +106,27 @@ module _ (g : Graph) (order : List ℕ) (top : IsTopological g order) (frozen : 
           times = h.times;
           run = h.run;
           active = p.1;
-          has = sym (time_unset h.scenario h.times h.run) ∙ ap (λ o. unwrap_or o 0) (sym (time_active g order frozen h.scenario h.times h.run x within p.1) ∙ h.has);
+          has = sym (time_unset h.scenario h.times h.run) ∙ ap (λ o. unwrap_or o 0)
+              (sym (time_active g order frozen h.scenario h.times h.run x within p.1) ∙ h.has);
         }
 
-    would_be_up_to : (n : ℕ) (latest : Option ℕ) (time : ℕ) → n ≡ length list → IsLatest g order frozen x n list latest → WouldHave g order frozen x time → IsUpTo latest time
+    would_be_up_to : (n : ℕ) (latest : Option ℕ) (time : ℕ) → n ≡ length list →
+        IsLatest g order frozen x n list latest → WouldHave g order frozen x time →
+        IsUpTo latest time
     would_be_up_to n latest time long is w =
         let c = all.all w.scenario w.lawful in
         let u = get_or list c.0 w.scenario in
         let run = (c.2 w.scenario).back order frozen w.times top w.run in
         is.above c.0 u w.times time (omega (arith, c.1)) (get_or_default list c.0 u w.scenario c.1) run
-        (time_active g order frozen w.scenario w.times w.run x within w.active ∙ ap (λ k. Some k) (time_unset w.scenario w.times w.run ∙ w.has))
+        (time_active g order frozen w.scenario w.times w.run x within w.active
+        ∙ ap (λ k. Some k) (time_unset w.scenario w.times w.run ∙ w.has))
 
-    pub latest_is : (n : ℕ) (latest : Option ℕ) → n ≡ length list → IsLatest g order frozen x n list latest → IsUnfrozenTime g order frozen x latest
+    pub latest_is : (n : ℕ) (latest : Option ℕ) → n ≡ length list → IsLatest g order frozen x n list latest →
+        IsUnfrozenTime g order frozen x latest
     latest_is n latest long is = record {
       reached = λ time e. would_have time (is.reached time e);
-      greatest = λ time other e w. let u = would_be_up_to n latest other long is w in let s : time ≡ u.most = same_some time u.most (sym e ∙ u.is) in let f = u.few in omega arith;
+      greatest = λ time other e w. let u = would_be_up_to n latest other long is w in
+          let s : time ≡ u.most = same_some time u.most (sym e ∙ u.is) in let f = u.few in omega arith;
       none = λ e time w. let u = would_be_up_to n latest time long is w in none-some u.most (sym e ∙ u.is);
     }
       where

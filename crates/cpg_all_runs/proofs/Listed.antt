@@ -1,24 +1,31 @@
 -- Which scenarios the lists have.
-use Rattle.std.proofs.Common.{length, ◌≡◌, ◌∙◌, ℕ, zero, suc, ◌+◌, ◌-◌, ◌≢◌, ◌<◌, ◌≤◌, Bool, true, false, List, [], ◌∷◌, ◌++◌, map, get_or, set, sum, replicate, All, Contains, arith, refl, sym, ap}
+use Rattle.std.proofs.Common.{length, ◌≡◌, ◌∙◌, ℕ, zero, suc, ◌+◌, ◌-◌, ◌≢◌, ◌<◌, ◌≤◌, Bool, true, false, List, [], ◌∷◌}
+use Rattle.std.proofs.Common.{◌++◌, map, get_or, set, sum, replicate, All, Contains, arith, refl, sym, ap}
 use Rattle.std.proofs.Common.{ap₂, subst, inl, inr, length-set, add-one}
 use Rattle.std.proofs.lemmas.Bool.{cases_eq, cases_lt, cases_Bool, both_ways}
-use Rattle.std.proofs.lemmas.List.{append_assoc, get_or-replicate, length-replicate, get_or_past, get_or-set_same, get_or-set_other, set-get_or, ext_get_or, map-append}
+use Rattle.std.proofs.lemmas.List.{append_assoc, get_or-replicate, length-replicate, get_or_past, get_or-set_same}
+use Rattle.std.proofs.lemmas.List.{get_or-set_other, set-get_or, ext_get_or, map-append}
 use Rattle.std.proofs.lemmas.List.Elements.{Contains-get_or}
 use Rattle.std.proofs.lemmas.List.Sums.{sum_by-set}
 use Rattle.std.specs.List.{flat_map, AllPairs}
 use Rattle.cpg_base.specs.Numbers.{numbers_below}
 use Rattle.cpg_base.specs.Graph.{Graph, process_count, condition_count}
 use Rattle.cpg_base.specs.Scenario.{Scenario, IsScenario, zero_scenario, fault_of}
-use Rattle.cpg_base.proofs.Lists.{Contains-first, Contains-rest, Contains-nil, Contains-cases, Contains-map, Contains-map_parts, Contains-flat_map, Contains-flat_map_parts, Contains-numbers}
+use Rattle.cpg_base.proofs.Lists.{Contains-first, Contains-rest, Contains-nil, Contains-cases, Contains-map}
+use Rattle.cpg_base.proofs.Lists.{Contains-map_parts, Contains-flat_map, Contains-flat_map_parts, Contains-numbers}
 use Rattle.cpg_base.proofs.Lists.{numbers-Contains, below_push}
 use Rattle.cpg_base.proofs.Pairs.{AllPairs-nil, AllPairs-cons_by, AllPairs-map, AllPairs-flat_map_in, numbers_apart}
 pub use Rattle.cpg_run.proofs.ZeroScenario.{zero_lawful}
-use Rattle.cpg_all_runs.specs.Listing.{AreScenarios, HasValue, with_fault, with_true, with_each_fault, with_both, with_faults_below, with_values_below}
+use Rattle.cpg_all_runs.specs.Listing.{AreScenarios, HasValue, with_fault, with_true, with_each_fault, with_both}
+use Rattle.cpg_all_runs.specs.Listing.{with_faults_below, with_values_below}
 
 -- one more, as at a step of a loop
-pub appended_push : {X : Type 0} (f : ℕ → X) (before xs ys : List X) (y : X) (n : ℕ) → xs ≡ before ++ map f (numbers_below n) → y ≡ f n → ys ≡ xs ++ y ∷ [] →
+pub appended_push : {X : Type 0} (f : ℕ → X) (before xs ys : List X) (y : X) (n : ℕ) →
+    xs ≡ before ++ map f (numbers_below n) → y ≡ f n →
+    ys ≡ xs ++ y ∷ [] →
     ys ≡ before ++ map f (numbers_below (n + 1))
-appended_push f before xs ys y n e h is = is ∙ ap₂ (λ zs z. zs ++ z ∷ []) e h ∙ append_assoc before (map f (numbers_below n)) (f n ∷ [])
+appended_push f before xs ys y n e h is =
+    is ∙ ap₂ (λ zs z. zs ++ z ∷ []) e h ∙ append_assoc before (map f (numbers_below n)) (f n ∷ [])
     ∙ ap (λ zs. before ++ zs) (sym (ap (map f) (below_push n) ∙ map-append f (numbers_below n) (n ∷ [])))
 
 set_twice : {X : Type 0} (xs : List X) (i : ℕ) (y z d : X) → set (set xs i y) i z ≡ set xs i z
@@ -40,17 +47,21 @@ module _ (g : Graph) where
   no_fault : (q : ℕ) → fault_of (zero_scenario g) q ≡ 0
   no_fault q = elim (cases_lt q (process_count g)) [
     | inl h ↦ get_or-replicate (process_count g) q 0 0 h
-    | inr h ↦ get_or_past (replicate (process_count g) 0) q 0 (omega (arith, length-replicate {A = ℕ} (process_count g) 0))
+    | inr h ↦
+        get_or_past (replicate (process_count g) 0) q 0 (omega (arith, length-replicate {A = ℕ} (process_count g) 0))
   ]
 
-  faults_changed : (p f : ℕ) (s : Scenario) → p < process_count g → IsScenario g s → sum s.faults + f ≤ g.faults + fault_of s p → IsScenario g (with_fault p s f)
+  faults_changed : (p f : ℕ) (s : Scenario) → p < process_count g → IsScenario g s →
+      sum s.faults + f ≤ g.faults + fault_of s p →
+      IsScenario g (with_fault p s f)
   faults_changed p f s within is fits = record {
     values = is.values;
     faults = length-set s.faults p f ∙ is.faults;
     budget = let e = sum_by-set (λ (x : ℕ). x) s.faults p f 0 (omega (arith, is.faults)) in omega arith;
   }
 
-  pub faults_listed : (p : ℕ) → p ≤ process_count g → (s : Scenario) → Contains (with_faults_below g p) s → HasFaultsBelow p s
+  pub faults_listed : (p : ℕ) → p ≤ process_count g → (s : Scenario) → Contains (with_faults_below g p) s →
+      HasFaultsBelow p s
   unfolding with_faults_below
   faults_listed zero within s c = elim (Contains-cases (zero_scenario g) [] s c) [
     | inl e ↦ subst (HasFaultsBelow 0) e (record { lawful = zero_lawful g; later = λ q l. no_fault q; quiet = refl })
@@ -68,19 +79,22 @@ module _ (g : Graph) where
         quiet = i.quiet;
       })
 
-  pub lists_faults : (p : ℕ) → p ≤ process_count g → (s : Scenario) → HasFaultsBelow p s → Contains (with_faults_below g p) s
+  pub lists_faults : (p : ℕ) → p ≤ process_count g → (s : Scenario) → HasFaultsBelow p s →
+      Contains (with_faults_below g p) s
   unfolding with_faults_below
   lists_faults zero within s h =
       let long = h.lawful.faults in
       subst (Contains (zero_scenario g ∷ [])) (same (zero_scenario g) s (sym h.quiet)
-      (ext_get_or 0 (replicate (process_count g) 0) s.faults (length-replicate {A = ℕ} (process_count g) 0 ∙ sym long) (λ q l. no_fault q ∙ sym (h.later q (omega arith)))))
+      (ext_get_or 0 (replicate (process_count g) 0) s.faults (length-replicate {A = ℕ} (process_count g) 0 ∙ sym long)
+      (λ q l. no_fault q ∙ sym (h.later q (omega arith)))))
       (Contains-first (zero_scenario g) [])
   lists_faults (suc p) within s h =
       let long = h.lawful.faults in
       let b = h.lawful.budget in
       let e = sum_by-set (λ (x : ℕ). x) s.faults p 0 0 (omega arith) in
       let without = with_fault p s 0 in
-      let back : with_fault p without (fault_of s p) ≡ s = same (with_fault p without (fault_of s p)) s refl (set_twice s.faults p 0 (fault_of s p) 0 ∙ set-get_or s.faults p 0) in
+      let back : with_fault p without (fault_of s p) ≡ s = same (with_fault p without (fault_of s p)) s refl
+      (set_twice s.faults p 0 (fault_of s p) 0 ∙ set-get_or s.faults p 0) in
       Contains-flat_map (with_each_fault g p) (with_faults_below g p) without s
       (lists_faults p (omega arith) without (record {
         lawful = faults_changed p 0 s (omega arith) h.lawful (omega arith);
@@ -91,7 +105,8 @@ module _ (g : Graph) where
         quiet = h.quiet;
       }))
       (subst (Contains (with_each_fault g p without)) back
-      (Contains-map (with_fault p without) (numbers_below (g.faults - sum without.faults + 1)) (fault_of s p) (Contains-numbers _ (fault_of s p) (omega arith))))
+      (Contains-map (with_fault p without) (numbers_below (g.faults - sum without.faults + 1)) (fault_of s p)
+      (Contains-numbers _ (fault_of s p) (omega arith))))
 
   -- every value false from the condition c on
   pub record HasValuesBelow (c : ℕ) (s : Scenario) : Type 0 where
@@ -101,11 +116,14 @@ module _ (g : Graph) where
   all_quiet : (d : ℕ) → get_or (replicate (condition_count g) false) d false ≡ false
   all_quiet d = elim (cases_lt d (condition_count g)) [
     | inl h ↦ get_or-replicate (condition_count g) d false false h
-    | inr h ↦ get_or_past (replicate (condition_count g) false) d false (omega (arith, length-replicate (condition_count g) false))
+    | inr h ↦ get_or_past (replicate (condition_count g) false) d false
+        (omega (arith, length-replicate (condition_count g) false))
   ]
 
-  value_changed : (c : ℕ) (v : Bool) (s : Scenario) → IsScenario g s → IsScenario g (record s { values = set s.values c v })
-  value_changed c v s is = record { values = length-set s.values c v ∙ is.values; faults = is.faults; budget = is.budget }
+  value_changed : (c : ℕ) (v : Bool) (s : Scenario) → IsScenario g s →
+      IsScenario g (record s { values = set s.values c v })
+  value_changed c v s is =
+      record { values = length-set s.values c v ∙ is.values; faults = is.faults; budget = is.budget }
 
   pub values_listed : (c : ℕ) → (s : Scenario) → Contains (with_values_below g c) s → HasValuesBelow c s
   unfolding with_values_below
@@ -116,7 +134,8 @@ module _ (g : Graph) where
       let r = Contains-flat_map_parts (with_both c) (with_values_below g c) s k in
       let i = values_listed c r.0 r.1 in
       elim (Contains-cases r.0 (with_true c r.0 ∷ []) s r.2) [
-        | inl e ↦ subst (HasValuesBelow (suc c)) e (record { lawful = i.lawful; later = λ d l. i.later d (omega arith) })
+        | inl e ↦
+            subst (HasValuesBelow (suc c)) e (record { lawful = i.lawful; later = λ d l. i.later d (omega arith) })
         | inr n ↦ elim (Contains-cases (with_true c r.0) [] s n) [
           | inl e ↦ subst (HasValuesBelow (suc c)) e (record {
             lawful = value_changed c true r.0 i.lawful;
@@ -126,12 +145,14 @@ module _ (g : Graph) where
         ]
       ]
 
-  pub lists_values : (c : ℕ) → c ≤ condition_count g → (s : Scenario) → HasValuesBelow c s → Contains (with_values_below g c) s
+  pub lists_values : (c : ℕ) → c ≤ condition_count g → (s : Scenario) → HasValuesBelow c s →
+      Contains (with_values_below g c) s
   unfolding with_values_below
   lists_values zero within s h = lists_faults (process_count g) (omega arith) s (record {
     lawful = h.lawful;
     later = λ q l. get_or_past s.faults q 0 (omega (arith, h.lawful.faults));
-    quiet = ext_get_or false s.values (replicate (condition_count g) false) (h.lawful.values ∙ sym (length-replicate (condition_count g) false)) (λ d l. h.later d (omega arith) ∙ sym (all_quiet d));
+    quiet = ext_get_or false s.values (replicate (condition_count g) false) (h.lawful.values
+        ∙ sym (length-replicate (condition_count g) false)) (λ d l. h.later d (omega arith) ∙ sym (all_quiet d));
   })
   lists_values (suc c) within s h =
       let long = h.lawful.values in
@@ -139,17 +160,23 @@ module _ (g : Graph) where
       let there = lists_values c (omega arith) without (record {
         lawful = value_changed c false s h.lawful;
         later = λ d l. elim (cases_eq d c) [
-          | inl at ↦ ap (λ j. get_or (set s.values c false) j false) at ∙ get_or-set_same s.values c false false (omega arith)
+          | inl at ↦ ap (λ j. get_or (set s.values c false) j false) at
+              ∙ get_or-set_same s.values c false false (omega arith)
           | inr apart ↦ get_or-set_other s.values c d false false apart ∙ h.later d (omega arith)
         ];
       }) in
       let again : Scenario = record s { values = set (set s.values c false) c (get_or s.values c false) } in
-      let back : again ≡ s = same again s (set_twice s.values c false (get_or s.values c false) false ∙ set-get_or s.values c false) refl in
+      let back : again ≡ s = same again s
+      (set_twice s.values c false (get_or s.values c false) false ∙ set-get_or s.values c false) refl in
       Contains-flat_map (with_both c) (with_values_below g c) without s there
       (elim (cases_Bool (get_or s.values c false)) [
-        | inl on ↦ subst (Contains (with_both c without)) (sym (ap (λ v. let r : Scenario = record s { values = set (set s.values c false) c v } in r) on) ∙ back)
-            (Contains-rest without (with_true c without ∷ []) (with_true c without) (Contains-first (with_true c without) []))
-        | inr off ↦ subst (Contains (with_both c without)) (same without s (ap (set s.values c) (sym off) ∙ set-get_or s.values c false) refl) (Contains-first without (with_true c without ∷ []))
+        | inl on ↦ subst (Contains (with_both c without))
+            (sym (ap (λ v. let r : Scenario = record s { values = set (set s.values c false) c v } in r) on) ∙ back)
+            (Contains-rest without (with_true c without ∷ []) (with_true c without)
+            (Contains-first (with_true c without) []))
+        | inr off ↦ subst (Contains (with_both c without))
+            (same without s (ap (set s.values c) (sym off) ∙ set-get_or s.values c false) refl)
+            (Contains-first without (with_true c without ∷ []))
       ])
 
   -- without the count of a process a scenario is as it was before it was given
@@ -158,12 +185,15 @@ module _ (g : Graph) where
 
   faults_apart : (p : ℕ) → p ≤ process_count g → AllPairs (λ s t. s ≢ t) (with_faults_below g p)
   unfolding with_faults_below
-  faults_apart zero within = AllPairs-cons_by (λ s t. s ≢ t) (zero_scenario g) [] (λ s c. absurd (Contains-nil s c)) (AllPairs-nil (λ s t. s ≢ t))
-  faults_apart (suc p) within = AllPairs-flat_map_in (λ s t. s ≢ t) (λ s t. s ≢ t) (with_each_fault g p) (with_faults_below g p)
+  faults_apart zero within = AllPairs-cons_by (λ s t. s ≢ t) (zero_scenario g) [] (λ s c. absurd (Contains-nil s c))
+      (AllPairs-nil (λ s t. s ≢ t))
+  faults_apart (suc p) within =
+      AllPairs-flat_map_in (λ s t. s ≢ t) (λ s t. s ≢ t) (with_each_fault g p) (with_faults_below g p)
       (λ s c.
       let long = (faults_listed p (omega arith) s c).lawful.faults in
       AllPairs-map (λ f h. f ≢ h) (λ u v. u ≢ v) (with_fault p s) (numbers_below (g.faults - sum s.faults + 1))
-      (λ f h d e. d (sym (get_or-set_same s.faults p f 0 (omega arith)) ∙ ap (λ u. fault_of u p) e ∙ get_or-set_same s.faults p h 0 (omega arith)))
+      (λ f h d e. d (sym (get_or-set_same s.faults p f 0 (omega arith)) ∙ ap (λ u. fault_of u p) e
+      ∙ get_or-set_same s.faults p h 0 (omega arith)))
       (numbers_apart (g.faults - sum s.faults + 1)))
       (λ s t u v c k d m n e.
       let a = faults_listed p (omega arith) s c in
@@ -171,15 +201,20 @@ module _ (g : Graph) where
       let x = Contains-map_parts (with_fault p s) (numbers_below (g.faults - sum s.faults + 1)) u m in
       let y = Contains-map_parts (with_fault p t) (numbers_below (g.faults - sum t.faults + 1)) v n in
       d (same s t (a.quiet ∙ sym b.quiet)
-      (sym (fault_cleared p x.0 s (a.later p (omega arith))) ∙ ap (λ z. set z.faults p 0) (x.2 ∙ e ∙ sym y.2) ∙ fault_cleared p y.0 t (b.later p (omega arith)))))
+      (sym (fault_cleared p x.0 s (a.later p (omega arith))) ∙ ap (λ z. set z.faults p 0) (x.2 ∙ e ∙ sym y.2)
+      ∙ fault_cleared p y.0 t (b.later p (omega arith)))))
       (faults_apart p (omega arith))
 
   -- without the value of a condition too
-  value_cleared : (c : ℕ) (s u : Scenario) → get_or s.values c false ≡ false → Contains (with_both c s) u → (set u.values c false ≡ s.values) × (u.faults ≡ s.faults)
+  value_cleared : (c : ℕ) (s u : Scenario) → get_or s.values c false ≡ false → Contains (with_both c s) u →
+      (set u.values c false ≡ s.values) × (u.faults ≡ s.faults)
   value_cleared c s u z k = elim (Contains-cases s (with_true c s ∷ []) u k) [
     | inl e ↦ (ap (λ v. set v.values c false) (sym e) ∙ unset, ap (λ v. v.faults) (sym e))
     | inr n ↦ elim (Contains-cases (with_true c s) [] u n) [
-      | inl e ↦ (ap (λ v. set v.values c false) (sym e) ∙ set_twice s.values c true false false ∙ unset, ap (λ v. v.faults) (sym e))
+      | inl e ↦ (
+        ap (λ v. set v.values c false) (sym e) ∙ set_twice s.values c true false false ∙ unset,
+        ap (λ v. v.faults) (sym e),
+      )
       | inr none ↦ absurd (Contains-nil u none)
     ]
   ]
@@ -196,10 +231,12 @@ module _ (g : Graph) where
       let long = h.lawful.values in
       AllPairs-cons_by (λ u v. u ≢ v) s (with_true c s ∷ [])
       (λ v m e. elim (Contains-cases (with_true c s) [] v m) [
-        | inl is ↦ both_ways (get_or s.values c false) (h.later c (omega arith)) (ap (λ u. get_or u.values c false) (e ∙ sym is) ∙ get_or-set_same s.values c true false (omega arith))
+        | inl is ↦ both_ways (get_or s.values c false) (h.later c (omega arith))
+            (ap (λ u. get_or u.values c false) (e ∙ sym is) ∙ get_or-set_same s.values c true false (omega arith))
         | inr none ↦ Contains-nil v none
       ])
-      (AllPairs-cons_by (λ u v. u ≢ v) (with_true c s) [] (λ v m. absurd (Contains-nil v m)) (AllPairs-nil (λ u v. u ≢ v))))
+      (AllPairs-cons_by (λ u v. u ≢ v) (with_true c s) [] (λ v m. absurd (Contains-nil v m))
+      (AllPairs-nil (λ u v. u ≢ v))))
       (λ s t u v k m d i j e.
       let x = value_cleared c s u ((values_listed c s k).later c (omega arith)) i in
       let y = value_cleared c t v ((values_listed c t m).later c (omega arith)) j in
@@ -209,21 +246,29 @@ module _ (g : Graph) where
   pub are_scenarios : AreScenarios g (with_values_below g (condition_count g))
   are_scenarios = record {
     lawful = λ s c. (values_listed (condition_count g) s c).lawful;
-    all = λ s is. lists_values (condition_count g) (omega arith) s (record { lawful = is; later = λ d l. get_or_past s.values d false (omega (arith, is.values)) });
+    all = λ s is. lists_values (condition_count g) (omega arith) s
+        (record { lawful = is; later = λ d l. get_or_past s.values d false (omega (arith, is.values)) });
     apart = values_apart (condition_count g) (omega arith);
   }
 
   pub all_lawful_faults : (p : ℕ) → p ≤ process_count g → All (IsScenario g) (with_faults_below g p)
-  all_lawful_faults p h i d l = (faults_listed p h (get_or (with_faults_below g p) i d) (Contains-get_or (with_faults_below g p) i d l)).lawful
+  all_lawful_faults p h i d l =
+      (faults_listed p h (get_or (with_faults_below g p) i d) (Contains-get_or (with_faults_below g p) i d l)).lawful
 
   pub all_within : (c : ℕ) → c < condition_count g → All (HasValue c) (with_values_below g c)
-  all_within c h i d l = let is = (values_listed c (get_or (with_values_below g c) i d) (Contains-get_or (with_values_below g c) i d l)).lawful in let e = is.values in omega arith
+  all_within c h i d l = let is =
+      (values_listed c (get_or (with_values_below g c) i d) (Contains-get_or (with_values_below g c) i d l)).lawful in
+      let e = is.values in
+      omega arith
 
-  pub faults_more : (p : ℕ) (xs ys : List Scenario) → xs ≡ with_faults_below g p → ys ≡ flat_map (with_each_fault g p) xs → ys ≡ with_faults_below g (p + 1)
+  pub faults_more : (p : ℕ) (xs ys : List Scenario) → xs ≡ with_faults_below g p →
+      ys ≡ flat_map (with_each_fault g p) xs →
+      ys ≡ with_faults_below g (p + 1)
   unfolding with_faults_below
   faults_more p xs ys e f = f ∙ ap (flat_map (with_each_fault g p)) e ∙ ap (with_faults_below g) (sym (add-one p))
 
-  pub values_more : (c : ℕ) (xs ys : List Scenario) → xs ≡ with_values_below g c → ys ≡ flat_map (with_both c) xs → ys ≡ with_values_below g (c + 1)
+  pub values_more : (c : ℕ) (xs ys : List Scenario) → xs ≡ with_values_below g c → ys ≡ flat_map (with_both c) xs →
+      ys ≡ with_values_below g (c + 1)
   unfolding with_values_below
   values_more c xs ys e f = f ∙ ap (flat_map (with_both c)) e ∙ ap (with_values_below g) (sym (add-one c))
 

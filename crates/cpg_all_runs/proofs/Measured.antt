@@ -1,5 +1,6 @@
 -- Runs one after another, and numbers that are read off them.
-use Rattle.std.proofs.Common.{◌≡◌, ◌∙◌, ℕ, ◌+◌, ◌<◌, List, [], ◌∷◌, ◌++◌, map, length, get_or, Option, arith, sym, ap, ap₂, subst, inl, inr, length-append}
+use Rattle.std.proofs.Common.{◌≡◌, ◌∙◌, ℕ, ◌+◌, ◌<◌, List, [], ◌∷◌, ◌++◌, map, length, get_or, Option, arith, sym, ap}
+use Rattle.std.proofs.Common.{ap₂, subst, inl, inr, length-append}
 use Rattle.std.proofs.lemmas.Bool.{cases_lt}
 use Rattle.std.proofs.lemmas.List.{get_or_append_left, get_or-map, length-map}
 use Rattle.std.proofs.Math.Seq.{get_or-append_seam}
@@ -13,31 +14,45 @@ abbrev pub HasIn : Graph → List ℕ → List (Option ℕ) → (Times → ℕ) 
 HasIn g order frozen value n s = (t : Times) × IsRun g order frozen s t × (value t ≡ n)
 
 -- at each place a number that a run of the scenario there has
-pub record AreMeasured (g : Graph) (order : List ℕ) (frozen : List (Option ℕ)) (value : Times → ℕ) (list : List Scenario) (numbers : List ℕ) : Type 0 where
+pub record AreMeasured (g : Graph) (order : List ℕ) (frozen : List (Option ℕ)) (value : Times → ℕ)
+    (list : List Scenario) (numbers : List ℕ) : Type 0 where
   pub long : length numbers ≡ length list
-  pub each : (i : ℕ) (s : Scenario) → i < length list → HasIn g order frozen value (get_or numbers i 0) (get_or list i s)
+  pub each : (i : ℕ) (s : Scenario) → i < length list →
+      HasIn g order frozen value (get_or numbers i 0) (get_or list i s)
 
 module _ (g : Graph) (order : List ℕ) (frozen : List (Option ℕ)) where
   -- one run more
-  pub runs_more : (n : ℕ) (list : List Scenario) (runs more : List Times) (t : Times) → AreFirstRuns g order frozen n list runs → ((d : Scenario) → IsRun g order frozen (get_or list n d) t) →
+  pub runs_more : (n : ℕ) (list : List Scenario) (runs more : List Times) (t : Times) →
+      AreFirstRuns g order frozen n list runs →
+      ((d : Scenario) → IsRun g order frozen (get_or list n d) t) →
       more ≡ runs ++ t ∷ [] → AreFirstRuns g order frozen (n + 1) list more
   runs_more n list runs more t a new is = record {
     count = ap length is ∙ length-append runs (t ∷ []) ∙ ap (λ m. m + 1) a.count;
     each = λ i s d l. elim (cases_lt i n) [
-      | inl h ↦ subst (IsRun g order frozen (get_or list i s)) (sym (ap (λ ts. get_or ts i d) is ∙ get_or_append_left runs (t ∷ []) d i (omega (arith, a.count)))) (a.each i s d h)
+      | inl h ↦ subst (IsRun g order frozen (get_or list i s))
+          (sym (ap (λ ts. get_or ts i d) is ∙ get_or_append_left runs (t ∷ []) d i (omega (arith, a.count))))
+          (a.each i s d h)
       | inr h ↦
           let at : i ≡ length runs = omega (arith, a.count) in
           let same : n ≡ i = omega arith in
-          subst (IsRun g order frozen (get_or list i s)) (sym (ap₂ (λ ts j. get_or ts j d) is at ∙ get_or-append_seam runs t [] d)) (subst (λ j. IsRun g order frozen (get_or list j s) t) same (new s))
+          subst (IsRun g order frozen (get_or list i s))
+          (sym (ap₂ (λ ts j. get_or ts j d) is at ∙ get_or-append_seam runs t [] d))
+          (subst (λ j. IsRun g order frozen (get_or list j s) t) same (new s))
     ];
   }
 
   -- what is read off each run
-  pub measured : (value : Times → ℕ) (list : List Scenario) (runs : List Times) (numbers : List ℕ) → AreRuns g order frozen list runs → numbers ≡ map value runs →
+  pub measured : (value : Times → ℕ) (list : List Scenario) (runs : List Times) (numbers : List ℕ) →
+      AreRuns g order frozen list runs →
+      numbers ≡ map value runs →
       AreMeasured g order frozen value list numbers
   measured value list runs numbers a is = record {
     long = ap length is ∙ length-map runs value ∙ a.count;
-    each = λ i s l. let t = get_or runs i no_run in (t, a.each i s no_run l, sym (ap (λ ns. get_or ns i 0) is ∙ get_or-map value runs i no_run 0 (omega (arith, a.count))));
+    each = λ i s l. let t = get_or runs i no_run in (
+      t,
+      a.each i s no_run l,
+      sym (ap (λ ns. get_or ns i 0) is ∙ get_or-map value runs i no_run 0 (omega (arith, a.count))),
+    );
   }
     where
       no_run : Times

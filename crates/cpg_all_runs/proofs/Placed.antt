@@ -1,5 +1,6 @@
 -- Look-ups of places by numbers.
-use Rattle.std.proofs.Common.{Ordering, Less, Equal, Greater, ◌≡◌, ◌≢◌, ◌∙◌, ℕ, ◌+◌, ◌<◌, ◌≤◌, true, Bool, false, List, [], ◌∷◌, ◌++◌, map, All, length, length-append, get_or, Some, None, rules, refl}
+use Rattle.std.proofs.Common.{Ordering, Less, Equal, Greater, ◌≡◌, ◌≢◌, ◌∙◌, ℕ, ◌+◌, ◌<◌, ◌≤◌, true, Bool, false, List}
+use Rattle.std.proofs.Common.{[], ◌∷◌, ◌++◌, map, All, length, length-append, get_or, Some, None, rules, refl}
 use Rattle.std.proofs.Common.{sym, ap, subst, inl, inr, arith}
 use Rattle.std.proofs.lemmas.Bool.{cases_Bool, cases_eq, cases_lt}
 use Rattle.std.proofs.lemmas.Option.{none-some}
@@ -20,31 +21,43 @@ use Rattle.cpg_all_runs.specs.FirstAlike.{AreFirstPlaces}
 use Rattle.cpg_all_runs.specs.Placed.{place_in, with_place, GetsPlace}
 
 -- numbers are told one after another behind others
-pub map_below_after : (f : ℕ → ℕ) (before xs more : List ℕ) (v n : ℕ) → xs ≡ before ++ map f (numbers_below n) → v ≡ f n → more ≡ xs ++ v ∷ [] → more ≡ before ++ map f (numbers_below (n + 1))
+pub map_below_after : (f : ℕ → ℕ) (before xs more : List ℕ) (v n : ℕ) → xs ≡ before ++ map f (numbers_below n) →
+    v ≡ f n → more ≡ xs ++ v ∷ [] →
+    more ≡ before ++ map f (numbers_below (n + 1))
 map_below_after f before xs more v n is new pushed =
     pushed ∙ ap (λ ys. ys ++ v ∷ []) is ∙ append_assoc before (map f (numbers_below n)) (v ∷ [])
-    ∙ ap (λ ys. before ++ ys) (map_below_push f (map f (numbers_below n)) (map f (numbers_below n) ++ v ∷ []) v n refl new refl)
+    ∙ ap (λ ys. before ++ ys)
+    (map_below_push f (map f (numbers_below n)) (map f (numbers_below n) ++ v ∷ []) v n refl new refl)
 
 same_some : (a b : ℕ) → Some a ≡ Some b → a ≡ b
 same_some a b e = cc
 
 module _ (P : Vec ℕ × ℕ → Type 0) where
-  placed_found : (f : Vec ℕ → Ordering) (es : List (Vec ℕ × ℕ)) (i : ℕ) → All P es → lookup (is_at f) es ≡ Some i → (k : Vec ℕ) × (f k ≡ Equal) × P (k, i)
+  placed_found : (f : Vec ℕ → Ordering) (es : List (Vec ℕ × ℕ)) (i : ℕ) → All P es → lookup (is_at f) es ≡ Some i →
+      (k : Vec ℕ) × (f k ≡ Equal) × P (k, i)
   placed_found f [] i a e = absurd (none-some i e)
   placed_found f (x ∷ es) i a e = elim (cases_Bool (is_at f x.0)) [
-    | inl t ↦ (x.0, (Equal-is (f x.0)).0 t, subst (λ n. P (x.0, n)) (same_some x.1 i (sym (lookup_head (is_at f) x es t) ∙ e)) (All-head P x es a))
+    | inl t ↦ (
+      x.0,
+      (Equal-is (f x.0)).0 t,
+      subst (λ n. P (x.0, n)) (same_some x.1 i (sym (lookup_head (is_at f) x es t) ∙ e)) (All-head P x es a),
+    )
     | inr t ↦ placed_found f es i (All-tail P x es a) (sym (lookup_tail (is_at f) x es t) ∙ e)
   ]
 
-  put_by_order : (k : Vec ℕ) (v : ℕ) (e : Vec ℕ × ℕ) (es rest : List (Vec ℕ × ℕ)) → P (k, v) → (o : Ordering) → (o ≡ Equal → P (e.0, v)) → All P (e ∷ es) → All P rest →
+  put_by_order : (k : Vec ℕ) (v : ℕ) (e : Vec ℕ × ℕ) (es rest : List (Vec ℕ × ℕ)) → P (k, v) → (o : Ordering) →
+      (o ≡ Equal → P (e.0, v)) → All P (e ∷ es) → All P rest →
       All P (match_ordering o ((k, v) ∷ e ∷ es) ((e.0, v) ∷ es) (e ∷ rest))
   put_by_order k v e es rest p Less q a r = All-cons P (k, v) (e ∷ es) p a
   put_by_order k v e es rest p Equal q a r = All-cons P (e.0, v) es (q refl) (All-tail P e es a)
   put_by_order k v e es rest p Greater q a r = All-cons P e rest (All-head P e es a) r
 
-  placed_inserted : (cmp : Vec ℕ → Vec ℕ → Ordering) (k : Vec ℕ) (v : ℕ) → P (k, v) → ((j : Vec ℕ) → cmp k j ≡ Equal → P (j, v)) → (es : List (Vec ℕ × ℕ)) → All P es → All P (insert_entry cmp es k v)
+  placed_inserted : (cmp : Vec ℕ → Vec ℕ → Ordering) (k : Vec ℕ) (v : ℕ) → P (k, v) →
+      ((j : Vec ℕ) → cmp k j ≡ Equal → P (j, v)) → (es : List (Vec ℕ × ℕ)) → All P es →
+      All P (insert_entry cmp es k v)
   placed_inserted cmp k v p q [] a = All-cons P (k, v) [] p a
-  placed_inserted cmp k v p q (e ∷ es) a = put_by_order k v e es (insert_entry cmp es k v) p (cmp k e.0) (q e.0) a (placed_inserted cmp k v p q es (All-tail P e es a))
+  placed_inserted cmp k v p q (e ∷ es) a = put_by_order k v e es (insert_entry cmp es k v) p (cmp k e.0) (q e.0) a
+      (placed_inserted cmp k v p q es (All-tail P e es a))
 
 -- an entry's place is below n, and the first that has its numbers
 abbrev pub IsPlaced : (ℕ → List ℕ) → ℕ → Vec ℕ × ℕ → Type 0
@@ -71,17 +84,21 @@ module _ (numbers : List ℕ) where
     | inr t ↦ h (sym (lookup_tail (is_key numbers) e es t) ∙ none)
   ]
 
-  known_behind : (e : Vec ℕ × ℕ) (es : List (Vec ℕ × ℕ)) → is_key numbers e.0 ≡ false → place_in (e ∷ es) numbers ≢ None → place_in es numbers ≢ None
+  known_behind : (e : Vec ℕ × ℕ) (es : List (Vec ℕ × ℕ)) → is_key numbers e.0 ≡ false →
+      place_in (e ∷ es) numbers ≢ None →
+      place_in es numbers ≢ None
   known_behind e es t h none = h (lookup_tail (is_key numbers) e es t ∙ none)
 
-  known_again : (e : Vec ℕ × ℕ) (v : ℕ) (es : List (Vec ℕ × ℕ)) → place_in (e ∷ es) numbers ≢ None → place_in ((e.0, v) ∷ es) numbers ≢ None
+  known_again : (e : Vec ℕ × ℕ) (v : ℕ) (es : List (Vec ℕ × ℕ)) → place_in (e ∷ es) numbers ≢ None →
+      place_in ((e.0, v) ∷ es) numbers ≢ None
   known_again e v es h = elim (cases_Bool (is_key numbers e.0)) [
     | inl t ↦ known_head (e.0, v) es t
     | inr t ↦ known_tail (e.0, v) es (known_behind e es t h)
   ]
 
   module _ (k : Vec ℕ) (v : ℕ) where
-    kept_by_order : (e : Vec ℕ × ℕ) (es rest : List (Vec ℕ × ℕ)) → place_in (e ∷ es) numbers ≢ None → (place_in es numbers ≢ None → place_in rest numbers ≢ None) → (o : Ordering)
+    kept_by_order : (e : Vec ℕ × ℕ) (es rest : List (Vec ℕ × ℕ)) → place_in (e ∷ es) numbers ≢ None →
+        (place_in es numbers ≢ None → place_in rest numbers ≢ None) → (o : Ordering)
         → place_in (match_ordering o ((k, v) ∷ e ∷ es) ((e.0, v) ∷ es) (e ∷ rest)) numbers ≢ None
     kept_by_order e es rest h r Less = known_tail (k, v) (e ∷ es) h
     kept_by_order e es rest h r Equal = known_again e v es h
@@ -93,10 +110,12 @@ module _ (numbers : List ℕ) where
     -- what has a place keeps one
     known_kept : (es : List (Vec ℕ × ℕ)) → place_in es numbers ≢ None → place_in (with_place es k v) numbers ≢ None
     known_kept [] h = absurd (h refl)
-    known_kept (e ∷ es) h = kept_by_order e es (with_place es k v) h (known_kept es) (slice_cmp nat_cmp k.items e.0.items)
+    known_kept (e ∷ es) h =
+        kept_by_order e es (with_place es k v) h (known_kept es) (slice_cmp nat_cmp k.items e.0.items)
 
 module _ (k : Vec ℕ) (v : ℕ) where
-  put_in_order : (e : Vec ℕ × ℕ) (es rest : List (Vec ℕ × ℕ)) → place_in rest k.items ≢ None → (o : Ordering) → slice_cmp nat_cmp k.items e.0.items ≡ o
+  put_in_order : (e : Vec ℕ × ℕ) (es rest : List (Vec ℕ × ℕ)) → place_in rest k.items ≢ None → (o : Ordering) →
+      slice_cmp nat_cmp k.items e.0.items ≡ o
       → place_in (match_ordering o ((k, v) ∷ e ∷ es) ((e.0, v) ∷ es) (e ∷ rest)) k.items ≢ None
   put_in_order e es rest r Less at = known_head k.items (k, v) (e ∷ es) (key_itself k.items)
   put_in_order e es rest r Equal at = known_head k.items (e.0, v) es (ap is_eq at)
@@ -111,7 +130,8 @@ module _ (f : ℕ → List ℕ) (n : ℕ) where
   pub none_placed : ArePlaced f 0 []
   none_placed = record { each = search rules; all = λ i l. absurd (omega arith) }
 
-  module _ (old new : List (Vec ℕ × ℕ)) (k : Vec ℕ) (place : ℕ) (a : ArePlaced f n old) (is : k.items ≡ f n) (gets : GetsPlace k n old new place) where
+  module _ (old new : List (Vec ℕ × ℕ)) (k : Vec ℕ) (place : ℕ) (a : ArePlaced f n old) (is : k.items ≡ f n)
+      (gets : GetsPlace k n old new place) where
     -- if the numbers have no place, none before n has them
     unknown_least : place_in old k.items ≡ None → (j : ℕ) → f j ≡ f n → n ≤ j
     unknown_least none j e = elim (cases_lt j n) [
@@ -137,7 +157,8 @@ module _ (f : ℕ → List ℕ) (n : ℕ) where
       | inr c ↦ subst (All (IsPlaced f (n + 1))) (sym c.2)
           (placed_inserted (IsPlaced f (n + 1)) (λ x y. slice_cmp nat_cmp x.items y.items) k n
           (omega arith, sym is, λ j e. unknown_least c.0 j (e ∙ is))
-          (λ j e. let same : k.items ≡ j.items = exact_bytes k.items j.items e in (omega arith, sym is ∙ same, λ i h. unknown_least c.0 i (h ∙ sym same ∙ is)))
+          (λ j e. let same : k.items ≡ j.items = exact_bytes k.items j.items e in
+          (omega arith, sym is ∙ same, λ i h. unknown_least c.0 i (h ∙ sym same ∙ is)))
           old each_still)
     ]
 
@@ -162,10 +183,13 @@ module _ (f : ℕ → List ℕ) (n : ℕ) where
       ];
     }
 
-    pub firsts_more : (firsts more : List ℕ) → AreFirstPlaces f n firsts → more ≡ firsts ++ place ∷ [] → AreFirstPlaces f (n + 1) more
+    pub firsts_more : (firsts more : List ℕ) → AreFirstPlaces f n firsts → more ≡ firsts ++ place ∷ [] →
+        AreFirstPlaces f (n + 1) more
     firsts_more firsts more b pushed =
-        let before : (i : ℕ) → i < n → get_or more i 0 ≡ get_or firsts i 0 = λ i l. ap (λ xs. get_or xs i 0) pushed ∙ get_or_append_left firsts (place ∷ []) 0 i (omega (arith, b.count)) in
-        let now : get_or more n 0 ≡ place = ap (λ xs. get_or xs n 0) pushed ∙ ap (λ i. get_or (firsts ++ place ∷ []) i 0) (sym b.count) ∙ get_or-append_seam firsts place [] 0 in
+        let before : (i : ℕ) → i < n → get_or more i 0 ≡ get_or firsts i 0 = λ i l. ap (λ xs. get_or xs i 0) pushed
+        ∙ get_or_append_left firsts (place ∷ []) 0 i (omega (arith, b.count)) in
+        let now : get_or more n 0 ≡ place = ap (λ xs. get_or xs n 0) pushed
+        ∙ ap (λ i. get_or (firsts ++ place ∷ []) i 0) (sym b.count) ∙ get_or-append_seam firsts place [] 0 in
         record {
           count = ap length pushed ∙ length-append firsts (place ∷ []) ∙ ap (λ m. m + 1) b.count;
           same = λ i l. elim (cases_eq i n) [

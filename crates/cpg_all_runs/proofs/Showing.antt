@@ -1,5 +1,6 @@
 -- Lists of scenarios that show what can be active.
-use Rattle.std.proofs.Common.{◌≡◌, ◌≢◌, ◌∙◌, ℕ, ◌+◌, ◌<◌, List, [], ◌∷◌, ◌++◌, length, length-append, get_or, Contains, arith, refl, sym, ap, subst, inl, inr}
+use Rattle.std.proofs.Common.{◌≡◌, ◌≢◌, ◌∙◌, ℕ, ◌+◌, ◌<◌, List, [], ◌∷◌, ◌++◌, length, length-append, get_or, Contains}
+use Rattle.std.proofs.Common.{arith, refl, sym, ap, subst, inl, inr}
 use Rattle.std.proofs.lemmas.Bool.{cases_eq}
 use Rattle.std.proofs.lemmas.List.{get_or_append_left, get_or_default}
 use Rattle.std.proofs.lemmas.List.Elements.{Contains-append_cases}
@@ -18,29 +19,47 @@ pub record AreFirstExamples (g : Graph) (n : ℕ) (scenarios list : List Scenari
 
 module _ (g : Graph) where
   same_itself : (s : Scenario) → HaveSameRuns g s s
-  same_itself s = record { onward = λ order frozen t topological run. run; back = λ order frozen t topological run. run }
+  same_itself s =
+      record { onward = λ order frozen t topological run. run; back = λ order frozen t topological run. run }
 
   same_through : (s r u : Scenario) → HaveSameRuns g s r → HaveSameRuns g r u → HaveSameRuns g s u
   same_through s r u h k = record {
-    onward = λ order frozen t topological run. k.onward order frozen t topological (h.onward order frozen t topological run);
+    onward =
+        λ order frozen t topological run. k.onward order frozen t topological (h.onward order frozen t topological run);
     back = λ order frozen t topological run. h.back order frozen t topological (k.back order frozen t topological run);
   }
 
   shown_longer : (list : List Scenario) (r s : Scenario) → IsShown g list s → IsShown g (list ++ r ∷ []) s
-  shown_longer list r s w = (w.0, omega (arith, w.1, length-append list (r ∷ [])), λ d. subst (λ z. HaveSameRuns g z s) (sym (get_or_append_left list (r ∷ []) d w.0 w.1)) (w.2 d))
+  shown_longer list r s w = (
+    w.0,
+    omega (arith, w.1, length-append list (r ∷ [])),
+    λ d. subst (λ z. HaveSameRuns g z s) (sym (get_or_append_left list (r ∷ []) d w.0 w.1)) (w.2 d),
+  )
 
   shown_itself : (list : List Scenario) (r : Scenario) → IsShown g (list ++ r ∷ []) r
-  shown_itself list r = (length list, omega (arith, length-append list (r ∷ [])), λ d. subst (λ z. HaveSameRuns g z r) (sym (get_or-append_seam list r [] d)) (same_itself r))
+  shown_itself list r = (
+    length list,
+    omega (arith, length-append list (r ∷ [])),
+    λ d. subst (λ z. HaveSameRuns g z r) (sym (get_or-append_seam list r [] d)) (same_itself r),
+  )
 
-  lawful_longer : (list : List Scenario) (r : Scenario) → IsScenario g r → ((s : Scenario) → Contains list s → IsScenario g s) → (s : Scenario) → Contains (list ++ r ∷ []) s → IsScenario g s
+  lawful_longer : (list : List Scenario) (r : Scenario) → IsScenario g r →
+      ((s : Scenario) → Contains list s → IsScenario g s) → (s : Scenario) → Contains (list ++ r ∷ []) s →
+      IsScenario g s
   lawful_longer list r is a s c = elim (Contains-append_cases list (r ∷ []) s c) [
     | inl o ↦ a s o
-    | inr n ↦ elim (Contains-cases r [] s n) [ inl same ↦ subst (IsScenario g) same is | inr none ↦ absurd (Contains-nil s none) ]
+    | inr n ↦ elim (Contains-cases r [] s n) [
+      | inl same ↦ subst (IsScenario g) same is
+      | inr none ↦ absurd (Contains-nil s none)
+    ]
   ]
 
-  module _ (n : ℕ) (scenarios list : List Scenario) (a : AreFirstExamples g n scenarios list) (within : n < length scenarios) where
+  module _ (n : ℕ) (scenarios list : List Scenario) (a : AreFirstExamples g n scenarios list)
+      (within : n < length scenarios) where
     -- a scenario more
-    pub examples_more : (more : List Scenario) (r : Scenario) → r ≡ scenario_at g scenarios n → IsScenario g r → more ≡ list ++ r ∷ [] → AreFirstExamples g (n + 1) scenarios more
+    pub examples_more : (more : List Scenario) (r : Scenario) → r ≡ scenario_at g scenarios n → IsScenario g r →
+        more ≡ list ++ r ∷ [] →
+        AreFirstExamples g (n + 1) scenarios more
     examples_more more r at is grown = record {
       lawful = λ s c. lawful_longer list r is a.lawful s (subst (λ l. Contains l s) grown c);
       shown = λ i k. subst (λ l. IsShown g l (scenario_at g scenarios i)) (sym grown) (elim (cases_eq i n) [
@@ -50,7 +69,8 @@ module _ (g : Graph) where
     }
 
     -- one before has its active numbers
-    pub examples_kept : (firsts : List ℕ) → AreFirstAlike g scenarios firsts → get_or firsts n 0 ≢ n → AreFirstExamples g (n + 1) scenarios list
+    pub examples_kept : (firsts : List ℕ) → AreFirstAlike g scenarios firsts → get_or firsts n 0 ≢ n →
+        AreFirstExamples g (n + 1) scenarios list
     examples_kept firsts alike other = record {
       lawful = a.lawful;
       shown = λ i k. elim (cases_eq i n) [
@@ -58,14 +78,21 @@ module _ (g : Graph) where
             let first = get_or firsts n 0 in
             let up = alike.places.least n n within refl in
             let w = a.shown first (omega arith) in
-            subst (λ j. IsShown g list (scenario_at g scenarios j)) (sym e)
-            (w.0, w.1, λ d. same_through (get_or list w.0 d) (scenario_at g scenarios first) (scenario_at g scenarios n) (w.2 d) (alike.runs n within))
+            subst (λ j. IsShown g list (scenario_at g scenarios j)) (sym e) (
+              w.0,
+              w.1,
+              λ d. same_through (get_or list w.0 d) (scenario_at g scenarios first) (scenario_at g scenarios n) (w.2 d)
+                  (alike.runs n within),
+            )
         | inr apart ↦ a.shown i (omega arith)
       ];
     }
 
-  pub examples_all : (n : ℕ) (scenarios list : List Scenario) → AreScenarios g scenarios → n ≡ length scenarios → AreFirstExamples g n scenarios list → AreExamples g list
+  pub examples_all : (n : ℕ) (scenarios list : List Scenario) → AreScenarios g scenarios → n ≡ length scenarios →
+      AreFirstExamples g n scenarios list →
+      AreExamples g list
   examples_all n scenarios list all e a = record {
     lawful = a.lawful;
-    all = λ s is. let c = all.all s is in subst (IsShown g list) (get_or_default scenarios c.0 (zero_scenario g) s c.1 ∙ c.2) (a.shown c.0 (omega (arith, c.1)));
+    all = λ s is. let c = all.all s is in subst (IsShown g list)
+        (get_or_default scenarios c.0 (zero_scenario g) s c.1 ∙ c.2) (a.shown c.0 (omega (arith, c.1)));
   }

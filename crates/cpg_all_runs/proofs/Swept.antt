@@ -1,5 +1,6 @@
 -- How all scenarios go along an order together.
-use Rattle.std.proofs.Common.{◌≡◌, ◌≢◌, ◌∙◌, ℕ, ◌+◌, ◌*◌, ◌<◌, ◌≤◌, List, [], ◌∷◌, ◌++◌, length, length-set, length-append, get_or, set, Option, None, arith, sym, ap, ap₂, inl, inr, subst}
+use Rattle.std.proofs.Common.{◌≡◌, ◌≢◌, ◌∙◌, ℕ, ◌+◌, ◌*◌, ◌<◌, ◌≤◌, List, [], ◌∷◌, ◌++◌, length, length-set}
+use Rattle.std.proofs.Common.{length-append, get_or, set, Option, None, arith, sym, ap, ap₂, inl, inr, subst}
 use Rattle.std.proofs.Common.{get_or-set_same, get_or-set_other}
 use Rattle.std.proofs.lemmas.Bool.{cases_eq, cases_lt}
 use Rattle.std.proofs.lemmas.List.{get_or_append_left}
@@ -15,54 +16,74 @@ use Rattle.cpg_all_runs.specs.Sweep.{AreAlong, place_of_item}
 -- nothing is known of n scenarios
 pub record AreBeginnings (g : Graph) (n : ℕ) (found : List ProgressState) : Type 0 where
   pub count : length found ≡ n
-  pub each : (order : List ℕ) (frozen : List (Option ℕ)) (s : Scenario) (j : ℕ) (p : ProgressState) → j < n → IsAlong g order frozen s 0 (get_or found j p)
+  pub each : (order : List ℕ) (frozen : List (Option ℕ)) (s : Scenario) (j : ℕ) (p : ProgressState) → j < n →
+      IsAlong g order frozen s 0 (get_or found j p)
 
-pub beginnings_more : (g : Graph) (n : ℕ) (found more : List ProgressState) (q : ProgressState) → AreBeginnings g n found →
+pub beginnings_more : (g : Graph) (n : ℕ) (found more : List ProgressState) (q : ProgressState) →
+    AreBeginnings g n found →
     ((order : List ℕ) (frozen : List (Option ℕ)) (s : Scenario) → IsAlong g order frozen s 0 q)
     → more ≡ found ++ q ∷ [] → AreBeginnings g (n + 1) more
 beginnings_more g n found more q a new is = record {
   count = ap length is ∙ length-append found (q ∷ []) ∙ ap (λ m. m + 1) a.count;
   each = λ order frozen s j p l. elim (cases_lt j n) [
-    | inl h ↦ subst (IsAlong g order frozen s 0) (sym (ap (λ ps. get_or ps j p) is ∙ get_or_append_left found (q ∷ []) p j (omega (arith, a.count)))) (a.each order frozen s j p h)
+    | inl h ↦ subst (IsAlong g order frozen s 0)
+        (sym (ap (λ ps. get_or ps j p) is ∙ get_or_append_left found (q ∷ []) p j (omega (arith, a.count))))
+        (a.each order frozen s j p h)
     | inr h ↦ let at : j ≡ length found = omega (arith, a.count) in
-        subst (IsAlong g order frozen s 0) (sym (ap₂ (λ ps k. get_or ps k p) is at ∙ get_or-append_seam found q [] p)) (new order frozen s)
+        subst (IsAlong g order frozen s 0) (sym (ap₂ (λ ps k. get_or ps k p) is at ∙ get_or-append_seam found q [] p))
+        (new order frozen s)
   ];
 }
 
 -- the first n have gone on over the place i
-pub record AreStepped (g : Graph) (order : List ℕ) (frozen : List (Option ℕ)) (i n : ℕ) (list : List Scenario) (found : List ProgressState) : Type 0 where
+pub record AreStepped (g : Graph) (order : List ℕ) (frozen : List (Option ℕ)) (i n : ℕ) (list : List Scenario)
+    (found : List ProgressState) : Type 0 where
   pub count : length found ≡ length list
-  pub stepped : (j : ℕ) (s : Scenario) (p : ProgressState) → j < n → j < length list → IsAlong g order frozen (get_or list j s) (i + 1) (get_or found j p)
-  pub others : (j : ℕ) (s : Scenario) (p : ProgressState) → n ≤ j → j < length list → IsAlong g order frozen (get_or list j s) i (get_or found j p)
+  pub stepped : (j : ℕ) (s : Scenario) (p : ProgressState) → j < n → j < length list →
+      IsAlong g order frozen (get_or list j s) (i + 1) (get_or found j p)
+  pub others : (j : ℕ) (s : Scenario) (p : ProgressState) → n ≤ j → j < length list →
+      IsAlong g order frozen (get_or list j s) i (get_or found j p)
 
 module _ (g : Graph) (order : List ℕ) (frozen : List (Option ℕ)) (i : ℕ) (list : List Scenario) where
-  pub stepped_more : (n : ℕ) (found more : List ProgressState) (q : ProgressState) → AreStepped g order frozen i n list found → n < length list
-      → ((s : Scenario) → IsAlong g order frozen (get_or list n s) (i + 1) q) → more ≡ set found n q → AreStepped g order frozen i (n + 1) list more
+  pub stepped_more : (n : ℕ) (found more : List ProgressState) (q : ProgressState) →
+      AreStepped g order frozen i n list found → n < length list
+      → ((s : Scenario) → IsAlong g order frozen (get_or list n s) (i + 1) q) → more ≡ set found n q →
+      AreStepped g order frozen i (n + 1) list more
   stepped_more n found more q a l new is = record {
     count = ap length is ∙ length-set found n q ∙ a.count;
     stepped = λ j s p h k. elim (cases_eq j n) [
       | inl e ↦ subst (λ m. IsAlong g order frozen (get_or list m s) (i + 1) (get_or more m p)) (sym e)
-          (subst (IsAlong g order frozen (get_or list n s) (i + 1)) (sym (ap (λ ps. get_or ps n p) is ∙ get_or-set_same found n q p (omega (arith, a.count)))) (new s))
-      | inr other ↦ subst (IsAlong g order frozen (get_or list j s) (i + 1)) (sym (ap (λ ps. get_or ps j p) is ∙ get_or-set_other found n j q p other)) (a.stepped j s p (omega arith) k)
+          (subst (IsAlong g order frozen (get_or list n s) (i + 1))
+          (sym (ap (λ ps. get_or ps n p) is ∙ get_or-set_same found n q p (omega (arith, a.count)))) (new s))
+      | inr other ↦ subst (IsAlong g order frozen (get_or list j s) (i + 1))
+          (sym (ap (λ ps. get_or ps j p) is ∙ get_or-set_other found n j q p other)) (a.stepped j s p (omega arith) k)
     ];
-    others = λ j s p h k. subst (IsAlong g order frozen (get_or list j s) i) (sym (ap (λ ps. get_or ps j p) is ∙ get_or-set_other found n j q p (λ e. omega arith))) (a.others j s p (omega arith) k);
+    others = λ j s p h k. subst (IsAlong g order frozen (get_or list j s) i) (sym (ap (λ ps. get_or ps j p) is
+        ∙ get_or-set_other found n j q p (λ e. omega arith))) (a.others j s p (omega arith) k);
   }
 
-  pub stepped_all : (n : ℕ) (found : List ProgressState) → AreStepped g order frozen i n list found → n ≡ length list → AreAlong g order frozen (i + 1) list found
+  pub stepped_all : (n : ℕ) (found : List ProgressState) → AreStepped g order frozen i n list found → n ≡ length list →
+      AreAlong g order frozen (i + 1) list found
   stepped_all n found a e = record { count = a.count; each = λ j s p l. a.stepped j s p (omega arith) l }
 
   -- what is found before a place stays so if an item of the place, or of a later one, gets a frozen time
-  pub along_kept : IsTopological g order → (more : List (Option ℕ)) (x : ℕ) (found : List ProgressState) → place_of_item g order x ≡ i → ((y : ℕ) → y ≢ x → get_or more y None ≡ get_or frozen y None)
+  pub along_kept : IsTopological g order → (more : List (Option ℕ)) (x : ℕ) (found : List ProgressState) →
+      place_of_item g order x ≡ i →
+      ((y : ℕ) → y ≢ x → get_or more y None ≡ get_or frozen y None)
       → AreAlong g order frozen i list found → AreAlong g order more i list found
   along_kept topological more x found at same a = record {
     count = a.count;
-    each = λ j s p l. along_same g order topological frozen more (get_or list j s) i (get_or found j p) (λ y h k. sym (same y (λ e. omega (arith, ap (place_of_item g order) e, at)))) (a.each j s p l);
+    each = λ j s p l. along_same g order topological frozen more (get_or list j s) i (get_or found j p)
+        (λ y h k. sym (same y (λ e. omega (arith, ap (place_of_item g order) e, at)))) (a.each j s p l);
   }
 
 -- over plain numbers
 no_earlier_place : (a b f h m : ℕ) → a * m + f < b * m + h → h < m → a ≤ b
-no_earlier_place a b f h m l k = elim (cases_lt b a) [ inl less ↦ absurd (let r = sooner b a h m less k in omega arith) | inr more ↦ more ]
+no_earlier_place a b f h m l k =
+    elim (cases_lt b a) [ inl less ↦ absurd (let r = sooner b a h m less k in omega arith) | inr more ↦ more ]
 
 -- what has a later moment has no earlier place
-pub later_place : (g : Graph) (order : List ℕ) (x y : ℕ) → y < item_count g → moment g order x < moment g order y → place_of_item g order x ≤ place_of_item g order y
-later_place g order x y h l = no_earlier_place (place_of_item g order x) (place_of_item g order y) (phase (item_at g x)) (phase (item_at g y)) (phases g) l (phase_below g y h)
+pub later_place : (g : Graph) (order : List ℕ) (x y : ℕ) → y < item_count g → moment g order x < moment g order y →
+    place_of_item g order x ≤ place_of_item g order y
+later_place g order x y h l = no_earlier_place (place_of_item g order x) (place_of_item g order y) (phase (item_at g x))
+    (phase (item_at g y)) (phases g) l (phase_below g y h)

@@ -17,12 +17,17 @@ active_value g s c = if active g s.values (process_of g c) then number_of_value 
 
 -- such a number for each process, and then for each condition: 0 if it isn't active
 abbrev pub active_numbers : Graph → Scenario → List ℕ
-active_numbers g s = map (active_fault g s) (numbers_below (process_count g)) ++ map (active_value g s) (numbers_below (condition_count g))
+active_numbers g s = map (active_fault g s) (numbers_below (process_count g))
+    ++ map (active_value g s) (numbers_below (condition_count g))
 
 -- two scenarios have the same runs, under every topological order and all frozen times
 pub record HaveSameRuns (g : Graph) (s u : Scenario) : Type 0 where
-  pub onward : (order : List ℕ) (frozen : List (Option ℕ)) (t : Times) → IsTopological g order → IsRun g order frozen s t → IsRun g order frozen u t
-  pub back : (order : List ℕ) (frozen : List (Option ℕ)) (t : Times) → IsTopological g order → IsRun g order frozen u t → IsRun g order frozen s t
+  pub onward : (order : List ℕ) (frozen : List (Option ℕ)) (t : Times) → IsTopological g order →
+      IsRun g order frozen s t →
+      IsRun g order frozen u t
+  pub back : (order : List ℕ) (frozen : List (Option ℕ)) (t : Times) → IsTopological g order →
+      IsRun g order frozen u t →
+      IsRun g order frozen s t
 
 -- one of the list has the runs of the scenario
 abbrev pub IsShown : Graph → List Scenario → Scenario → Type 0

@@ -1,5 +1,6 @@
 -- All scenarios of a graph as a list.
-use Rattle.std.specs.Prelude.{ℕ, zero, suc, ◌+◌, ◌-◌, ◌≢◌, ◌<◌, true, List, [], ◌∷◌, map, length, sum, slice_set, Contains}
+use Rattle.std.specs.Prelude.{ℕ, zero, suc, ◌+◌, ◌-◌, ◌≢◌, ◌<◌, true, List, [], ◌∷◌, map, length, sum, slice_set}
+use Rattle.std.specs.Prelude.{Contains}
 use Rattle.std.specs.List.{flat_map, AllPairs}
 use Rattle.cpg_base.specs.Numbers.{numbers_below}
 use Rattle.cpg_base.specs.Graph.{Graph, process_count}

@@ -8,10 +8,12 @@ use Rattle.cpg_run.specs.Finish.{excess_of, IsWorst, IsExcess}
 use Rattle.cpg_all_runs.specs.Runs.{AreRuns}
 
 -- the number at a place is the greatest of the first n, and none that is as great has a scenario before its own
-pub record IsFirstGreatest (g : Graph) (urgency : List ℕ) (n : ℕ) (list : List Scenario) (numbers : List ℕ) (at : ℕ) : Type 0 where
+pub record IsFirstGreatest (g : Graph) (urgency : List ℕ) (n : ℕ) (list : List Scenario) (numbers : List ℕ)
+    (at : ℕ) : Type 0 where
   pub there : at < n
   pub most : (i : ℕ) → i < n → get_or numbers i 0 ≤ get_or numbers at 0
-  pub first : (i : ℕ) (d : Scenario) → i < n → get_or numbers i 0 ≡ get_or numbers at 0 → is_before g urgency (get_or list i d) (get_or list at d) ≡ false
+  pub first : (i : ℕ) (d : Scenario) → i < n → get_or numbers i 0 ≡ get_or numbers at 0 →
+      is_before g urgency (get_or list i d) (get_or list at d) ≡ false
 
 -- the process ends at the time, and none before it does
 pub record IsFirstEnding (t : Times) (time p : ℕ) : Type 0 where
@@ -25,12 +27,14 @@ pub record IsFirstExceeding (g : Graph) (t : Times) (excess p : ℕ) : Type 0 wh
 
 -- the greatest finish, under any order and frozen times that give the scenarios these runs
 abbrev pub IsWorstOfRuns : Graph → List ℕ → List Scenario → List Times → ℕ → Scenario → Option ℕ → Type 0
-IsWorstOfRuns g urgency list runs worst worst_in worst_by = (order : List ℕ) (frozen : List (Option ℕ)) → IsTopological g order →
+IsWorstOfRuns g urgency list runs worst worst_in worst_by =
+    (order : List ℕ) (frozen : List (Option ℕ)) → IsTopological g order →
     AreRuns g order frozen list runs
     → IsWorst g urgency order frozen worst worst_in worst_by
 
 -- the greatest excess, under any order and frozen times that give the scenarios these runs
 abbrev pub IsExcessOfRuns : Graph → List ℕ → List Scenario → List Times → ℕ → Scenario → Option ℕ → Type 0
-IsExcessOfRuns g urgency list runs excess excess_in excess_by = (order : List ℕ) (frozen : List (Option ℕ)) → IsTopological g order →
+IsExcessOfRuns g urgency list runs excess excess_in excess_by =
+    (order : List ℕ) (frozen : List (Option ℕ)) → IsTopological g order →
     AreRuns g order frozen list runs
     → IsExcess g urgency order frozen excess excess_in excess_by

@@ -6,9 +6,11 @@ use Rattle.cpg_base.specs.Order.{place}
 use Rattle.cpg_run.specs.Progress.{ProgressState, IsAlong}
 
 -- for each scenario of a list what is found of its run before the place i
-pub record AreAlong (g : Graph) (order : List ℕ) (frozen : List (Option ℕ)) (i : ℕ) (list : List Scenario) (found : List ProgressState) : Type 0 where
+pub record AreAlong (g : Graph) (order : List ℕ) (frozen : List (Option ℕ)) (i : ℕ) (list : List Scenario)
+    (found : List ProgressState) : Type 0 where
   pub count : length found ≡ length list
-  pub each : (j : ℕ) (s : Scenario) (p : ProgressState) → j < length list → IsAlong g order frozen (get_or list j s) i (get_or found j p)
+  pub each : (j : ℕ) (s : Scenario) (p : ProgressState) → j < length list →
+      IsAlong g order frozen (get_or list j s) i (get_or found j p)
 
 -- the place of the process that an item comes from
 abbrev pub place_of_item : Graph → List ℕ → ℕ → ℕ

@@ -37,18 +37,25 @@ is_open t name f is =
     subst (λ h. f ≡ open_follower h f.table) (sym head) (subst (λ n. f ≡ open_follower t.head n) (sym table) is.opened)
 
 -- its stream may be fetched
-pub may_follow : (may : Text → Type 0) (c : Command) (vs : List Value) (f : Follower) (path : Text) → IsLive c vs f path → All may (file_words c) → may path
-may_follow may c vs f path live files = (subst (λ (k : Command). All may (file_words k)) live.command files) 1 path (omega arith)
+pub may_follow : (may : Text → Type 0) (c : Command) (vs : List Value) (f : Follower) (path : Text) →
+    IsLive c vs f path → All may (file_words c) → may path
+may_follow may c vs f path live files =
+    (subst (λ (k : Command). All may (file_words k)) live.command files) 1 path (omega arith)
 
 -- the run of a node that followed a stream
-module _ (r : Ran) (c : Command) (vs : List Value) (f : Follower) (path : Text) (mid : List Fetch) (words : command_of r.words ≡ Some c) (reads : Reads None (files_of c) r.shelf.old.history mid vs)
+module _ (r : Ran) (c : Command) (vs : List Value) (f : Follower) (path : Text) (mid : List Fetch)
+    (words : command_of r.words ≡ Some c) (reads : Reads None (files_of c) r.shelf.old.history mid vs)
     (live : IsLive c vs f path) where
-  one : (ws : List Value) → ws ≡ tables_value live.tables ∷ [] → Reads None (file PackFile live.pack ∷ []) r.shelf.old.history mid ws → (read : Fetch) ×
+  one : (ws : List Value) → ws ≡ tables_value live.tables ∷ [] →
+      Reads None (file PackFile live.pack ∷ []) r.shelf.old.history mid ws →
+      (read : Fetch) ×
       IsRead None (file PackFile live.pack) read (tables_value live.tables) × (mid ≡ read ∷ r.shelf.old.history)
   one ws is reads = subst (Reads None (file PackFile live.pack ∷ []) r.shelf.old.history mid) is reads
 
-  pack_read : (read : Fetch) × IsRead None (file PackFile live.pack) read (tables_value live.tables) × (mid ≡ read ∷ r.shelf.old.history)
-  pack_read = one vs live.said (subst (λ (k : Command). Reads None (files_of k) r.shelf.old.history mid vs) live.command reads)
+  pack_read : (read : Fetch) × IsRead None (file PackFile live.pack) read (tables_value live.tables) ×
+      (mid ≡ read ∷ r.shelf.old.history)
+  pack_read =
+      one vs live.said (subst (λ (k : Command). Reads None (files_of k) r.shelf.old.history mid vs) live.command reads)
 
   module _ (at : IsFollowedAt f.head f.table path mid r.shelf.new.history r.out r.err r.status) where
     abbrev follows : Follows r
@@ -73,12 +80,16 @@ module _ (r : Ran) (c : Command) (vs : List Value) (f : Follower) (path : Text) 
     table_is : f.table ≡ table_at live.tables.nodes live.follower.node
     table_is = ap (λ (g : Follower). g.table) live.follower.opened
 
-    told : IsToldTo live.tables.head (table_at live.tables.nodes live.follower.node) (streamed at.fetch r.out) r.err r.status
-    told = subst (λ h. IsToldTo h (table_at live.tables.nodes live.follower.node) (streamed at.fetch r.out) r.err r.status) head_is
+    told : IsToldTo live.tables.head (table_at live.tables.nodes live.follower.node)
+        (streamed at.fetch r.out) r.err r.status
+    told =
+        subst (λ h. IsToldTo h (table_at live.tables.nodes live.follower.node) (streamed at.fetch r.out) r.err r.status)
+        head_is
         (subst (λ n. IsToldTo f.head n (streamed at.fetch r.out) r.err r.status) table_is at.ends)
 
     pub followed_lawful : IsLawful r
     followed_lawful = elim told [
       | inl all ↦ lawful_closed r (record { follows = follows; completes = all.0; status = all.1; err = all.2 })
-      | inr broken ↦ lawful_stream r (record { follows = follows; broken = broken.0; breaks = broken.1; said = broken.2 })
+      | inr broken ↦
+          lawful_stream r (record { follows = follows; broken = broken.0; breaks = broken.1; said = broken.2 })
     ]

@@ -25,31 +25,44 @@ use Rattle.cpg_app.specs.Endings.{Ran, Has, Prints, Stops}
 
 -- ---- by what was read
 
-pub on_graph : (a : Admission) (values : List Value) (F : Admission → Type 0) → AllAlike (graph_value a ∷ []) values → OnGraph values F → (b : Admission) × AreAlike a b × F b
+pub on_graph : (a : Admission) (values : List Value) (F : Admission → Type 0) → AllAlike (graph_value a ∷ []) values →
+    OnGraph values F →
+    (b : Admission) × AreAlike a b × F b
 on_graph a values F alike (b, is, fact) =
-    let k : AllAlike (graph_value a ∷ []) (graph_value b ∷ []) = subst (AllAlike (graph_value a ∷ [])) is alike in (b, k.0, fact)
+    let k : AllAlike (graph_value a ∷ []) (graph_value b ∷ []) = subst (AllAlike (graph_value a ∷ [])) is alike in
+    (b, k.0, fact)
 
-pub on_tables : (t : Tables) (values : List Value) (F : Tables → Type 0) → AllAlike (tables_value t ∷ []) values → OnTables values F → F t
+pub on_tables : (t : Tables) (values : List Value) (F : Tables → Type 0) → AllAlike (tables_value t ∷ []) values →
+    OnTables values F → F t
 on_tables t values F alike (u, is, fact) =
-    let k : AllAlike (tables_value t ∷ []) (tables_value u ∷ []) = subst (AllAlike (tables_value t ∷ [])) is alike in subst F k.0 fact
+    let k : AllAlike (tables_value t ∷ []) (tables_value u ∷ []) = subst (AllAlike (tables_value t ∷ [])) is alike in
+    subst F k.0 fact
 
-pub on_judged : (a : Admission) (t : Tables) (values : List Value) (F : Admission → Tables → Type 0) → AllAlike (graph_value a ∷ tables_value t ∷ []) values → OnJudged values F → (b : Admission) ×
+pub on_judged : (a : Admission) (t : Tables) (values : List Value) (F : Admission → Tables → Type 0) →
+    AllAlike (graph_value a ∷ tables_value t ∷ []) values → OnJudged values F →
+    (b : Admission) ×
     AreAlike a b × F b t
 on_judged a t values F alike (b, u, is, fact) =
-    let k : AllAlike (graph_value a ∷ tables_value t ∷ []) (graph_value b ∷ tables_value u ∷ []) = subst (AllAlike (graph_value a ∷ tables_value t ∷ [])) is alike in
+    let k : AllAlike (graph_value a ∷ tables_value t ∷ []) (graph_value b ∷ tables_value u ∷ []) =
+    subst (AllAlike (graph_value a ∷ tables_value t ∷ [])) is alike in
     (b, k.0, subst (F b) k.1.0 fact)
 
-pub on_played : (a : Admission) (t : Tables) (p : Played) (values : List Value) (F : Admission → Tables → Played → Type 0) → AllAlike (graph_value a ∷ tables_value t ∷ played_value p ∷ []) values →
+pub on_played : (a : Admission) (t : Tables) (p : Played) (values : List Value)
+    (F : Admission → Tables → Played → Type 0) →
+    AllAlike (graph_value a ∷ tables_value t ∷ played_value p ∷ []) values →
     OnPlayed values F → (b : Admission) × AreAlike a b × F b t p
 on_played a t p values F alike (b, u, q, is, fact) =
-    let k : AllAlike (graph_value a ∷ tables_value t ∷ played_value p ∷ []) (graph_value b ∷ tables_value u ∷ played_value q ∷ []) =
+    let k : AllAlike (graph_value a ∷ tables_value t ∷ played_value p ∷ [])
+    (graph_value b ∷ tables_value u ∷ played_value q ∷ []) =
     subst (AllAlike (graph_value a ∷ tables_value t ∷ played_value p ∷ [])) is alike in
     (b, k.0, subst (F b t) k.1.1.0 (subst (λ v. F b v q) k.1.0 fact))
 
-pub on_logged : (a : Admission) (t : Tables) (l : Log) (values : List Value) (F : Admission → Tables → Log → Type 0) → AllAlike (graph_value a ∷ tables_value t ∷ log_value l ∷ []) values →
+pub on_logged : (a : Admission) (t : Tables) (l : Log) (values : List Value) (F : Admission → Tables → Log → Type 0) →
+    AllAlike (graph_value a ∷ tables_value t ∷ log_value l ∷ []) values →
     OnLogged values F → (b : Admission) × AreAlike a b × ((m : Log) × F b t m)
 on_logged a t l values F alike (b, u, m, is, fact) =
-    let k : AllAlike (graph_value a ∷ tables_value t ∷ log_value l ∷ []) (graph_value b ∷ tables_value u ∷ log_value m ∷ []) =
+    let k : AllAlike (graph_value a ∷ tables_value t ∷ log_value l ∷ [])
+    (graph_value b ∷ tables_value u ∷ log_value m ∷ []) =
     subst (AllAlike (graph_value a ∷ tables_value t ∷ log_value l ∷ [])) is alike in
     (b, k.0, (m, subst (λ v. F b v m) k.1.0 fact))
 
@@ -59,16 +72,20 @@ part_of period problem = record { period = period; problem = problem }
 same_part : (p q : Part) → p.period ≡ q.period → p.problem ≡ q.problem → p ≡ q
 same_part p q e k = ap₂ part_of e k
 
-same_parts : (pairs : List Pair) (parts others : List Part) → AllAlike (part_values parts) (part_values others) → HavePeriods pairs parts → HavePeriods pairs others → others ≡ parts
+same_parts : (pairs : List Pair) (parts others : List Part) → AllAlike (part_values parts) (part_values others) →
+    HavePeriods pairs parts → HavePeriods pairs others → others ≡ parts
 same_parts [] [] [] alike x y = refl
 same_parts [] [] (q ∷ others) alike x y = absurd y
 same_parts [] (p ∷ parts) others alike x y = absurd x
 same_parts (pair ∷ pairs) [] others alike x y = absurd x
 same_parts (pair ∷ pairs) (p ∷ parts) [] alike x y = absurd y
-same_parts (pair ∷ pairs) (p ∷ parts) (q ∷ others) alike x y = ap₂ (λ d ds. d ∷ ds) (same_part q p (y.0 ∙ sym x.0) alike.0) (same_parts pairs parts others alike.1 x.1 y.1)
+same_parts (pair ∷ pairs) (p ∷ parts) (q ∷ others) alike x y =
+    ap₂ (λ d ds. d ∷ ds) (same_part q p (y.0 ∙ sym x.0) alike.0) (same_parts pairs parts others alike.1 x.1 y.1)
 
-pub on_parts : (pairs : List Pair) (parts : List Part) (values : List Value) (F : List Part → Type 0) → AllAlike (part_values parts) values → HavePeriods pairs parts → OnParts pairs values F → F parts
-on_parts pairs parts values F alike periods (others, is, also, fact) = subst F (same_parts pairs parts others (subst (AllAlike (part_values parts)) is alike) periods also) fact
+pub on_parts : (pairs : List Pair) (parts : List Part) (values : List Value) (F : List Part → Type 0) →
+    AllAlike (part_values parts) values → HavePeriods pairs parts → OnParts pairs values F → F parts
+on_parts pairs parts values F alike periods (others, is, also, fact) =
+    subst F (same_parts pairs parts others (subst (AllAlike (part_values parts)) is alike) periods also) fact
 
 -- ---- of a run
 
@@ -78,18 +95,30 @@ module _ (r : Ran) (c : Command) (vs : List Value) (has : Has r c vs) where
 
   alike : (d : Command) (ws : List Value) → Has r d ws → AllAlike vs ws
   alike d ws also = reads_alike None (files_of c) r.shelf.old.history r.shelf.new.history vs ws has.reads
-      (subst (λ (k : Command). Reads None (files_of k) r.shelf.old.history r.shelf.new.history ws) (same_command d also.words) also.reads)
+      (subst (λ (k : Command). Reads None (files_of k) r.shelf.old.history r.shelf.new.history ws)
+      (same_command d also.words) also.reads)
 
   -- what it puts out is what was asked for
   pub printed : (text : Text) → Prints r text → (ws : List Value) × AllAlike vs ws × PutsOut c ws text
-  printed text p = (p.values, alike p.command p.values p.has, subst (λ (k : Command). PutsOut k p.values text) (same_command p.command p.has.words) p.puts)
+  printed text p = (
+    p.values,
+    alike p.command p.values p.has,
+    subst (λ (k : Command). PutsOut k p.values text) (same_command p.command p.has.words) p.puts,
+  )
 
   -- if it stops, memory runs out, or its work stops
   pub stopped_by : (h : Halt) → Stops r h → (h ≡ Memory) ⊎ ((ws : List Value) × AllAlike vs ws × StopsWork c ws h)
-  stopped_by h (inl words) = elim words.cause [ inl formless ↦ absurd (none-some c (sym formless.1 ∙ has.words)) | inr memory ↦ inl memory ]
-  stopped_by h (inr (inl files)) = inl (stops_memory None (files_of c) r.shelf.old.history r.shelf.new.history vs h has.reads
-      (subst (λ (k : Command). StopsReading None (files_of k) r.shelf.old.history r.shelf.new.history h) (same_command files.command files.words) files.stops))
+  stopped_by h (inl words) =
+      elim words.cause [ inl formless ↦ absurd (none-some c (sym formless.1 ∙ has.words)) | inr memory ↦ inl memory ]
+  stopped_by h (inr (inl files)) =
+      inl (stops_memory None (files_of c) r.shelf.old.history r.shelf.new.history vs h has.reads
+      (subst (λ (k : Command). StopsReading None (files_of k) r.shelf.old.history r.shelf.new.history h)
+      (same_command files.command files.words) files.stops))
   stopped_by h (inr (inr work)) = elim work.stops [
-    | inl stops ↦ inr (work.values, alike work.command work.values work.has, subst (λ (k : Command). StopsWork k work.values h) (same_command work.command work.has.words) stops)
+    | inl stops ↦ inr (
+      work.values,
+      alike work.command work.values work.has,
+      subst (λ (k : Command). StopsWork k work.values h) (same_command work.command work.has.words) stops,
+    )
     | inr memory ↦ inl memory
   ]

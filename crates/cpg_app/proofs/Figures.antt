@@ -37,23 +37,30 @@ use Rattle.cpg_app.specs.Trial.{AreFiguresOf, IsEnding, IsGenerated, IsTrial, pl
 use Rattle.cpg_app.proofs.Finishes.{finish_is}
 
 -- its rules are kept
-pub admission_fault : (number : ℕ) (g : Graph) (fault : RuleFault) → g ≡ generated number → ShowsFault g fault → fault ≡ RuleFault.OutOfMemory
+pub admission_fault : (number : ℕ) (g : Graph) (fault : RuleFault) → g ≡ generated number → ShowsFault g fault →
+    fault ≡ RuleFault.OutOfMemory
 admission_fault number g fault same shows = no_fault number fault (subst (λ x. ShowsFault x fault) same shows)
 
 -- the tables of a generated graph are made: no fault is shown but that memory runs out
-pub compile_fault : (g : Graph) (urgency : List ℕ) (fault : CompileFault) → IsGenerated g → IsTopological g urgency → ShowsCompileFault g urgency fault → fault ≡ CompileFault.OutOfMemory
-compile_fault g urgency (CompileFault.TooWide x) made topological shows = absurd (narrow made.0 urgency x (subst (λ g. IsWide g (first_order g urgency) x) made.1 shows.0.wide))
+pub compile_fault : (g : Graph) (urgency : List ℕ) (fault : CompileFault) → IsGenerated g → IsTopological g urgency →
+    ShowsCompileFault g urgency fault →
+    fault ≡ CompileFault.OutOfMemory
+compile_fault g urgency (CompileFault.TooWide x) made topological shows =
+    absurd (narrow made.0 urgency x (subst (λ g. IsWide g (first_order g urgency) x) made.1 shows.0.wide))
 compile_fault g urgency (CompileFault.Late s p time) made topological shows =
-    let late : IsLateUnder (generated made.0) urgency urgency = subst (λ g. IsLateUnder g urgency (first_order g urgency)) made.1 shows.0.late in
+    let late : IsLateUnder (generated made.0) urgency urgency =
+    subst (λ g. IsLateUnder g urgency (first_order g urgency)) made.1 shows.0.late in
     let measured = late.2 in
-    let none = in_time made.0 urgency (subst (λ g. IsTopological g urgency) made.1 topological) measured.frozen measured.frozen_times urgency late.0 measured.excess_in measured.excess_by
+    let none = in_time made.0 urgency (subst (λ g. IsTopological g urgency) made.1 topological) measured.frozen
+    measured.frozen_times urgency late.0 measured.excess_in measured.excess_by
     measured.is_excess in
     let some = late.3 in
     absurd (omega (arith, none, some))
 compile_fault g urgency CompileFault.OutOfMemory made topological shows = refl
 
 -- they have the graph's head and are valid
-pub compiled_valid : (g : Graph) (urgency : List ℕ) (c : Compiled) → IsCompilation g urgency c → IsHeadFor g c.built.tables.head × IsValid g c.built.tables.nodes
+pub compiled_valid : (g : Graph) (urgency : List ℕ) (c : Compiled) → IsCompilation g urgency c →
+    IsHeadFor g c.built.tables.head × IsValid g c.built.tables.nodes
 compiled_valid g urgency c is = (subst (IsHeadFor g) (sym is.built.head) (own_head g), is.valid)
 
 -- which is what the check says yes to
@@ -62,16 +69,25 @@ is_yes Verdict.Yes = true
 is_yes (Verdict.Other part) = false
 is_yes (Verdict.No fault) = false
 
-pub verdict_is : (g : Graph) (urgency : List ℕ) (t : Tables) (v : Verdict) → AreTablesOf t.head t.nodes → ShowsVerdict g urgency t v → IsTrue (is_yes v) ↔ (IsHeadFor g t.head × IsValid g t.nodes)
+pub verdict_is : (g : Graph) (urgency : List ℕ) (t : Tables) (v : Verdict) → AreTablesOf t.head t.nodes →
+    ShowsVerdict g urgency t v →
+    IsTrue (is_yes v) ↔ (IsHeadFor g t.head × IsValid g t.nodes)
 verdict_is g urgency t Verdict.Yes lawful shows = (λ on. shows, λ both. refl)
-verdict_is g urgency t (Verdict.Other part) lawful shows = (λ on. absurd (false≢true on), λ both. absurd (other_head g t.head part shows both.0))
-verdict_is g urgency t (Verdict.No fault) lawful shows =
-    (λ on. absurd (false≢true on), λ both. absurd (faulty_tables g t.nodes urgency fault (lawful.count ∙ ap (λ nodes. length nodes) both.0.nodes) shows.1 both.1))
+verdict_is g urgency t (Verdict.Other part) lawful shows =
+    (λ on. absurd (false≢true on), λ both. absurd (other_head g t.head part shows both.0))
+verdict_is g urgency t (Verdict.No fault) lawful shows = (
+  λ on. absurd (false≢true on),
+  λ both. absurd
+      (faulty_tables g t.nodes urgency fault (lawful.count ∙ ap (λ nodes. length nodes) both.0.nodes) shows.1 both.1),
+)
 
 -- a play from the opening that a number drives
-pub ending_is : (g : Graph) (tables : List NodeTable) (s : Scenario) (number : ℕ) (old new : Playing) (waits finish : ℕ) → old ≡ opened g tables (planned_world g s) →
+pub ending_is : (g : Graph) (tables : List NodeTable) (s : Scenario) (number : ℕ) (old new : Playing)
+    (waits finish : ℕ) →
+    old ≡ opened g tables (planned_world g s) →
     IsDriven old.graph old.world number old.cluster new.cluster waits →
-    IsWholePlay old.graph old.tables old.world new.cluster → finish ≡ finish_of g new.cluster.ends → IsEnding g tables s number (record { finish = finish; waits = waits })
+    IsWholePlay old.graph old.tables old.world new.cluster → finish ≡ finish_of g new.cluster.ends →
+    IsEnding g tables s number (record { finish = finish; waits = waits })
 ending_is g tables s number old new waits finish is driven whole e = record {
   cluster = new.cluster;
   driven = subst (λ (p : Playing). IsDriven p.graph p.world number p.cluster new.cluster waits) is driven;
@@ -80,15 +96,19 @@ ending_is g tables s number old new waits finish is driven whole e = record {
 }
 
 -- the play of the worst case ends at the greatest finish
-pub reaches_worst : (g : Graph) → WellFormed g → (urgency : List ℕ) (c : Compiled) → IsCompilation g urgency c → (number : ℕ) (e : Ending) →
+pub reaches_worst : (g : Graph) → WellFormed g → (urgency : List ℕ) (c : Compiled) → IsCompilation g urgency c →
+    (number : ℕ) (e : Ending) →
     IsEnding g c.built.tables.nodes c.built.worst_in number e → e.finish ≡ c.built.worst
 reaches_worst g formed urgency c is number e ending =
     let worst = is.built.worst.least in
     let run = worst.holds in
-    ending.finish ∙ finish_is g formed c.built.tables.nodes c.order c.built.frozen is.built.exact.times (planned_world g c.built.worst_in) worst.lawful run.0 run.1 ending.cluster ending.whole ∙ run.2
+    ending.finish ∙ finish_is g formed c.built.tables.nodes c.order c.built.frozen is.built.exact.times
+    (planned_world g c.built.worst_in) worst.lawful run.0 run.1 ending.cluster ending.whole ∙ run.2
 
 -- what follows from the figures
-pub trial_is : (number : ℕ) (a : Admission) (c : Compiled) → a.graph ≡ generated number → IsAdmitted a.graph a.order a.guards → IsCompilation a.graph a.order c → (r : Result Trial OutOfMemory) →
+pub trial_is : (number : ℕ) (a : Admission) (c : Compiled) → a.graph ≡ generated number →
+    IsAdmitted a.graph a.order a.guards → IsCompilation a.graph a.order c →
+    (r : Result Trial OutOfMemory) →
     IfOk r (AreFiguresOf a.graph c number) → IfOk r (IsTrial number)
 trial_is number a c same admitted compilation (Ok t) figures = record {
   admission = a;

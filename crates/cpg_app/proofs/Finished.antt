@@ -26,30 +26,45 @@ use Rattle.cpg_app.proofs.Written.{stopped}
 of_whole : (f : File) (fetch : Fetch) → IsWhole f fetch → IsFetchOf f fetch
 of_whole f fetch w = record { named = w.named }
 
-wants_too : (g : Option Graph) (f : File) (fetch : Fetch) (h : Halt) → h ≢ Read → StopsAt g f fetch h → IsWanting f fetch Memory
+wants_too : (g : Option Graph) (f : File) (fetch : Fetch) (h : Halt) → h ≢ Read → StopsAt g f fetch h →
+    IsWanting f fetch Memory
 wants_too g f fetch h other (inl unread) = absurd (other unread.halt_is)
-wants_too g f fetch h other (inr (inl long)) = record { of = long.of; sound = long.sound; few = (let o = long.over in omega (arith, o)); halt_is = refl }
+wants_too g f fetch h other (inr (inl long)) =
+    record { of = long.of; sound = long.sound; few = (let o = long.over in omega (arith, o)); halt_is = refl }
 wants_too g f fetch h other (inr (inr (inl refused))) =
-    record { of = of_whole f fetch refused.whole; sound = refused.whole.sound; few = (let s = refused.whole.short in omega (arith, s)); halt_is = refl }
-wants_too g f fetch h other (inr (inr (inr wanting))) = record { of = wanting.of; sound = wanting.sound; few = wanting.few; halt_is = refl }
+    record {
+      of = of_whole f fetch refused.whole;
+      sound = refused.whole.sound;
+      few = (let s = refused.whole.short in omega (arith, s));
+      halt_is = refl;
+    }
+wants_too g f fetch h other (inr (inr (inr wanting))) =
+    record { of = wanting.of; sound = wanting.sound; few = wanting.few; halt_is = refl }
 
-files_memory : (g : Option Graph) (files : List File) (past now : List Fetch) (h : Halt) → h ≢ Read → StopsReading g files past now h → StopsReading g files past now Memory
+files_memory : (g : Option Graph) (files : List File) (past now : List Fetch) (h : Halt) → h ≢ Read →
+    StopsReading g files past now h →
+    StopsReading g files past now Memory
 files_memory g [] past now h other s = absurd s
-files_memory g (f ∷ fs) past now h other (fetch, inl here) = (fetch, inl (inr (inr (inr (wants_too g f fetch h other here.0))), here.1))
-files_memory g (f ∷ fs) past now h other (fetch, inr (v, read, there)) = (fetch, inr (v, read, files_memory (graph_after g v) fs (fetch ∷ past) now h other there))
+files_memory g (f ∷ fs) past now h other (fetch, inl here) =
+    (fetch, inl (inr (inr (inr (wants_too g f fetch h other here.0))), here.1))
+files_memory g (f ∷ fs) past now h other (fetch, inr (v, read, there)) =
+    (fetch, inr (v, read, files_memory (graph_after g v) fs (fetch ∷ past) now h other there))
 
 module _ (r : Ran) where
   memory_too : (h : Halt) → h ≢ Read → Stops r h → Stops r Memory
   memory_too h other (inl words) = inl (record { unread = words.unread; cause = inr refl })
-  memory_too h other (inr (inl files)) = inr (inl (record { command = files.command; words = files.words; stops = files_memory None _ _ _ h other files.stops }))
-  memory_too h other (inr (inr work)) = inr (inr (record { command = work.command; values = work.values; has = work.has; stops = inr refl }))
+  memory_too h other (inr (inl files)) = inr (inl
+      (record { command = files.command; words = files.words; stops = files_memory None _ _ _ h other files.stops }))
+  memory_too h other (inr (inr work)) =
+      inr (inr (record { command = work.command; values = work.values; has = work.has; stops = inr refl }))
 
   -- it stops, and its line was sent
   told_lawful : (h : Halt) → Stops r h → Untouched r.out → Sent r.err r.status (status_of h) (line_of h) → IsLawful r
   told_lawful h stops silent sent = lawful_by r h (record { stops = stops; ending = stopped r h silent sent })
 
   -- it stops, and its line was sent, or that of out of memory
-  either_lawful : (h : Halt) → h ≢ Read → Stops r h → Untouched r.out → Sent r.err r.status (status_of h) (line_of h) ⊎ Sent r.err r.status (status_of Memory) (line_of Memory) → IsLawful r
+  either_lawful : (h : Halt) → h ≢ Read → Stops r h → Untouched r.out → Sent r.err r.status (status_of h) (line_of h) ⊎
+      Sent r.err r.status (status_of Memory) (line_of Memory) → IsLawful r
   either_lawful h other stops silent (inl sent) = told_lawful h stops silent sent
   either_lawful h other stops silent (inr sent) = told_lawful Memory (memory_too h other stops) silent sent
 
@@ -63,15 +78,23 @@ module _ (r : Ran) where
   stopped_lawful Memory stops silent said = told_lawful Memory stops silent said
 
   -- its output was written
-  pub written_lawful : (text : Text) (written : Result Unit WriteFault) → Prints r text → IsWritten r.out written text → IsEnded written r.err r.status → IsLawful r
-  written_lawful text (Ok done) prints out ended = lawful_with r text (record { prints = prints; ending = inl (record { status = ended.0; out = out; err = ended.1 }) })
-  written_lawful text (Err WriteFault.Failed) prints out ended = lawful_with r text (record { prints = prints; ending = inr (record { status = ended.0; out = out; err = ended.1 }) })
+  pub written_lawful : (text : Text) (written : Result Unit WriteFault) → Prints r text → IsWritten r.out written text →
+      IsEnded written r.err r.status → IsLawful r
+  written_lawful text (Ok done) prints out ended = lawful_with r text
+      (record { prints = prints; ending = inl (record { status = ended.0; out = out; err = ended.1 }) })
+  written_lawful text (Err WriteFault.Failed) prints out ended = lawful_with r text
+      (record { prints = prints; ending = inr (record { status = ended.0; out = out; err = ended.1 }) })
   written_lawful text (Err WriteFault.OutOfMemory) prints out ended =
-      let stops : Stops r Memory = inr (inr (record { command = prints.command; values = prints.values; has = prints.has; stops = inr refl })) in
+      let stops : Stops r Memory =
+      inr (inr (record { command = prints.command; values = prints.values; has = prints.has; stops = inr refl })) in
       told_lawful Memory stops out ended
 
   -- its words can't be had
-  pub wordless_lawful : (fault : WordsFault) → (fault ≡ WordsFault.Bad → command_of r.words ≡ None) → r.shelf.new.history ≡ r.shelf.old.history → Untouched r.out →
+  pub wordless_lawful : (fault : WordsFault) → (fault ≡ WordsFault.Bad → command_of r.words ≡ None) →
+      r.shelf.new.history ≡ r.shelf.old.history →
+      Untouched r.out →
       Sent r.err r.status (status_of (halt_of_words fault)) (line_of (halt_of_words fault)) → IsLawful r
-  wordless_lawful WordsFault.Bad none unread silent sent = told_lawful Words (inl (record { unread = unread; cause = inl (refl, none refl) })) silent sent
-  wordless_lawful WordsFault.OutOfMemory none unread silent sent = told_lawful Memory (inl (record { unread = unread; cause = inr refl })) silent sent
+  wordless_lawful WordsFault.Bad none unread silent sent =
+      told_lawful Words (inl (record { unread = unread; cause = inl (refl, none refl) })) silent sent
+  wordless_lawful WordsFault.OutOfMemory none unread silent sent =
+      told_lawful Memory (inl (record { unread = unread; cause = inr refl })) silent sent

@@ -1,5 +1,6 @@
 -- The greatest end of a whole play of exact tables is the finish of the scenario's run.
-use Rattle.std.proofs.Common.{ℕ, ◌≡◌, ◌+◌, ◌∙◌, ◌==◌, List, [], get_or, length, map, flat_map, Contains, Option, Some, None, sym, ap, subst, arith, inl, inr, refl, eq-eqb}
+use Rattle.std.proofs.Common.{ℕ, ◌≡◌, ◌+◌, ◌∙◌, ◌==◌, List, [], get_or, length, map, flat_map, Contains, Option, Some}
+use Rattle.std.proofs.Common.{None, sym, ap, subst, arith, inl, inr, refl, eq-eqb}
 use Rattle.std.specs.Prelude.{option_to_list, option_map}
 use Rattle.std.proofs.lemmas.Option.{none-some}
 use Rattle.std.proofs.lemmas.List.Sorted.{Contains-permutation, IsPermutation-sym}
@@ -8,7 +9,8 @@ use Rattle.cpg_base.specs.Graph.{Graph, process_count, node_of}
 use Rattle.cpg_base.specs.WellFormed.{WellFormed}
 use Rattle.cpg_base.specs.Duration.{duration}
 use Rattle.cpg_base.specs.Scenario.{IsScenario, fault_of}
-use Rattle.cpg_base.proofs.Lists.{Contains-first, Contains-cases, Contains-nil, Contains-map, Contains-map_parts, Contains-filter, Contains-filter_parts, Contains-flat_map, Contains-flat_map_parts}
+use Rattle.cpg_base.proofs.Lists.{Contains-first, Contains-cases, Contains-nil, Contains-map, Contains-map_parts}
+use Rattle.cpg_base.proofs.Lists.{Contains-filter, Contains-filter_parts, Contains-flat_map, Contains-flat_map_parts}
 use Rattle.cpg_base.proofs.Lists.{Contains-numbers, numbers-Contains, greatest_above, greatest-le}
 use Rattle.cpg_table.specs.Table.{NodeTable, at}
 use Rattle.cpg_table.specs.Shape.{processes_on}
@@ -20,7 +22,8 @@ use Rattle.cpg_cluster.specs.Correct.{ends_asked, ended_in}
 use Rattle.cpg_cluster.specs.Whole.{IsWholePlay}
 use Rattle.cpg_show.specs.TraceText.{finish_of, end_times}
 
-module _ (g : Graph) (formed : WellFormed g) (tables : List NodeTable) (order : List ℕ) (frozen : List (Option ℕ)) (exact : HasRunTimes g order frozen tables) (w : World)
+module _ (g : Graph) (formed : WellFormed g) (tables : List NodeTable) (order : List ℕ) (frozen : List (Option ℕ))
+    (exact : HasRunTimes g order frozen tables) (w : World)
     (lawful : IsScenario g w.scenario)
     (t : Times) (run : IsRun g order frozen w.scenario t) (c : Cluster) (whole : IsWholePlay g tables w c) where
   starts_of : (p : ℕ) → at tables p w.scenario ≡ option_to_list (get_or t.times p None)
@@ -32,15 +35,20 @@ module _ (g : Graph) (formed : WellFormed g) (tables : List NodeTable) (order : 
   abbrev planned_end : ℕ → ℕ → ℕ × Ended
   planned_end p start = (end_at p start, ended_in g w.scenario p)
 
-  ended_at : (p : ℕ) (o : Option ℕ) (start : ℕ) → Contains (option_to_list o) start → option_map (end_at p) o ≡ Some (end_at p start)
+  ended_at : (p : ℕ) (o : Option ℕ) (start : ℕ) → Contains (option_to_list o) start →
+      option_map (end_at p) o ≡ Some (end_at p start)
   ended_at p None start m = absurd (Contains-nil start m)
-  ended_at p (Some first) start m = elim (Contains-cases first [] start m) [ inl e ↦ ap (λ s. Some (end_at p s)) e | inr k ↦ absurd (Contains-nil start k) ]
+  ended_at p (Some first) start m = elim (Contains-cases first [] start m) [
+    | inl e ↦ ap (λ s. Some (end_at p s)) e
+    | inr k ↦ absurd (Contains-nil start k)
+  ]
 
   abbrev value_or : ℕ → Option ℕ → ℕ
   value_or d (Some n) = n
   value_or d None = d
 
-  started_at : (p : ℕ) (o : Option ℕ) (x : ℕ) → option_map (end_at p) o ≡ Some x → (start : ℕ) × Contains (option_to_list o) start × (end_at p start ≡ x)
+  started_at : (p : ℕ) (o : Option ℕ) (x : ℕ) → option_map (end_at p) o ≡ Some x →
+      (start : ℕ) × Contains (option_to_list o) start × (end_at p start ≡ x)
   started_at p None x e = absurd (none-some x e)
   started_at p (Some start) x e = (start, Contains-first start [], ap (value_or 0) e)
 
@@ -59,17 +67,23 @@ module _ (g : Graph) (formed : WellFormed g) (tables : List NodeTable) (order : 
       let l = numbers-Contains (length g.nodes) node at_node.1 in
       let told = Contains-map_parts (λ (e : ℕ × Ended). e.0) (get_or c.ends node []) x at_node.2 in
       let asked = Contains-permutation (get_or c.ends node []) (ends_asked g tables w.scenario node) told.0
-      (IsPermutation-sym (ends_asked g tables w.scenario node) (get_or c.ends node []) (whole.ends node l).all) told.1 in
-      let of_process = Contains-flat_map_parts (λ p. map (planned_end p) (at tables p w.scenario)) (processes_on g node) told.0 asked in
+      (IsPermutation-sym (ends_asked g tables w.scenario node) (get_or c.ends node []) (whole.ends node l).all)
+      told.1 in
+      let of_process = Contains-flat_map_parts (λ p. map (planned_end p) (at tables p w.scenario))
+      (processes_on g node) told.0 asked in
       let p = of_process.0 in
-      let below = numbers-Contains (process_count g) p (Contains-filter_parts (λ p. node_of g p == node) (numbers_below (process_count g)) p of_process.1).0 in
+      let below = numbers-Contains (process_count g) p
+      (Contains-filter_parts (λ p. node_of g p == node) (numbers_below (process_count g)) p of_process.1).0 in
       let started = Contains-map_parts (planned_end p) (at tables p w.scenario) told.0 of_process.2 in
-      let there : Contains (option_to_list (get_or t.times p None)) started.0 = subst (λ ss. Contains ss started.0) (starts_of p) started.1 in
+      let there : Contains (option_to_list (get_or t.times p None)) started.0 =
+      subst (λ ss. Contains ss started.0) (starts_of p) started.1 in
       let time : end_at p started.0 ≡ x = ap (λ (e : ℕ × Ended). e.0) started.2 ∙ told.2 in
       let ends : end_by g w.scenario t p ≡ Some x = ended_at p (get_or t.times p None) started.0 there ∙ ap Some time in
       Contains-flat_map option_to_list t.ends (Some x) x
-      (subst (Contains t.ends) ends (subst (λ (es : List (Option ℕ)). Contains es (end_by g w.scenario t p)) (sym run.ends)
-      (Contains-map (end_by g w.scenario t) (numbers_below (process_count g)) p (Contains-numbers (process_count g) p below))))
+      (subst (Contains t.ends) ends
+      (subst (λ (es : List (Option ℕ)). Contains es (end_by g w.scenario t p)) (sym run.ends)
+      (Contains-map (end_by g w.scenario t) (numbers_below (process_count g)) p
+      (Contains-numbers (process_count g) p below))))
       (Contains-first x [])
 
   -- an end of the run is one of the play
@@ -77,24 +91,33 @@ module _ (g : Graph) (formed : WellFormed g) (tables : List NodeTable) (order : 
   of_run x m =
       let one = Contains-flat_map_parts option_to_list t.ends x m in
       let is_end : one.0 ≡ Some x = some_of one.0 x one.2 in
-      let of_process = Contains-map_parts (end_by g w.scenario t) (numbers_below (process_count g)) one.0 (subst (λ (es : List (Option ℕ)). Contains es one.0) run.ends one.1) in
+      let of_process = Contains-map_parts (end_by g w.scenario t) (numbers_below (process_count g)) one.0
+      (subst (λ (es : List (Option ℕ)). Contains es one.0) run.ends one.1) in
       let p = of_process.0 in
       let below = numbers-Contains (process_count g) p of_process.1 in
       let node = node_of g p in
       let l = formed.nodes p below in
       let started = started_at p (get_or t.times p None) x (of_process.2 ∙ is_end) in
-      let there : Contains (at tables p w.scenario) started.0 = subst (λ ss. Contains ss started.0) (sym (starts_of p)) started.1 in
-      let on : Contains (processes_on g node) p = Contains-filter (λ p. node_of g p == node) (numbers_below (process_count g)) p (eq-eqb node node refl) of_process.1 in
+      let there : Contains (at tables p w.scenario) started.0 =
+      subst (λ ss. Contains ss started.0) (sym (starts_of p)) started.1 in
+      let on : Contains (processes_on g node) p = Contains-filter (λ p. node_of g p == node)
+      (numbers_below (process_count g)) p (eq-eqb node node refl) of_process.1 in
       let asked : Contains (ends_asked g tables w.scenario node) (planned_end p started.0) =
-      Contains-flat_map (λ p. map (planned_end p) (at tables p w.scenario)) (processes_on g node) p (planned_end p started.0) on
+      Contains-flat_map (λ p. map (planned_end p) (at tables p w.scenario)) (processes_on g node) p
+      (planned_end p started.0) on
       (Contains-map (planned_end p) (at tables p w.scenario) started.0 there) in
-      let told = Contains-permutation (ends_asked g tables w.scenario node) (get_or c.ends node []) (planned_end p started.0) (whole.ends node l).all asked in
-      Contains-flat_map (end_times c.ends) (numbers_below (length g.nodes)) node x (Contains-numbers (length g.nodes) node l)
-      (subst (Contains (end_times c.ends node)) started.2 (Contains-map (λ (e : ℕ × Ended). e.0) (get_or c.ends node []) (planned_end p started.0) told))
+      let told = Contains-permutation (ends_asked g tables w.scenario node) (get_or c.ends node [])
+      (planned_end p started.0) (whole.ends node l).all asked in
+      Contains-flat_map (end_times c.ends) (numbers_below (length g.nodes)) node x
+      (Contains-numbers (length g.nodes) node l)
+      (subst (Contains (end_times c.ends node)) started.2
+      (Contains-map (λ (e : ℕ × Ended). e.0) (get_or c.ends node []) (planned_end p started.0) told))
 
   pub finish_is : finish_of g c.ends ≡ t.finish
   finish_is =
-      let a = greatest-le times (greatest (flat_map option_to_list t.ends)) (λ x m. greatest_above (flat_map option_to_list t.ends) x (of_play x m)) in
-      let b = greatest-le (flat_map option_to_list t.ends) (greatest times) (λ x m. greatest_above times x (of_run x m)) in
+      let a = greatest-le times (greatest (flat_map option_to_list t.ends))
+      (λ x m. greatest_above (flat_map option_to_list t.ends) x (of_play x m)) in
+      let b =
+      greatest-le (flat_map option_to_list t.ends) (greatest times) (λ x m. greatest_above times x (of_run x m)) in
       let f = run.finish in
       omega (arith, a, b, f)

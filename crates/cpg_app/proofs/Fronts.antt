@@ -29,26 +29,40 @@ module _ (g : Graph) (pack : Text) (is : IsOutputFor packed_of g pack) (n : ℕ)
 
   bad : IsBadPack (take n pack) n
   bad = subst (λ (bytes : Text). IsBadPack (take n bytes) n) (sym is.made_of.spelled)
-      (fronts_of_packs tables n is.made_of.pack.lawful (subst (λ (bytes : Text). n < length bytes) is.made_of.spelled l))
+      (fronts_of_packs tables n is.made_of.pack.lawful
+      (subst (λ (bytes : Text). n < length bytes) is.made_of.spelled l))
 
   of_fetch : (fetch : Fetch) → GaveAll fetch (take n pack) → IsBadPack fetch.given n
   of_fetch fetch gave = subst (λ bytes. IsBadPack bytes n) (sym gave.given) bad
 
   short : (fetch : Fetch) → GaveAll fetch (take n pack) → length fetch.given ≤ limit_of PackFile
-  short fetch gave = omega (arith, ap (λ (bytes : Text). length bytes) gave.given, front, l, subst (λ (bytes : Text). length bytes ≤ limit_of PackFile) (sym is.made_of.spelled) is.made_of.pack.short)
+  short fetch gave = omega (
+    arith,
+    ap (λ (bytes : Text). length bytes) gave.given,
+    front,
+    l,
+    subst (λ (bytes : Text). length bytes ≤ limit_of PackFile) (sym is.made_of.spelled) is.made_of.pack.short,
+  )
 
   one_place : (fetch : Fetch) (m : ℕ) → GaveAll fetch (take n pack) → IsBadPack fetch.given m → m ≡ length (take n pack)
-  one_place fetch m gave other = (packs_are_refused_at_one_place fetch.given).one m n other (of_fetch fetch gave) ∙ sym front
+  one_place fetch m gave other =
+      (packs_are_refused_at_one_place fetch.given).one m n other (of_fetch fetch gave) ∙ sym front
 
-  unread : (o : Option Graph) (fetch : Fetch) (value : Value) → GaveAll fetch (take n pack) → IsRead o (file PackFile fetch.name) fetch value → ⊥
-  unread o fetch value gave is_read = (of_fetch fetch gave).no_pack is_read.says.0 is_read.says.2.lawful is_read.says.2.spelled
+  unread : (o : Option Graph) (fetch : Fetch) (value : Value) → GaveAll fetch (take n pack) →
+      IsRead o (file PackFile fetch.name) fetch value → ⊥
+  unread o fetch value gave is_read =
+      (of_fetch fetch gave).no_pack is_read.says.0 is_read.says.2.lawful is_read.says.2.spelled
 
-  stops : (o : Option Graph) (fetch : Fetch) (halt : Halt) → GaveAll fetch (take n pack) → StopsAt o (file PackFile fetch.name) fetch halt → (halt ≡ Refused (BadPack (length (take n pack)))) ⊎
+  stops : (o : Option Graph) (fetch : Fetch) (halt : Halt) → GaveAll fetch (take n pack) →
+      StopsAt o (file PackFile fetch.name) fetch halt →
+      (halt ≡ Refused (BadPack (length (take n pack)))) ⊎
       (halt ≡ Memory)
   stops o fetch halt gave (inl unread_file) = absurd (true≢false (sym unread_file.failed ∙ gave.sound))
   stops o fetch halt gave (inr (inl long)) = absurd (let few = short fetch gave in omega (arith, few, long.over))
-  stops o fetch halt gave (inr (inr (inl refused))) = inl (refused.refuses.halt_is ∙ ap (λ m. Refused (BadPack m)) (one_place fetch refused.refuses.length gave refused.refuses.bad))
+  stops o fetch halt gave (inr (inr (inl refused))) = inl (refused.refuses.halt_is
+      ∙ ap (λ m. Refused (BadPack m)) (one_place fetch refused.refuses.length gave refused.refuses.bad))
   stops o fetch halt gave (inr (inr (inr wanting))) = inr wanting.halt_is
 
 pub fronts_are_refused : FrontsAreRefused
-fronts_are_refused r g pack n has l = let is = pack_of r g pack has in record { unread = unread g pack is n l; stops = stops g pack is n l }
+fronts_are_refused r g pack n has l = let is = pack_of r g pack has in
+    record { unread = unread g pack is n l; stops = stops g pack is n l }

@@ -1,5 +1,6 @@
 -- What a run packed, the others take, and it asks what `show` prints.
-use Rattle.std.proofs.Common.{ℕ, ◌≡◌, ◌<◌, ◌≤◌, ◌∙◌, Bool, true, false, List, [], ◌∷◌, Option, Some, None, append-nil, get_or, length, refl, sym, ap, subst, arith, inl, inr, lt-ltb, true≢false}
+use Rattle.std.proofs.Common.{ℕ, ◌≡◌, ◌<◌, ◌≤◌, ◌∙◌, Bool, true, false, List, [], ◌∷◌, Option, Some, None, append-nil}
+use Rattle.std.proofs.Common.{get_or, length, refl, sym, ap, subst, arith, inl, inr, lt-ltb, true≢false}
 use Rattle.std.specs.Prelude.{position}
 use Rattle.std.specs.List.{position_or_len}
 use Rattle.std.specs.Str.{bytes_eq}
@@ -52,10 +53,13 @@ put_out : (r : Ran) (bytes text : Text) → Whole r.out bytes → Whole r.out te
 put_out r bytes text wrote took = append_cancel_left r.out.old bytes text (sym wrote.taken ∙ took.taken)
 
 -- what is made of a graph is made of it as it is admitted once more
-made_again : (a b : Admission) → AreAlike a b → (spell : Graph → Compiled → Text) (bytes : Text) → IsMadeOf b spell bytes → IsMadeOf a spell bytes
+made_again : (a b : Admission) → AreAlike a b → (spell : Graph → Compiled → Text) (bytes : Text) →
+    IsMadeOf b spell bytes →
+    IsMadeOf a spell bytes
 made_again a b same spell bytes made =
     let c = made.compiled in
-    let all = moved a b same (λ g order. IsCompilation g order c × ArePackOf g c.built.tables × AreSafe g c.built.tables.nodes × (bytes ≡ spell g c))
+    let all = moved a b same (λ g order. IsCompilation g order c × ArePackOf g c.built.tables ×
+    AreSafe g c.built.tables.nodes × (bytes ≡ spell g c))
     (made.compilation, made.pack, made.safe, made.spelled) in
     record { compiled = c; compilation = all.0; pack = all.1; safe = all.2; spelled = all.3 }
 
@@ -67,9 +71,11 @@ pub record IsOutputFor (spell : Graph → Compiled → Text) (g : Graph) (made :
   pub made_of : IsMadeOf admission spell made
 
 -- if a command's output is made of a graph file, its graph is admitted, and the bytes are spelled from its tables
-output_of : (asked : Text → Command) (spell : Graph → Compiled → Text) → ((graph text : Text) (vs : List Value) → PutsOut (asked graph) vs text → OnGraph vs (λ a. IsMadeOf a spell text)) →
+output_of : (asked : Text → Command) (spell : Graph → Compiled → Text) →
+    ((graph text : Text) (vs : List Value) → PutsOut (asked graph) vs text → OnGraph vs (λ a. IsMadeOf a spell text)) →
     ((graph : Text) → is_live (Some (asked graph)) ≡ false) →
-    ((graph : Text) → files_of (asked graph) ≡ file GraphFile graph ∷ []) → (r : Ran) (g : Graph) (made : Text) → HasMade asked r g made → IsOutputFor spell g made
+    ((graph : Text) → files_of (asked graph) ≡ file GraphFile graph ∷ []) → (r : Ran) (g : Graph) (made : Text) →
+    HasMade asked r g made → IsOutputFor spell g made
 output_of asked spell puts dead files r g made has = elim (has.lawful.done has.done) [
   | inl out ↦
       let a = has.admission in
@@ -78,9 +84,12 @@ output_of asked spell puts dead files r g made has = elim (has.lawful.done has.d
       record {
         admission = a;
         of = has.of;
-        admitted = (values_lawful None (file GraphFile has.graph ∷ []) r.shelf.old.history r.shelf.new.history (graph_value a ∷ [])
-            (subst (λ fs. Reads None fs r.shelf.old.history r.shelf.new.history (graph_value a ∷ [])) (files has.graph) has.has.reads)).0;
-        made_of = subst (λ text. IsMadeOf a spell text) (sym (put_out r made out.0 has.wrote out.2.out)) (made_again a k.0 k.1 spell out.0 k.2);
+        admitted = (values_lawful None (file GraphFile has.graph ∷ []) r.shelf.old.history r.shelf.new.history
+            (graph_value a ∷ [])
+            (subst (λ fs. Reads None fs r.shelf.old.history r.shelf.new.history (graph_value a ∷ []))
+            (files has.graph) has.has.reads)).0;
+        made_of = subst (λ text. IsMadeOf a spell text) (sym (put_out r made out.0 has.wrote out.2.out))
+            (made_again a k.0 k.1 spell out.0 k.2);
       }
   | inr closed ↦ absurd (other_words r closed.follows (Some (asked has.graph)) (dead has.graph) has.has.words)
 ]
@@ -94,7 +103,8 @@ pack_of = output_of Compile packed_of (λ graph text vs puts. puts) (λ graph. r
 -- ---- names of nodes
 
 -- a test that some element passes has a first
-found : {X : Type 0} (p : X → Bool) (xs : List X) (i : ℕ) (d : X) → i < length xs → p (get_or xs i d) ≡ true → (j : ℕ) × (position p xs ≡ Some j)
+found : {X : Type 0} (p : X → Bool) (xs : List X) (i : ℕ) (d : X) → i < length xs → p (get_or xs i d) ≡ true →
+    (j : ℕ) × (position p xs ≡ Some j)
 found p xs i d l passes = elim (cases_lt (position_or_len p xs) (length xs)) [
   | inl lt ↦ (position_or_len p xs, cond-true _ _ _ (lt-ltb (position_or_len p xs) (length xs) lt))
   | inr ge ↦ absurd (true≢false (sym passes ∙ fails_before_first p xs i d (omega (arith, ge, l))))
@@ -103,8 +113,10 @@ found p xs i d l passes = elim (cases_lt (position_or_len p xs) (length xs)) [
 same_text : (text : Text) → bytes_eq text text ≡ true
 same_text text = (bytes_eq-Decides text text).1 refl
 
-node_named : (h : Head) (node : ℕ) → node < length h.nodes → (first : ℕ) × (first_named h (get_or h.nodes node []) ≡ Some first)
-node_named h node l = found (λ other. bytes_eq other (get_or h.nodes node [])) h.nodes node [] l (same_text (get_or h.nodes node []))
+node_named : (h : Head) (node : ℕ) → node < length h.nodes →
+    (first : ℕ) × (first_named h (get_or h.nodes node []) ≡ Some first)
+node_named h node l =
+    found (λ other. bytes_eq other (get_or h.nodes node [])) h.nodes node [] l (same_text (get_or h.nodes node []))
 
 -- ---- the pack is taken
 
@@ -114,58 +126,84 @@ module _ (g : Graph) (pack : Text) (is : IsOutputFor packed_of g pack) where
 
   -- tables of these bytes are those
   same_tables : (t : Tables) → AreLawful t → pack ≡ spelling t → tables ≡ t
-  same_tables t lawful e = (one_spelling tables t [] is.made_of.pack.lawful lawful (sym is.made_of.spelled ∙ (e ∙ sym (append-nil (spelling t))))).0
+  same_tables t lawful e = (one_spelling tables t [] is.made_of.pack.lawful lawful
+      (sym is.made_of.spelled ∙ (e ∙ sym (append-nil (spelling t))))).0
 
   head_is : IsHeadFor is.admission.graph tables.head
   head_is = subst (IsHeadFor is.admission.graph) (sym is.made_of.pack.head) (own_head is.admission.graph)
 
-  judged : (r : Ran) (a : Admission) (t : Tables) → IsLawful r → a.graph ≡ g → pack ≡ spelling t → AsksVerdict r a t → EndsWell r
+  judged : (r : Ran) (a : Admission) (t : Tables) → IsLawful r → a.graph ≡ g → pack ≡ spelling t → AsksVerdict r a t →
+      EndsWell r
   judged r a t lawful of e asks =
       let same = same_tables t (tables_lawful r a t asks) e in
       let graph : is.admission.graph ≡ a.graph = is.of ∙ sym of in
       lawful.safe a t asks
       (subst (λ h. IsHeadFor h t.head) graph (subst (λ (u : Tables). IsHeadFor is.admission.graph u.head) same head_is))
-      (subst (λ h. IsValid h t.nodes) graph (subst (λ (u : Tables). IsValid is.admission.graph u.nodes) same is.made_of.safe.valid))
+      (subst (λ h. IsValid h t.nodes) graph
+      (subst (λ (u : Tables). IsValid is.admission.graph u.nodes) same is.made_of.safe.valid))
 
-  taken : (r : Ran) (path : Text) (t : Tables) (node : ℕ) → IsLawful r → pack ≡ spelling t → node < length g.nodes → Asks r (Node path (get_or g.nodes node [])) (tables_value t ∷ []) → EndsWell r
+  taken : (r : Ran) (path : Text) (t : Tables) (node : ℕ) → IsLawful r → pack ≡ spelling t → node < length g.nodes →
+      Asks r (Node path (get_or g.nodes node [])) (tables_value t ∷ []) → EndsWell r
   taken r path t node lawful e l asks =
-      let same = same_tables t (values_lawful None (files_of (Node path (get_or g.nodes node []))) r.shelf.old.history r.shelf.new.history (tables_value t ∷ []) asks.has.reads).0 e in
-      let nodes : t.head.nodes ≡ g.nodes = ap (λ (u : Tables). u.head.nodes) (sym same) ∙ (head_is.nodes ∙ ap (λ (h : Graph). h.nodes) is.of) in
-      let named = node_named t.head node (let count : length t.head.nodes ≡ length g.nodes = ap length nodes in omega (arith, count, l)) in
-      lawful.named path (get_or g.nodes node []) t named.0 asks (subst (λ (ns : List Text). first_named t.head (get_or ns node []) ≡ Some named.0) nodes named.1)
+      let same = same_tables t (values_lawful None (files_of (Node path (get_or g.nodes node []))) r.shelf.old.history
+      r.shelf.new.history (tables_value t ∷ []) asks.has.reads).0 e in
+      let nodes : t.head.nodes ≡ g.nodes =
+      ap (λ (u : Tables). u.head.nodes) (sym same) ∙ (head_is.nodes ∙ ap (λ (h : Graph). h.nodes) is.of) in
+      let named = node_named t.head node (let count : length t.head.nodes ≡ length g.nodes = ap length nodes in
+      omega (arith, count, l)) in
+      lawful.named path (get_or g.nodes node []) t named.0 asks
+      (subst (λ (ns : List Text). first_named t.head (get_or ns node []) ≡ Some named.0) nodes named.1)
 
   -- however it is read
-  read : (o : Option Graph) (fetch : Fetch) → GaveAll fetch pack → (t : Tables) × IsRead o (file PackFile fetch.name) fetch (tables_value t) × (pack ≡ spelling t)
+  read : (o : Option Graph) (fetch : Fetch) → GaveAll fetch pack →
+      (t : Tables) × IsRead o (file PackFile fetch.name) fetch (tables_value t) × (pack ≡ spelling t)
   read o fetch gave =
       let e : fetch.given ≡ spelling tables = gave.given ∙ is.made_of.spelled in
-      let short : length fetch.given ≤ limit_of PackFile = subst (λ (bytes : Text). length bytes ≤ limit_of PackFile) (sym e) is.made_of.pack.short in (
+      let short : length fetch.given ≤ limit_of PackFile =
+      subst (λ (bytes : Text). length bytes ≤ limit_of PackFile) (sym e) is.made_of.pack.short in (
         tables,
-        record { whole = record { named = refl; ended = gave.ended; sound = gave.sound; short = short }; says = (tables, refl, record { spelled = e; lawful = is.made_of.pack.lawful }) },
+        record {
+          whole = record { named = refl; ended = gave.ended; sound = gave.sound; short = short };
+          says = (tables, refl, record { spelled = e; lawful = is.made_of.pack.lawful });
+        },
         is.made_of.spelled,
       )
 
-  unstopped : (o : Option Graph) (fetch : Fetch) (halt : Halt) → GaveAll fetch pack → StopsAt o (file PackFile fetch.name) fetch halt → halt ≡ Memory
+  unstopped : (o : Option Graph) (fetch : Fetch) (halt : Halt) → GaveAll fetch pack →
+      StopsAt o (file PackFile fetch.name) fetch halt → halt ≡ Memory
   unstopped o fetch halt gave stops =
       let all = read o fetch gave in
-      stops_memory o (file PackFile fetch.name ∷ []) [] (fetch ∷ []) (tables_value all.0 ∷ []) halt (fetch, all.1, refl) (fetch, inl (stops, refl))
+      stops_memory o (file PackFile fetch.name ∷ []) [] (fetch ∷ []) (tables_value all.0 ∷ []) halt (fetch, all.1, refl)
+      (fetch, inl (stops, refl))
 
 pub packs_are_taken : PacksAreTaken
-packs_are_taken r g pack has = let is = pack_of r g pack has in record { read = read g pack is; unstopped = unstopped g pack is; judged = judged g pack is; printed = taken g pack is }
+packs_are_taken r g pack has = let is = pack_of r g pack has in record {
+  read = read g pack is;
+  unstopped = unstopped g pack is;
+  judged = judged g pack is;
+  printed = taken g pack is;
+}
 
 -- ---- what is shown is what is packed
 
 -- two admissions of one graph
-alike : (g : Graph) (a b : Admission) → a.graph ≡ g → b.graph ≡ g → IsAdmitted a.graph a.order a.guards → IsAdmitted b.graph b.order b.guards → AreAlike a b
+alike : (g : Graph) (a b : Admission) → a.graph ≡ g → b.graph ≡ g → IsAdmitted a.graph a.order a.guards →
+    IsAdmitted b.graph b.order b.guards → AreAlike a b
 alike g a b e f x y =
     let same : b.graph ≡ a.graph = f ∙ sym e in
-    record { graph = same; order = one_urgency_order a.graph b.order a.order (subst (λ h. IsUrgencyOrder h b.order) same y.urgency) x.urgency }
+    record {
+      graph = same;
+      order =
+          one_urgency_order a.graph b.order a.order (subst (λ h. IsUrgencyOrder h b.order) same y.urgency) x.urgency;
+    }
 
 pub show_and_compile_agree : ShowAndCompileAgree
 show_and_compile_agree r q g text pack shows packs =
     let one = shown_of r g text shows in
     let other = pack_of q g pack packs in
     let a = one.admission in
-    let made = made_again a other.admission (alike g a other.admission one.of other.of one.admitted other.admitted) packed_of pack other.made_of in
+    let made = made_again a other.admission
+    (alike g a other.admission one.of other.of one.admitted other.admitted) packed_of pack other.made_of in
     record {
       admission = a;
       of = one.of;
@@ -173,5 +211,6 @@ show_and_compile_agree r q g text pack shows packs =
       shows = one.made_of;
       packs = made;
       same = ask_the_same a.graph one.admitted.well_formed a.order one.admitted.topological
-          (first_topological a.graph a.order one.admitted.topological one.admitted.given) one.made_of.compiled made.compiled one.made_of.compilation made.compilation;
+          (first_topological a.graph a.order one.admitted.topological one.admitted.given) one.made_of.compiled
+          made.compiled one.made_of.compilation made.compilation;
     }

@@ -28,11 +28,14 @@ use Rattle.cpg_app.specs.Outputs.{AreJudgedSafe}
 
 -- out of memory, late, or too wide
 abbrev pub CompileLeft : Admission → Halt → Type 0
-CompileLeft a h = (status_of h ≡ 8) ⊎ (((status_of h ≡ 5) × IsLate a.graph a.order) ⊎ ((status_of h ≡ 6) × ((x : ℕ) × IsWide a.graph (first_order a.graph a.order) x)))
+CompileLeft a h = (status_of h ≡ 8) ⊎ (((status_of h ≡ 5) × IsLate a.graph a.order) ⊎
+    ((status_of h ≡ 6) × ((x : ℕ) × IsWide a.graph (first_order a.graph a.order) x)))
 
 module _ (a b : Admission) (same : AreAlike a b) (h : Halt) where
-  of_fault : (fault : CompileFault) → h ≡ halt_of_compile b fault → ShowsCompileFault b.graph b.order fault → CompileLeft a h
-  of_fault (CompileFault.TooWide x) e shows = inr (inr (ap status_of e, (x, moved a b same (λ g o. IsWide g (first_order g o) x) shows.0.wide)))
+  of_fault : (fault : CompileFault) → h ≡ halt_of_compile b fault → ShowsCompileFault b.graph b.order fault →
+      CompileLeft a h
+  of_fault (CompileFault.TooWide x) e shows =
+      inr (inr (ap status_of e, (x, moved a b same (λ g o. IsWide g (first_order g o) x) shows.0.wide)))
   of_fault (CompileFault.Late s p time) e shows = inr (inl (ap status_of e, moved a b same IsLate shows.0))
   of_fault CompileFault.OutOfMemory e shows = inl (ap status_of e)
 
@@ -43,14 +46,19 @@ module _ (a b : Admission) (same : AreAlike a b) (h : Halt) where
 
 -- the tables are another graph's, or they aren't valid
 abbrev pub CheckLeft : Admission → Tables → Halt → Type 0
-CheckLeft a t h = ((status_of h ≡ 4) × (IsHeadFor a.graph t.head → ⊥)) ⊎ ((status_of h ≡ 7) × IsHeadFor a.graph t.head × (IsValid a.graph t.nodes → ⊥))
+CheckLeft a t h = ((status_of h ≡ 4) × (IsHeadFor a.graph t.head → ⊥)) ⊎
+    ((status_of h ≡ 7) × IsHeadFor a.graph t.head × (IsValid a.graph t.nodes → ⊥))
 
 module _ (a b : Admission) (same : AreAlike a b) (t : Tables) (lawful : AreLawful t) where
   pub check_left : (h : Halt) → StopsVerdict b t h → CheckLeft a t h
-  check_left h (inl other) = inl (ap status_of other.halt_is, moved a b same (λ g o. IsHeadFor g t.head → ⊥) (other_head b.graph t.head other.part other.first))
+  check_left h (inl other) = inl (
+    ap status_of other.halt_is,
+    moved a b same (λ g o. IsHeadFor g t.head → ⊥) (other_head b.graph t.head other.part other.first),
+  )
   check_left h (inr broken) =
       let count : length t.nodes ≡ length b.graph.nodes = lawful.nodes.count ∙ ap length broken.head.nodes in
-      let here = moved a b same (λ g o. IsHeadFor g t.head × (IsValid g t.nodes → ⊥)) (broken.head, faulty_tables b.graph t.nodes b.order broken.fault count broken.first) in
+      let here = moved a b same (λ g o. IsHeadFor g t.head × (IsValid g t.nodes → ⊥))
+      (broken.head, faulty_tables b.graph t.nodes b.order broken.fault count broken.first) in
       inr (ap status_of broken.halt_is, here.0, here.1)
 
   -- what was found safe is valid, and its head the graph's
@@ -61,9 +69,12 @@ module _ (a b : Admission) (same : AreAlike a b) (t : Tables) (lawful : AreLawfu
 
 -- out of memory, or a refusal that is shown
 abbrev pub PartsLeft : List Part → Halt → Type 0
-PartsLeft parts h = (status_of h ≡ 8) ⊎ ((status_of h ≡ 4) × ((fault : HyperFault) × ShowsUnrolled parts (Err fault) × (fault ≢ OutOfMemory)))
+PartsLeft parts h = (status_of h ≡ 8) ⊎
+    ((status_of h ≡ 4) × ((fault : HyperFault) × ShowsUnrolled parts (Err fault) × (fault ≢ OutOfMemory)))
 
-refused_left : (parts : List Part) (h : Halt) (fault : HyperFault) → h ≡ halt_of_parts fault → ShowsUnrolled parts (Err fault) → PartsLeft parts h
+refused_left : (parts : List Part) (h : Halt) (fault : HyperFault) → h ≡ halt_of_parts fault →
+    ShowsUnrolled parts (Err fault) →
+    PartsLeft parts h
 refused_left parts h (HyperFault.Range p) e shows = inr (ap status_of e, (HyperFault.Range p, shows, λ k. cc))
 refused_left parts h (HyperFault.Differ p) e shows = inr (ap status_of e, (HyperFault.Differ p, shows, λ k. cc))
 refused_left parts h (HyperFault.Over p) e shows = inr (ap status_of e, (HyperFault.Over p, shows, λ k. cc))

@@ -14,7 +14,9 @@ use Rattle.cpg_app.specs.Outputs.{IsMadeOf, shown, shown_by}
 use Rattle.cpg_app.proofs.Safe.{compilations_are_safe}
 
 -- the text of rows is that of the tables that have them
-pub shown_of_rows : (a : Admission) → WellFormed a.graph → IsPackHead (head_of a.graph) → (r : BuiltRows) → AreCompiledRows a.graph a.order r → IsMadeOf a shown (shown_by a.graph r)
+pub shown_of_rows : (a : Admission) → WellFormed a.graph → IsPackHead (head_of a.graph) → (r : BuiltRows) →
+    AreCompiledRows a.graph a.order r →
+    IsMadeOf a shown (shown_by a.graph r)
 shown_of_rows a formed head r are =
     let t = are.tables in
     let compilation : IsCompilation a.graph a.order (compiled_of r t) = are.compilation t are.written in

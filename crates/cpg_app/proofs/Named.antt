@@ -11,7 +11,8 @@ use Rattle.cpg_violation.proofs.Violations.{first_broken}
 use Rattle.cpg_run.proofs.ZeroScenario.{zero_lawful}
 use Rattle.cpg_words.specs.Parts.{Text}
 use Rattle.cpg_words.specs.declared.command.Command.{Command}
-use Rattle.cpg_words.specs.declared.command.Command.TheVariants.{Show, Compile, Check, Play, Node, Trial, Live, Hyper, Tune, Audit}
+use Rattle.cpg_words.specs.declared.command.Command.TheVariants.{Show, Compile, Check, Play, Node, Trial, Live, Hyper}
+use Rattle.cpg_words.specs.declared.command.Command.TheVariants.{Tune, Audit}
 use Rattle.cpg_reader.specs.declared.place.ReadFault.{ReadFault}
 use Rattle.cpg_table.specs.Lawful.{Tables}
 use Rattle.cpg_scenario.specs.declared.fault.ScenarioFault.{ScenarioFault}
@@ -53,7 +54,8 @@ of_rules g (RuleFault.TooBig e) shows = tt
 of_rules g (RuleFault.BadOrder p) shows = tt
 of_rules g RuleFault.OutOfMemory shows = tt
 
-of_compile : (a : Admission) (fault : CompileFault) → ShowsCompileFault a.graph a.order fault → IsNamed (halt_of_compile a fault)
+of_compile : (a : Admission) (fault : CompileFault) → ShowsCompileFault a.graph a.order fault →
+    IsNamed (halt_of_compile a fault)
 of_compile a (CompileFault.TooWide x) shows = shows.0.wide.within
 of_compile a (CompileFault.Late s p time) shows = room_of a.graph s shows.1.is_excess.least.lawful
 of_compile a CompileFault.OutOfMemory shows = tt
@@ -74,7 +76,8 @@ of_scenario ScenarioFault.OutOfMemory = tt
 
 bytes_named : (g : Option Graph) (k : FileKind) (bytes : Text) (h : Halt) → Refuses g k bytes h → IsNamed h
 bytes_named g GraphFile bytes h (inl faulty) = named_as h _ faulty.halt_is (of_reading faulty.fault)
-bytes_named g GraphFile bytes h (inr none) = let b = none.breaks in named_as h _ b.halt_is (of_rules none.graph b.fault b.shows)
+bytes_named g GraphFile bytes h (inr none) = let b = none.breaks in
+    named_as h _ b.halt_is (of_rules none.graph b.fault b.shows)
 bytes_named g PartFile bytes h faulty = named_as h _ faulty.halt_is (of_reading faulty.fault)
 bytes_named g PackFile bytes h none = named_as h _ none.halt_is tt
 bytes_named (Some g) ScenarioFile bytes h none = named_as h _ none.halt_is (of_scenario none.fault)
@@ -88,10 +91,12 @@ file_named g f fetch h (inr (inl long)) = named_as h _ long.halt_is (long_named 
 file_named g f fetch h (inr (inr (inl refused))) = bytes_named g f.kind fetch.given h refused.refuses
 file_named g f fetch h (inr (inr (inr wanting))) = named_as h Memory wanting.halt_is tt
 
-pub files_named : (g : Option Graph) (files : List File) (past now : List Fetch) (h : Halt) → StopsReading g files past now h → IsNamed h
+pub files_named : (g : Option Graph) (files : List File) (past now : List Fetch) (h : Halt) →
+    StopsReading g files past now h → IsNamed h
 files_named g [] past now h s = absurd s
 files_named g (f ∷ fs) past now h (fetch, inl here) = file_named g f fetch h here.0
-files_named g (f ∷ fs) past now h (fetch, inr (v, read, there)) = files_named (graph_after g v) fs (fetch ∷ past) now h there
+files_named g (f ∷ fs) past now h (fetch, inr (v, read, there)) =
+    files_named (graph_after g v) fs (fetch ∷ past) now h there
 
 compile_named : (a : Admission) (h : Halt) → IsUncompiled a h → IsNamed h
 compile_named a h wrong = named_as h _ wrong.halt_is (of_compile a wrong.fault wrong.shows)
@@ -101,7 +106,10 @@ fault_named a t f (inl broken) =
     let shown = first_broken a.graph a.order t.nodes f column_rules broken in
     let first : IsFirstViolation a.graph a.order t.nodes shown.0 f = shown.1 in
     (first.item, room_of a.graph f.scenario first.least.lawful)
-fault_named a t f (inr heard) = (heard.1.item, subst (HasRoom a.graph) (sym heard.1.scenario) (room_of a.graph (zero_scenario a.graph) (zero_lawful a.graph)))
+fault_named a t f (inr heard) = (
+  heard.1.item,
+  subst (HasRoom a.graph) (sym heard.1.scenario) (room_of a.graph (zero_scenario a.graph) (zero_lawful a.graph)),
+)
 
 verdict_named : (a : Admission) (t : Tables) (h : Halt) → StopsVerdict a t h → IsNamed h
 verdict_named a t h (inl other) = named_as h _ other.halt_is tt

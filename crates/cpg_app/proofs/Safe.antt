@@ -14,7 +14,8 @@ use Rattle.cpg_core.specs.Compilation.{IsCompilation}
 use Rattle.cpg_app.specs.Outputs.{AreSafe}
 
 -- valid tables are safe
-pub valid_are_safe : (g : Graph) → WellFormed g → (nodes : List NodeTable) → HasShape g nodes → IsValid g nodes → AreSafe g nodes
+pub valid_are_safe : (g : Graph) → WellFormed g → (nodes : List NodeTable) → HasShape g nodes → IsValid g nodes →
+    AreSafe g nodes
 valid_are_safe g formed nodes shape valid = record {
   valid = valid;
   correct = valid_tables_are_correct g nodes formed shape valid;
@@ -23,5 +24,6 @@ valid_are_safe g formed nodes shape valid = record {
   planned = valid_tables_end_as_planned g nodes formed shape valid;
 }
 
-pub compilations_are_safe : (g : Graph) → WellFormed g → (urgency : List ℕ) (c : Compiled) → IsCompilation g urgency c → AreSafe g c.built.tables.nodes
+pub compilations_are_safe : (g : Graph) → WellFormed g → (urgency : List ℕ) (c : Compiled) → IsCompilation g urgency c →
+    AreSafe g c.built.tables.nodes
 compilations_are_safe g formed urgency c is = valid_are_safe g formed c.built.tables.nodes is.built.shape is.valid

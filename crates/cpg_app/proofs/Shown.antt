@@ -8,7 +8,8 @@ use Rattle.cpg_words.specs.Parts.{Text}
 use Rattle.cpg_words.specs.Forms.{command_of}
 use Rattle.cpg_words.specs.declared.command.Pair.{Pair}
 use Rattle.cpg_words.specs.declared.command.Command.{Command}
-use Rattle.cpg_words.specs.declared.command.Command.TheVariants.{Show, Compile, Check, Play, Node, Trial, Live, Hyper, Tune, Audit}
+use Rattle.cpg_words.specs.declared.command.Command.TheVariants.{Show, Compile, Check, Play, Node, Trial, Live, Hyper}
+use Rattle.cpg_words.specs.declared.command.Command.TheVariants.{Tune, Audit}
 use Rattle.cpg_base.specs.Graph.{Graph}
 use Rattle.cpg_base.specs.Scenario.{Scenario}
 use Rattle.cpg_base.specs.WellFormed.{WellFormed}
@@ -43,10 +44,12 @@ use Rattle.cpg_app.specs.Causes.{IsNotUnrolled, IsUncompiled, StopsVerdict, Stop
 use Rattle.cpg_app.specs.Outputs.{IsMadeOf, PutsOut, packed, shown}
 use Rattle.cpg_outputs.specs.Told.{Part as TookPart, Untouched}
 use Rattle.cpg_app.specs.Endings.{Ran, EndsBy, EndsWith, Follows, Has, IsPrinted, IsTold, Prints, Stops}
-use Rattle.cpg_app.specs.Lawful.{Asks, AsksForTables, AsksVerdict, IsClosedStream, IsFailed, IsFaultless, IsLawful, IsUnreadStream, IsRefusedAsWide}
+use Rattle.cpg_app.specs.Lawful.{Asks, AsksForTables, AsksVerdict, IsClosedStream, IsFailed, IsFaultless, IsLawful}
+use Rattle.cpg_app.specs.Lawful.{IsUnreadStream, IsRefusedAsWide}
 use Rattle.cpg_app.proofs.Asked.{on_graph, on_judged, on_logged, on_parts, on_played, on_tables, printed, stopped_by}
 use Rattle.cpg_app.proofs.Left.{CheckLeft, CompileLeft, PartsLeft, check_left, compile_left, judged_is, parts_left}
-use Rattle.cpg_app.proofs.Statuses.{late_of, not_three, not_zero, of_files, of_work, read_of, refused_of, unsafe_of, wide_of}
+use Rattle.cpg_app.proofs.Statuses.{late_of, not_three, not_zero, of_files, of_work, read_of, refused_of, unsafe_of}
+use Rattle.cpg_app.proofs.Statuses.{wide_of}
 use Rattle.cpg_app.proofs.Unrolled.{not_both}
 
 -- ---- a stream isn't fetched
@@ -61,14 +64,21 @@ none_is_two e d past is = let l = ap length is in omega (arith, l)
 module _ (r : Ran) where
   -- ---- what is told of an admitted graph, and of tables
 
-  made_here : (a : Admission) → AsksForTables r a → (text : Text) → Prints r text → (spell : Graph → Compiled → Text) × (b : Admission) × AreAlike a b × IsMadeOf b spell text
-  made_here a (graph, inl asks) text p = let q = printed r _ _ asks.has text p in let k = on_graph a q.0 _ q.1 q.2 in (shown, k.0, k.1, k.2)
-  made_here a (graph, inr asks) text p = let q = printed r _ _ asks.has text p in let k = on_graph a q.0 _ q.1 q.2 in (packed, k.0, k.1, k.2)
+  made_here : (a : Admission) → AsksForTables r a → (text : Text) → Prints r text →
+      (spell : Graph → Compiled → Text) × (b : Admission) × AreAlike a b × IsMadeOf b spell text
+  made_here a (graph, inl asks) text p = let q = printed r _ _ asks.has text p in
+      let k = on_graph a q.0 _ q.1 q.2 in
+      (shown, k.0, k.1, k.2)
+  made_here a (graph, inr asks) text p = let q = printed r _ _ asks.has text p in
+      let k = on_graph a q.0 _ q.1 q.2 in
+      (packed, k.0, k.1, k.2)
 
   -- the graph is admitted
   admitted_here : (a : Admission) → AsksForTables r a → IsAdmitted a.graph a.order a.guards
-  admitted_here a (graph, inl asks) = (values_lawful None (files_of (Show graph)) r.shelf.old.history r.shelf.new.history (graph_value a ∷ []) asks.has.reads).0
-  admitted_here a (graph, inr asks) = (values_lawful None (files_of (Compile graph)) r.shelf.old.history r.shelf.new.history (graph_value a ∷ []) asks.has.reads).0
+  admitted_here a (graph, inl asks) = (values_lawful None
+      (files_of (Show graph)) r.shelf.old.history r.shelf.new.history (graph_value a ∷ []) asks.has.reads).0
+  admitted_here a (graph, inr asks) = (values_lawful None
+      (files_of (Compile graph)) r.shelf.old.history r.shelf.new.history (graph_value a ∷ []) asks.has.reads).0
 
   formed : (a : Admission) → AsksForTables r a → WellFormed a.graph
   formed a asks = (admitted_here a asks).well_formed
@@ -77,7 +87,8 @@ module _ (r : Ran) where
   topological a asks = (admitted_here a asks).topological
 
   first_is_topological : (a : Admission) → AsksForTables r a → IsTopological a.graph (first_order a.graph a.order)
-  first_is_topological a asks = let is = admitted_here a asks in first_topological a.graph a.order is.topological is.given
+  first_is_topological a asks = let is = admitted_here a asks in
+      first_topological a.graph a.order is.topological is.given
 
   tables_faultless : (a : Admission) → AsksForTables r a → IsFaultless r
   tables_faultless a (graph, inl asks) = asks.faultless
@@ -101,52 +112,63 @@ module _ (r : Ran) where
 
   -- the tables are lawful
   pub tables_lawful : (a : Admission) (t : Tables) → AsksVerdict r a t → AreLawful t
-  tables_lawful a t (graph, pack, inl asks) = (values_lawful None (files_of (Check graph pack)) r.shelf.old.history r.shelf.new.history (graph_value a ∷ tables_value t ∷ []) asks.has.reads).1.0
+  tables_lawful a t (graph, pack, inl asks) = (values_lawful None (files_of (Check graph pack)) r.shelf.old.history
+      r.shelf.new.history (graph_value a ∷ tables_value t ∷ []) asks.has.reads).1.0
   tables_lawful a t (graph, pack, inr (inl play)) =
       (values_lawful None (files_of (Play graph pack play.scenario play.turns)) r.shelf.old.history r.shelf.new.history
       (graph_value a ∷ tables_value t ∷ played_value play.played ∷ []) play.asks.has.reads).1.0
   tables_lawful a t (graph, pack, inr (inr audit)) =
-      (values_lawful None (files_of (Audit graph pack audit.path)) r.shelf.old.history r.shelf.new.history (graph_value a ∷ tables_value t ∷ log_value audit.log ∷ []) audit.asks.has.reads).1.0
+      (values_lawful None (files_of (Audit graph pack audit.path)) r.shelf.old.history r.shelf.new.history
+      (graph_value a ∷ tables_value t ∷ log_value audit.log ∷ []) audit.asks.has.reads).1.0
 
   -- what was checked, played, or audited by, is valid
-  judged_here : (a : Admission) (t : Tables) → AsksVerdict r a t → (text : Text) → Prints r text → IsHeadFor a.graph t.head × IsValid a.graph t.nodes
+  judged_here : (a : Admission) (t : Tables) → AsksVerdict r a t → (text : Text) → Prints r text →
+      IsHeadFor a.graph t.head × IsValid a.graph t.nodes
   judged_here a t (graph, pack, inl asks) text p =
       let q = printed r _ _ asks.has text p in let k = on_judged a t q.0 _ q.1 q.2 in
       let lawful : AreLawful t = tables_lawful a t (graph, pack, inl asks) in judged_is a k.0 k.1 t lawful k.2.0
   judged_here a t (graph, pack, inr (inl play)) text p =
       let q = printed r _ _ play.asks.has text p in let k = on_played a t play.played q.0 _ q.1 q.2 in
-      let lawful : AreLawful t = tables_lawful a t (graph, pack, inr (inl play)) in judged_is a k.0 k.1 t lawful k.2.judged
+      let lawful : AreLawful t = tables_lawful a t (graph, pack, inr (inl play)) in
+      judged_is a k.0 k.1 t lawful k.2.judged
   judged_here a t (graph, pack, inr (inr audit)) text p =
       let q = printed r _ _ audit.asks.has text p in let k = on_logged a t audit.log q.0 _ q.1 q.2 in
-      let lawful : AreLawful t = tables_lawful a t (graph, pack, inr (inr audit)) in judged_is a k.0 k.1 t lawful k.2.1.judged
+      let lawful : AreLawful t = tables_lawful a t (graph, pack, inr (inr audit)) in
+      judged_is a k.0 k.1 t lawful k.2.1.judged
 
   -- what is left of them where the run stops
-  verdict_left : (a : Admission) (t : Tables) → AsksVerdict r a t → (h : Halt) → Stops r h → (h ≡ Memory) ⊎ CheckLeft a t h
+  verdict_left : (a : Admission) (t : Tables) → AsksVerdict r a t → (h : Halt) → Stops r h →
+      (h ≡ Memory) ⊎ CheckLeft a t h
   verdict_left a t (graph, pack, inl asks) h stops = elim (stopped_by r _ _ asks.has h stops) [
     | inl memory ↦ inl memory
     | inr q ↦
         let k = on_judged a t q.0 (λ b u. StopsVerdict b u h) q.1 q.2 in
-        let lawful : AreLawful t = tables_lawful a t (graph, pack, inl asks) in inr (check_left a k.0 k.1 t lawful h k.2)
+        let lawful : AreLawful t = tables_lawful a t (graph, pack, inl asks) in
+        inr (check_left a k.0 k.1 t lawful h k.2)
   ]
   verdict_left a t (graph, pack, inr (inl play)) h stops = elim (stopped_by r _ _ play.asks.has h stops) [
     | inl memory ↦ inl memory
     | inr q ↦
         let k = on_played a t play.played q.0 (λ b u p. StopsVerdict b u h) q.1 q.2 in
-        let lawful : AreLawful t = tables_lawful a t (graph, pack, inr (inl play)) in inr (check_left a k.0 k.1 t lawful h k.2)
+        let lawful : AreLawful t = tables_lawful a t (graph, pack, inr (inl play)) in
+        inr (check_left a k.0 k.1 t lawful h k.2)
   ]
   verdict_left a t (graph, pack, inr (inr audit)) h stops = elim (stopped_by r _ _ audit.asks.has h stops) [
     | inl memory ↦ inl memory
     | inr q ↦
         let k = on_logged a t audit.log q.0 (λ b u l. StopsVerdict b u h) q.1 q.2 in
-        let lawful : AreLawful t = tables_lawful a t (graph, pack, inr (inr audit)) in inr (check_left a k.0 k.1 t lawful h k.2.1)
+        let lawful : AreLawful t = tables_lawful a t (graph, pack, inr (inr audit)) in
+        inr (check_left a k.0 k.1 t lawful h k.2.1)
   ]
 
   -- ---- a run that follows a stream has no output, and doesn't stop before it
 
   no_output : (f : Follows r) (text : Text) → Prints r text → ⊥
-  no_output f text p = subst (λ (k : Command). PutsOut k p.values text) (same_Some p.command (Live f.pack f.name f.stream) (sym p.has.words ∙ f.words)) p.puts
+  no_output f text p = subst (λ (k : Command). PutsOut k p.values text)
+      (same_Some p.command (Live f.pack f.name f.stream) (sym p.has.words ∙ f.words)) p.puts
 
-  read_one : (f : Follows r) (name : Text) (vs : List Value) → Reads None (file PackFile name ∷ []) r.shelf.old.history r.shelf.new.history vs → ⊥
+  read_one : (f : Follows r) (name : Text) (vs : List Value) →
+      Reads None (file PackFile name ∷ []) r.shelf.old.history r.shelf.new.history vs → ⊥
   read_one f name [] reads = reads
   read_one f name (v ∷ []) reads = one_is_two reads.0 f.fetch f.read r.shelf.old.history (sym reads.2 ∙ f.history)
   read_one f name (v ∷ w ∷ vs) reads = reads.2
@@ -155,7 +177,8 @@ module _ (r : Ran) where
   pub one_file : (f : Follows r) {pack name stream : Text} (vs : List Value) → Has r (Live pack name stream) vs → ⊥
   one_file f {pack = pack} vs has = read_one f pack vs has.reads
 
-  one_stop : (f : Follows r) (h : Halt) → StopsReading None (files_of (Live f.pack f.name f.stream)) r.shelf.old.history r.shelf.new.history h → ⊥
+  one_stop : (f : Follows r) (h : Halt) →
+      StopsReading None (files_of (Live f.pack f.name f.stream)) r.shelf.old.history r.shelf.new.history h → ⊥
   one_stop f h (fetch, inl here) = one_is_two fetch f.fetch f.read r.shelf.old.history (sym here.1 ∙ f.history)
   one_stop f h (fetch, inr there) = there.2
 
@@ -178,7 +201,8 @@ module _ (r : Ran) where
     other_status n e a b = elim with_status [ inl z ↦ a (sym e ∙ z) | inr t ↦ b (sym e ∙ t) ]
 
     with_done : r.status ≡ 0 → ((t : Text) × Prints r t × IsPrinted r t) ⊎ IsClosedStream r
-    with_done zero = elim with.ending [ inl p ↦ inl (text, with.prints, p) | inr c ↦ absurd (let e = c.status in omega arith) ]
+    with_done zero =
+        elim with.ending [ inl p ↦ inl (text, with.prints, p) | inr c ↦ absurd (let e = c.status in omega arith) ]
 
     with_write : r.status ≡ 3 → Rose r.out.before r.out.now ⊎ Rose r.err.before r.err.now
     with_write three = elim with.ending [ inl p ↦ absurd (let e = p.status in omega arith) | inr c ↦ inl c.out.rose ]
@@ -189,24 +213,37 @@ module _ (r : Ran) where
     with_safe : IsFaultless r → (r.status ≡ 0) ⊎ (r.status ≡ 8)
     with_safe faultless = elim with.ending [ inl p ↦ inl p.status | inr c ↦ absurd (faultless.out c.out.rose) ]
 
-    with_wide : (a : Admission) (x : ℕ) → AsksForTables r a → a.graph.order ≡ None → IsWide a.graph (first_order a.graph a.order) x → (r.status ≡ 6) ⊎ (r.status ≡ 8)
+    with_wide : (a : Admission) (x : ℕ) → AsksForTables r a → a.graph.order ≡ None →
+        IsWide a.graph (first_order a.graph a.order) x →
+        (r.status ≡ 6) ⊎ (r.status ≡ 8)
     with_wide a x asks ungiven wide = let made = made_here a asks text with.prints in
-        absurd (moved a made.1 made.2 (λ g o. g.order ≡ None → IsNarrow g (first_order g o)) made.3.compilation.compiled.narrow ungiven x wide)
+        absurd (moved a made.1 made.2
+        (λ g o. g.order ≡ None → IsNarrow g (first_order g o)) made.3.compilation.compiled.narrow ungiven x wide)
 
-    with_late : (a : Admission) → AsksForTables r a → IsLate a.graph a.order → ((r.status ≡ 5) ⊎ (r.status ≡ 8)) ⊎ IsRefusedAsWide r a
+    with_late : (a : Admission) → AsksForTables r a → IsLate a.graph a.order →
+        ((r.status ≡ 5) ⊎ (r.status ≡ 8)) ⊎ IsRefusedAsWide r a
     with_late a asks late = let made = made_here a asks text with.prints in
-        absurd (not_late_and_compiled a.graph (formed a asks) a.order (topological a asks) (first_is_topological a asks) made.3.compiled.order late
+        absurd (not_late_and_compiled a.graph (formed a asks) a.order (topological a asks)
+        (first_is_topological a asks) made.3.compiled.order late
         (moved a made.1 made.2 (λ g o. IsCompiled g o made.3.compiled.order) made.3.compilation.compiled))
 
-    with_nameless : (pack name : Text) (t : Tables) → Asks r (Node pack name) (tables_value t ∷ []) → first_named t.head name ≡ None → (r.status ≡ 4) ⊎ (r.status ≡ 8)
-    with_nameless pack name t asks none = let q = printed r _ _ asks.has text with.prints in let k = on_tables t q.0 _ q.1 q.2 in absurd (none-some k.node (sym none ∙ k.named))
+    with_nameless : (pack name : Text) (t : Tables) → Asks r (Node pack name) (tables_value t ∷ []) →
+        first_named t.head name ≡ None →
+        (r.status ≡ 4) ⊎ (r.status ≡ 8)
+    with_nameless pack name t asks none = let q = printed r _ _ asks.has text with.prints in
+        let k = on_tables t q.0 _ q.1 q.2 in
+        absurd (none-some k.node (sym none ∙ k.named))
 
-    with_apart : (pairs : List Pair) (parts : List Part) (fault : HyperFault) → Asks r (Hyper pairs) (part_values parts) → HavePeriods pairs parts → ShowsUnrolled parts (Err fault) →
+    with_apart : (pairs : List Pair) (parts : List Part) (fault : HyperFault) →
+        Asks r (Hyper pairs) (part_values parts) → HavePeriods pairs parts →
+        ShowsUnrolled parts (Err fault) →
         fault ≢ OutOfMemory → (r.status ≡ 4) ⊎ (r.status ≡ 8)
-    with_apart pairs parts fault asks periods shows other = let q = printed r _ _ asks.has text with.prints in let k = on_parts pairs parts q.0 _ q.1 periods q.2 in
+    with_apart pairs parts fault asks periods shows other = let q = printed r _ _ asks.has text with.prints in
+        let k = on_parts pairs parts q.0 _ q.1 periods q.2 in
         absurd (not_both parts k.0 fault k.1 shows other)
 
-    with_unfollowed : (pack name stream : Text) (t : Tables) → Asks r (Live pack name stream) (tables_value t ∷ []) → (r.status ≡ 4) ⊎ (r.status ≡ 8)
+    with_unfollowed : (pack name stream : Text) (t : Tables) → Asks r (Live pack name stream) (tables_value t ∷ []) →
+        (r.status ≡ 4) ⊎ (r.status ≡ 8)
     with_unfollowed pack name stream t asks = absurd (printed r _ _ asks.has text with.prints).2
 
     pub lawful_with : IsLawful r
@@ -257,7 +294,10 @@ module _ (r : Ran) where
     told_here faultless = elim by.ending [ inl t ↦ t.status | inr m ↦ absurd (faultless.err m.err.rose) ]
 
     words_at : status_of halt ≡ 1 → Stops r halt → command_of r.words ≡ None
-    words_at one (inl words) = elim words.cause [ inl formless ↦ formless.1 | inr memory ↦ absurd (let e = ap status_of memory in omega (arith, one, e)) ]
+    words_at one (inl words) = elim words.cause [
+      | inl formless ↦ formless.1
+      | inr memory ↦ absurd (let e = ap status_of memory in omega (arith, one, e))
+    ]
     words_at one (inr (inl files)) = elim (of_files None (files_of files.command) _ _ halt files.stops) [
       | inl read ↦ absurd (let e = ap status_of read.0 in omega (arith, one, e))
       | inr later ↦ absurd (omega (arith, one, later))
@@ -268,7 +308,8 @@ module _ (r : Ran) where
     ]
 
     formless_at : command_of r.words ≡ None → Stops r halt → (status_of halt ≡ 1) ⊎ (status_of halt ≡ 8)
-    formless_at none (inl words) = elim words.cause [ inl formless ↦ inl (ap status_of formless.0) | inr memory ↦ inr (ap status_of memory) ]
+    formless_at none (inl words) =
+        elim words.cause [ inl formless ↦ inl (ap status_of formless.0) | inr memory ↦ inr (ap status_of memory) ]
     formless_at none (inr (inl files)) = absurd (none-some files.command (sym none ∙ files.words))
     formless_at none (inr (inr work)) = absurd (none-some work.command (sym none ∙ work.has.words))
 
@@ -278,7 +319,8 @@ module _ (r : Ran) where
       | inr memory ↦ absurd (let e = ap status_of memory in omega (arith, two, e))
     ]
     failed_at two (inr (inl files)) = elim (of_files None (files_of files.command) _ _ halt files.stops) [
-      | inl read ↦ let last = read.1 in record { fetch = last.fetch; past = last.past; last = last.last; failed = last.failed }
+      | inl read ↦ let last = read.1 in
+          record { fetch = last.fetch; past = last.past; last = last.last; failed = last.failed }
       | inr later ↦ absurd (omega (arith, two, later))
     ]
     failed_at two (inr (inr work)) = elim work.stops [
@@ -287,20 +329,24 @@ module _ (r : Ran) where
     ]
 
     by_formless : command_of r.words ≡ None → r.status ≢ 3 → (r.status ≡ 1) ⊎ (r.status ≡ 8)
-    by_formless none other = let t = (told_of other).status in elim (formless_at none by.stops) [ inl e ↦ inl (t ∙ e) | inr e ↦ inr (t ∙ e) ]
+    by_formless none other = let t = (told_of other).status in
+        elim (formless_at none by.stops) [ inl e ↦ inl (t ∙ e) | inr e ↦ inr (t ∙ e) ]
 
     by_read : r.status ≡ 2 → IsFailed r × ((Stops r Read × IsTold r Read) ⊎ IsUnreadStream r)
     by_read two =
         let at = status_at 2 two (λ e. omega arith) in
-        let is = read_of halt at in
-        (failed_at at by.stops, inl (subst (Stops r) is by.stops, subst (IsTold r) is (told_at 2 two (λ e. omega arith))))
+        let is = read_of halt at in (
+          failed_at at by.stops,
+          inl (subst (Stops r) is by.stops, subst (IsTold r) is (told_at 2 two (λ e. omega arith))),
+        )
 
     sound_at : Stops r halt → AreSound r.shelf.old.history r.shelf.new.history ⊎ (halt ≡ Read)
     sound_at (inl words) = inl (sound_none r.shelf.old.history r.shelf.new.history words.unread)
     sound_at (inr (inl files)) = stops_sound None (files_of files.command) _ _ halt files.stops
     sound_at (inr (inr work)) = inl (reads_sound None (files_of work.command) _ _ work.values work.has.reads)
 
-    by_unread : AreSound r.shelf.old.history r.shelf.new.history ⊎ ((r.status ≡ 2) ⊎ ((r.status ≡ 3) × TookPart r.err (line_of Read)))
+    by_unread : AreSound r.shelf.old.history r.shelf.new.history ⊎
+        ((r.status ≡ 2) ⊎ ((r.status ≡ 3) × TookPart r.err (line_of Read)))
     by_unread = elim (sound_at by.stops) [
       | inl sound ↦ inl sound
       | inr read ↦ elim by.ending [
@@ -320,10 +366,18 @@ module _ (r : Ran) where
         let is = refused_of halt (status_at 4 four (λ e. omega arith)) in
         (is.0, subst (Stops r) is.1 by.stops, subst (IsTold r) is.1 (told_at 4 four (λ e. omega arith)))
 
-    by_tardy : r.status ≡ 5 → (a : Admission) × (s : Scenario) × (p : ℕ) × (finish : ℕ) × Stops r (Late a s p finish) × IsTold r (Late a s p finish)
+    by_tardy : r.status ≡ 5 →
+        (a : Admission) × (s : Scenario) × (p : ℕ) × (finish : ℕ) × Stops r (Late a s p finish) ×
+        IsTold r (Late a s p finish)
     by_tardy five =
-        let is = late_of halt (status_at 5 five (λ e. omega arith)) in
-        (is.0, is.1, is.2, is.3, subst (Stops r) is.4 by.stops, subst (IsTold r) is.4 (told_at 5 five (λ e. omega arith)))
+        let is = late_of halt (status_at 5 five (λ e. omega arith)) in (
+          is.0,
+          is.1,
+          is.2,
+          is.3,
+          subst (Stops r) is.4 by.stops,
+          subst (IsTold r) is.4 (told_at 5 five (λ e. omega arith)),
+        )
 
     by_width : r.status ≡ 6 → (a : Admission) × (x : ℕ) × Stops r (TooWide a x) × IsTold r (TooWide a x)
     by_width six =
@@ -342,20 +396,23 @@ module _ (r : Ran) where
       here : r.status ≡ status_of halt
       here = told_here (tables_faultless a asks)
 
-      by_wide : (x : ℕ) → a.graph.order ≡ None → IsWide a.graph (first_order a.graph a.order) x → (r.status ≡ 6) ⊎ (r.status ≡ 8)
+      by_wide : (x : ℕ) → a.graph.order ≡ None → IsWide a.graph (first_order a.graph a.order) x →
+          (r.status ≡ 6) ⊎ (r.status ≡ 8)
       by_wide x ungiven wide = elim (tables_left a asks halt by.stops) [
         | inl e ↦ inr (here ∙ e)
         | inr (inl late) ↦ absurd (late.1.narrow ungiven x wide)
         | inr (inr shows) ↦ inl (here ∙ shows.0)
       ]
 
-      refused_as_wide : (status_of halt ≡ 6) × ((x : ℕ) × IsWide a.graph (first_order a.graph a.order) x) → IsRefusedAsWide r a
+      refused_as_wide : (status_of halt ≡ 6) × ((x : ℕ) × IsWide a.graph (first_order a.graph a.order) x) →
+          IsRefusedAsWide r a
       refused_as_wide w = record { status = here ∙ w.0; item = w.1.0; wide = w.1.1 }
 
       by_made : IsTimely a.graph a.order → ((r.status ≡ 0) ⊎ (r.status ≡ 8)) ⊎ IsRefusedAsWide r a
       by_made timely = elim (tables_left a asks halt by.stops) [
         | inl e ↦ inl (inr (here ∙ e))
-        | inr (inl late) ↦ absurd (not_timely_and_late a.graph (formed a asks) a.order (topological a asks) (first_is_topological a asks) timely late.1)
+        | inr (inl late) ↦ absurd (not_timely_and_late a.graph (formed a asks) a.order (topological a asks)
+            (first_is_topological a asks) timely late.1)
         | inr (inr wide) ↦ inr (refused_as_wide wide)
       ]
 
@@ -391,60 +448,82 @@ module _ (r : Ran) where
         | inr (inr broken) ↦ inl (here_too ∙ broken.0)
       ]
 
-    by_named : (pack name : Text) (t : Tables) (node : ℕ) → Asks r (Node pack name) (tables_value t ∷ []) → first_named t.head name ≡ Some node → (r.status ≡ 0) ⊎ (r.status ≡ 8)
+    by_named : (pack name : Text) (t : Tables) (node : ℕ) → Asks r (Node pack name) (tables_value t ∷ []) →
+        first_named t.head name ≡ Some node →
+        (r.status ≡ 0) ⊎ (r.status ≡ 8)
     by_named pack name t node asks named = elim (stopped_by r _ _ asks.has halt by.stops) [
       | inl memory ↦ inr (told_here asks.faultless ∙ ap status_of memory)
       | inr q ↦ let k = on_tables t q.0 _ q.1 q.2 in absurd (none-some node (sym k.none ∙ named))
     ]
 
-    by_nameless : (pack name : Text) (t : Tables) → Asks r (Node pack name) (tables_value t ∷ []) → first_named t.head name ≡ None → (r.status ≡ 4) ⊎ (r.status ≡ 8)
+    by_nameless : (pack name : Text) (t : Tables) → Asks r (Node pack name) (tables_value t ∷ []) →
+        first_named t.head name ≡ None →
+        (r.status ≡ 4) ⊎ (r.status ≡ 8)
     by_nameless pack name t asks none = elim (stopped_by r _ _ asks.has halt by.stops) [
       | inl memory ↦ inr (told_here asks.faultless ∙ ap status_of memory)
       | inr q ↦ let k = on_tables t q.0 _ q.1 q.2 in inl (told_here asks.faultless ∙ ap status_of k.halt_is)
     ]
 
-    by_unfollowed : (pack name stream : Text) (t : Tables) → Asks r (Live pack name stream) (tables_value t ∷ []) → first_named t.head name ≡ None → (r.status ≡ 4) ⊎ (r.status ≡ 8)
+    by_unfollowed : (pack name stream : Text) (t : Tables) → Asks r (Live pack name stream) (tables_value t ∷ []) →
+        first_named t.head name ≡ None →
+        (r.status ≡ 4) ⊎ (r.status ≡ 8)
     by_unfollowed pack name stream t asks none = elim (stopped_by r _ _ asks.has halt by.stops) [
       | inl memory ↦ inr (told_here asks.faultless ∙ ap status_of memory)
       | inr q ↦ let k = on_tables t q.0 _ q.1 q.2 in inl (told_here asks.faultless ∙ ap status_of k.halt_is)
     ]
 
-    by_tried : (number : ℕ) → command_of r.words ≡ Some (Trial number) → (r.status ≡ 0) ⊎ ((r.status ≡ 3) ⊎ (r.status ≡ 8))
+    by_tried : (number : ℕ) → command_of r.words ≡ Some (Trial number) →
+        (r.status ≡ 0) ⊎ ((r.status ≡ 3) ⊎ (r.status ≡ 8))
     by_tried number asks = elim by.ending [
       | inl told ↦ inr (inr (told.status ∙ ap status_of (trial_memory number asks by.stops)))
       | inr muted ↦ inr (inl muted.status)
     ]
       where
         trial_memory : (number : ℕ) → command_of r.words ≡ Some (Trial number) → Stops r halt → halt ≡ Memory
-        trial_memory number asks (inl words) = elim words.cause [ inl formless ↦ absurd (none-some (Trial number) (sym formless.1 ∙ asks)) | inr memory ↦ memory ]
+        trial_memory number asks (inl words) = elim words.cause [
+          | inl formless ↦ absurd (none-some (Trial number) (sym formless.1 ∙ asks))
+          | inr memory ↦ memory
+        ]
         trial_memory number asks (inr (inl files)) =
-            absurd (subst (λ (k : Command). StopsReading None (files_of k) r.shelf.old.history r.shelf.new.history halt) (same_Some files.command (Trial number) (sym files.words ∙ asks)) files.stops)
+            absurd (subst (λ (k : Command). StopsReading None (files_of k) r.shelf.old.history r.shelf.new.history halt)
+            (same_Some files.command (Trial number) (sym files.words ∙ asks)) files.stops)
         trial_memory number asks (inr (inr work)) = elim work.stops [
-          | inl stops ↦ absurd (subst (λ (k : Command). StopsWork k work.values halt) (same_Some work.command (Trial number) (sym work.has.words ∙ asks)) stops)
+          | inl stops ↦ absurd (subst (λ (k : Command). StopsWork k work.values halt)
+              (same_Some work.command (Trial number) (sym work.has.words ∙ asks)) stops)
           | inr memory ↦ memory
         ]
 
-    by_tuned : (graph : Text) (a : Admission) → Asks r (Tune graph) (graph_value a ∷ []) → (r.status ≡ 0) ⊎ (r.status ≡ 8)
+    by_tuned : (graph : Text) (a : Admission) → Asks r (Tune graph) (graph_value a ∷ []) →
+        (r.status ≡ 0) ⊎ (r.status ≡ 8)
     by_tuned graph a asks = elim (stopped_by r _ _ asks.has halt by.stops) [
       | inl memory ↦ inr (told_here asks.faultless ∙ ap status_of memory)
       | inr q ↦ absurd q.2
     ]
 
-    left_parts : (pairs : List Pair) (parts : List Part) → Asks r (Hyper pairs) (part_values parts) → HavePeriods pairs parts → PartsLeft parts halt
+    left_parts : (pairs : List Pair) (parts : List Part) → Asks r (Hyper pairs) (part_values parts) →
+        HavePeriods pairs parts →
+        PartsLeft parts halt
     left_parts pairs parts asks periods = elim (stopped_by r _ _ asks.has halt by.stops) [
       | inl memory ↦ inl (ap status_of memory)
       | inr q ↦ parts_left parts halt (on_parts pairs parts q.0 (λ ps. IsNotUnrolled ps halt) q.1 periods q.2)
     ]
 
-    by_unrolled : (pairs : List Pair) (parts : List Part) (g : Graph) → Asks r (Hyper pairs) (part_values parts) → HavePeriods pairs parts → ShowsUnrolled parts (Ok g) → (r.status ≡ 0) ⊎
+    by_unrolled : (pairs : List Pair) (parts : List Part) (g : Graph) → Asks r (Hyper pairs) (part_values parts) →
+        HavePeriods pairs parts → ShowsUnrolled parts (Ok g) →
+        (r.status ≡ 0) ⊎
         (r.status ≡ 8)
     by_unrolled pairs parts g asks periods made = elim (left_parts pairs parts asks periods) [
       | inl e ↦ inr (told_here asks.faultless ∙ e)
       | inr refused ↦ absurd (not_both parts g refused.1.0 made refused.1.1 refused.1.2)
     ]
 
-    by_apart : (pairs : List Pair) (parts : List Part) → Asks r (Hyper pairs) (part_values parts) → HavePeriods pairs parts → (r.status ≡ 4) ⊎ (r.status ≡ 8)
-    by_apart pairs parts asks periods = elim (left_parts pairs parts asks periods) [ inl e ↦ inr (told_here asks.faultless ∙ e) | inr refused ↦ inl (told_here asks.faultless ∙ refused.0) ]
+    by_apart : (pairs : List Pair) (parts : List Part) → Asks r (Hyper pairs) (part_values parts) →
+        HavePeriods pairs parts →
+        (r.status ≡ 4) ⊎ (r.status ≡ 8)
+    by_apart pairs parts asks periods = elim (left_parts pairs parts asks periods) [
+      | inl e ↦ inr (told_here asks.faultless ∙ e)
+      | inr refused ↦ inl (told_here asks.faultless ∙ refused.0)
+    ]
 
     pub lawful_by : IsLawful r
     lawful_by = record {

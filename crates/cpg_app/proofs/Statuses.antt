@@ -6,7 +6,8 @@ use Rattle.cpg_base.specs.Scenario.{Scenario}
 use Rattle.cpg_history.specs.Fetch.{Fetch}
 use Rattle.cpg_words.specs.Parts.{Text}
 use Rattle.cpg_words.specs.declared.command.Command.{Command}
-use Rattle.cpg_words.specs.declared.command.Command.TheVariants.{Show, Compile, Check, Play, Node, Trial, Live, Hyper, Tune, Audit}
+use Rattle.cpg_words.specs.declared.command.Command.TheVariants.{Show, Compile, Check, Play, Node, Trial, Live, Hyper}
+use Rattle.cpg_words.specs.declared.command.Command.TheVariants.{Tune, Audit}
 use Rattle.cpg_reader.specs.declared.place.ReadFault.{ReadFault}
 use Rattle.cpg_table.specs.declared.fault.Fault.{Fault}
 use Rattle.cpg_table.specs.Lawful.{Tables}
@@ -57,7 +58,8 @@ refused_of (TooWide a x) four = absurd (omega arith)
 refused_of (Unsafe a f) four = absurd (omega arith)
 refused_of Memory four = absurd (omega arith)
 
-pub late_of : (h : Halt) → status_of h ≡ 5 → (a : Admission) × (s : Scenario) × (p : ℕ) × (finish : ℕ) × (h ≡ Late a s p finish)
+pub late_of : (h : Halt) → status_of h ≡ 5 →
+    (a : Admission) × (s : Scenario) × (p : ℕ) × (finish : ℕ) × (h ≡ Late a s p finish)
 late_of Words five = absurd (omega arith)
 late_of Read five = absurd (omega arith)
 late_of (Refused r) five = absurd (omega arith)
@@ -139,7 +141,8 @@ of_bytes None ScenarioFile bytes h none = absurd none
 of_bytes None LogFile bytes h none = absurd none
 
 -- the fetch failed, or a later status comes
-of_file : (g : Option Graph) (f : File) (fetch : Fetch) (h : Halt) → StopsAt g f fetch h → ((h ≡ Read) × (fetch.failed ≡ true)) ⊎ (4 ≤ status_of h)
+of_file : (g : Option Graph) (f : File) (fetch : Fetch) (h : Halt) → StopsAt g f fetch h →
+    ((h ≡ Read) × (fetch.failed ≡ true)) ⊎ (4 ≤ status_of h)
 of_file g f fetch h (inl unread) = inl (unread.halt_is, unread.failed)
 of_file g f fetch h (inr (inl long)) = inr (as_halt h _ long.halt_is (omega arith))
 of_file g f fetch h (inr (inr (inl refused))) = inr (of_bytes g f.kind fetch.given h refused.refuses)
@@ -152,7 +155,9 @@ pub record FailsLast (now : List Fetch) : Type 0 where
   pub last : now ≡ fetch ∷ past
   pub failed : fetch.failed ≡ true
 
-pub of_files : (g : Option Graph) (files : List File) (past now : List Fetch) (h : Halt) → StopsReading g files past now h → ((h ≡ Read) × FailsLast now) ⊎ (4 ≤ status_of h)
+pub of_files : (g : Option Graph) (files : List File) (past now : List Fetch) (h : Halt) →
+    StopsReading g files past now h →
+    ((h ≡ Read) × FailsLast now) ⊎ (4 ≤ status_of h)
 of_files g [] past now h s = absurd s
 of_files g (f ∷ fs) past now h (fetch, inl here) = elim (of_file g f fetch h here.0) [
   | inl failed ↦ inl (failed.0, record { fetch = fetch; past = past; last = here.1; failed = failed.1 })

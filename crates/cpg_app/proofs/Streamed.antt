@@ -1,5 +1,6 @@
 -- A run that follows a stream keeps what each status says.
-use Rattle.std.proofs.Common.{ℕ, ◌≡◌, ◌≢◌, ◌∙◌, Bool, true, false, true≢false, List, [], ◌∷◌, Option, Some, None, refl, sym, ap, subst, arith, inl, inr}
+use Rattle.std.proofs.Common.{ℕ, ◌≡◌, ◌≢◌, ◌∙◌, Bool, true, false, true≢false, List, [], ◌∷◌, Option, Some, None, refl}
+use Rattle.std.proofs.Common.{sym, ap, subst, arith, inl, inr}
 use Rattle.std.specs.Prelude.{◌⊎◌}
 use Rattle.std.proofs.lemmas.Bool.{cases_eq}
 use Rattle.std.proofs.lemmas.Option.{none-some, same_Some}
@@ -8,7 +9,8 @@ use Rattle.cpg_history.specs.Fetch.{Fetch}
 use Rattle.cpg_words.specs.Parts.{Text}
 use Rattle.cpg_words.specs.Forms.{command_of}
 use Rattle.cpg_words.specs.declared.command.Command.{Command}
-use Rattle.cpg_words.specs.declared.command.Command.TheVariants.{Show, Compile, Check, Play, Node, Trial, Live, Hyper, Tune, Audit}
+use Rattle.cpg_words.specs.declared.command.Command.TheVariants.{Show, Compile, Check, Play, Node, Trial, Live, Hyper}
+use Rattle.cpg_words.specs.declared.command.Command.TheVariants.{Tune, Audit}
 use Rattle.cpg_rules.specs.Admission.{Admission}
 use Rattle.cpg_head.specs.Head.{Head}
 use Rattle.cpg_table.specs.Lawful.{Tables}
@@ -27,7 +29,8 @@ use Rattle.cpg_app.specs.Causes.{first_named}
 use Rattle.cpg_outputs.specs.Told.{Part, Sent, SinkSeen, Untouched, Whole}
 use Rattle.cpg_app.specs.Endings.{Ran, EndsAtClose, EndsInStream, Follows, stream_of, table_of}
 use Rattle.cpg_outputs.specs.Said.{IsSaid}
-use Rattle.cpg_app.specs.Lawful.{AsksForTables, AsksVerdict, IsFailed, IsFaultless, IsLawful, IsRefusedStream, IsUnreadStream, status_of_end}
+use Rattle.cpg_app.specs.Lawful.{AsksForTables, AsksVerdict, IsFailed, IsFaultless, IsLawful, IsRefusedStream}
+use Rattle.cpg_app.specs.Lawful.{IsUnreadStream, status_of_end}
 use Rattle.cpg_app.proofs.Shown.{one_file}
 
 -- ---- words
@@ -51,8 +54,10 @@ module _ (r : Ran) (f : Follows r) where
 
   not_judged : (a : Admission) (t : Tables) → AsksVerdict r a t → ⊥
   not_judged a t (graph, pack, inl asks) = other_words (Some (Check graph pack)) refl asks.has.words
-  not_judged a t (graph, pack, inr (inl play)) = other_words (Some (Play graph pack play.scenario play.turns)) refl play.asks.has.words
-  not_judged a t (graph, pack, inr (inr audit)) = other_words (Some (Audit graph pack audit.path)) refl audit.asks.has.words
+  not_judged a t (graph, pack, inr (inl play)) =
+      other_words (Some (Play graph pack play.scenario play.turns)) refl play.asks.has.words
+  not_judged a t (graph, pack, inr (inr audit)) =
+      other_words (Some (Audit graph pack audit.path)) refl audit.asks.has.words
 
 -- ---- one stream
 
@@ -84,21 +89,24 @@ module _ (r : Ran) (f g : Follows r) where
   same_name = ap name_in (sym f.words ∙ g.words)
 
   same_node : g.node ≡ f.node
-  same_node = same_Some g.node f.node (sym g.named ∙ (ap (λ (t : Tables). first_named t.head g.name) same_tables ∙ (ap (first_named f.tables.head) (sym same_name) ∙ f.named)))
+  same_node = same_Some g.node f.node (sym g.named ∙ (ap (λ (t : Tables). first_named t.head g.name) same_tables
+      ∙ (ap (first_named f.tables.head) (sym same_name) ∙ f.named)))
 
   pub same_table : table_of g ≡ table_of f
   same_table = ap (λ (t : Tables). table_at t.nodes g.node) same_tables ∙ ap (table_at f.tables.nodes) same_node
 
   -- how it ends is one thing
   pub same_end : stream_end (table_of g) g.fetch.given ≡ stream_end (table_of f) f.fetch.given
-  same_end = ap (λ (e : Fetch). stream_end (table_of g) e.given) (sym same_fetch) ∙ ap (λ t. stream_end t f.fetch.given) same_table
+  same_end = ap (λ (e : Fetch). stream_end (table_of g) e.given) (sym same_fetch)
+      ∙ ap (λ t. stream_end t f.fetch.given) same_table
 
 -- if its stream didn't fail, no fetch did
 sound_all : (r : Ran) (f : Follows r) → f.fetch.failed ≡ false → AreSound r.shelf.old.history r.shelf.new.history
 sound_all r f sound =
     let past = f.read ∷ r.shelf.old.history in
     let here = sound_none (f.fetch ∷ past) r.shelf.new.history f.history in
-    sound_on f.read r.shelf.old.history r.shelf.new.history f.spelled.whole.sound (sound_on f.fetch past r.shelf.new.history sound here)
+    sound_on f.read r.shelf.old.history r.shelf.new.history f.spelled.whole.sound
+    (sound_on f.fetch past r.shelf.new.history sound here)
 
 -- the lines that a stream wrote are what `out` took
 wrote_all : (r : Ran) (f : Follows r) (lines : Text) → AreWritten (stream_of r f) lines → Whole r.out lines
@@ -119,9 +127,11 @@ module _ (r : Ran) (ends : EndsAtClose r) where
   pub lawful_closed : IsLawful r
   lawful_closed = record {
     ends = inr (inr (inl ends));
-    done = λ zero. inr (record { follows = ends.follows; lines = ends.completes.0; closed = ends.completes.1; out = wrote_all r closed_stream ends.completes.0 ends.completes.2; err = ends.err });
+    done = λ zero.
+        inr (record { follows = ends.follows; lines = ends.completes.0; closed = ends.completes.1; out = wrote_all r closed_stream ends.completes.0 ends.completes.2; err = ends.err });
     words = λ one. absurd (zero_alone 1 one (λ e. omega arith));
-    formless = λ none other. absurd (none-some (Live closed_stream.pack closed_stream.name closed_stream.stream) (sym none ∙ closed_stream.words));
+    formless = λ none other. absurd
+        (none-some (Live closed_stream.pack closed_stream.name closed_stream.stream) (sym none ∙ closed_stream.words));
     read = λ two. absurd (zero_alone 2 two (λ e. omega arith));
     unread = inl (sound_all r closed_stream ends.completes.1.sound);
     write = λ three. absurd (zero_alone 3 three (λ e. omega arith));
@@ -137,12 +147,16 @@ module _ (r : Ran) (ends : EndsAtClose r) where
     other = λ a t asks differs. absurd (not_judged r closed_stream a t asks);
     safe = λ a t asks head valid. absurd (not_judged r closed_stream a t asks);
     broken = λ a t asks head broken. absurd (not_judged r closed_stream a t asks);
-    named = λ pack name t node asks named. absurd (other_words r closed_stream (Some (Node pack name)) refl asks.has.words);
-    nameless = λ pack name t asks none. absurd (other_words r closed_stream (Some (Node pack name)) refl asks.has.words);
+    named =
+        λ pack name t node asks named. absurd (other_words r closed_stream (Some (Node pack name)) refl asks.has.words);
+    nameless =
+        λ pack name t asks none. absurd (other_words r closed_stream (Some (Node pack name)) refl asks.has.words);
     tried = λ number asks. absurd (other_words r closed_stream (Some (Trial number)) refl asks);
     tuned = λ graph a asks. absurd (other_words r closed_stream (Some (Tune graph)) refl asks.has.words);
-    unrolled = λ pairs parts g asks periods shows. absurd (other_words r closed_stream (Some (Hyper pairs)) refl asks.has.words);
-    apart = λ pairs parts fault asks periods shows other. absurd (other_words r closed_stream (Some (Hyper pairs)) refl asks.has.words);
+    unrolled = λ pairs parts g asks periods shows.
+        absurd (other_words r closed_stream (Some (Hyper pairs)) refl asks.has.words);
+    apart = λ pairs parts fault asks periods shows other.
+        absurd (other_words r closed_stream (Some (Hyper pairs)) refl asks.has.words);
     followed = λ g faultless sound. closes g;
     unfollowed = λ pack name stream t asks none. absurd (one_file r closed_stream (tables_value t ∷ []) asks.has);
   }
@@ -150,13 +164,17 @@ module _ (r : Ran) (ends : EndsAtClose r) where
 -- ---- not followed to its close
 
 -- under another status than that of a fault, the wanted one
-status_sent : (sink : SinkSeen) (status wanted n : ℕ) (bytes : Text) → Sent sink status wanted bytes → status ≡ n → n ≢ 3 → wanted ≡ n
+status_sent : (sink : SinkSeen) (status wanted n : ℕ) (bytes : Text) → Sent sink status wanted bytes → status ≡ n →
+    n ≢ 3 → wanted ≡ n
 status_sent sink status wanted n bytes sent e other = sym (sent.whole (λ three. other (sym e ∙ three))).0 ∙ e
 
-said_status : (r : Ran) (broken : Broken) → IsSaid r.err r.status broken → (r.status ≡ 2) ⊎ ((r.status ≡ 3) ⊎ (r.status ≡ 4))
-said_status r Broken.Shelf said = elim (cases_eq r.status 3) [ inl three ↦ inr (inl three) | inr other ↦ inl (said.whole other).0 ]
+said_status : (r : Ran) (broken : Broken) → IsSaid r.err r.status broken →
+    (r.status ≡ 2) ⊎ ((r.status ≡ 3) ⊎ (r.status ≡ 4))
+said_status r Broken.Shelf said =
+    elim (cases_eq r.status 3) [ inl three ↦ inr (inl three) | inr other ↦ inl (said.whole other).0 ]
 said_status r Broken.Sink said = inr (inl said.0)
-said_status r (Broken.Refused fault) said = elim (cases_eq r.status 3) [ inl three ↦ inr (inl three) | inr other ↦ inr (inr (said.whole other).0) ]
+said_status r (Broken.Refused fault) said =
+    elim (cases_eq r.status 3) [ inl three ↦ inr (inl three) | inr other ↦ inr (inr (said.whole other).0) ]
 
 module _ (r : Ran) (ends : EndsInStream r) where
   abbrev stream : Follows r
@@ -176,48 +194,66 @@ module _ (r : Ran) (ends : EndsInStream r) where
     | inr (inr four) ↦ c (sym e ∙ four)
   ]
 
-  write_rose : (broken : Broken) → Breaks head table (stream_of r stream) broken → IsSaid r.err r.status broken → r.status ≡ 3 → Rose r.out.before r.out.now ⊎ Rose r.err.before r.err.now
+  write_rose : (broken : Broken) → Breaks head table (stream_of r stream) broken → IsSaid r.err r.status broken →
+      r.status ≡ 3 →
+      Rose r.out.before r.out.now ⊎ Rose r.err.before r.err.now
   write_rose Broken.Shelf breaks said three = inr (said.part three).rose
   write_rose Broken.Sink breaks said three = inl breaks.0
   write_rose (Broken.Refused fault) breaks said three = inr (said.part three).rose
 
-  faultless_stream : (broken : Broken) → Breaks head table (stream_of r stream) broken → IsSaid r.err r.status broken → r.status ≢ 3 →
+  faultless_stream : (broken : Broken) → Breaks head table (stream_of r stream) broken → IsSaid r.err r.status broken →
+      r.status ≢ 3 →
       (r.out.now ≡ r.out.before) × (r.err.now ≡ r.err.before)
   faultless_stream Broken.Shelf breaks said other = (breaks.2.faultless, (said.whole other).1.faultless)
   faultless_stream Broken.Sink breaks said other = absurd (other said.0)
   faultless_stream (Broken.Refused fault) breaks said other = (breaks.2.faultless, (said.whole other).1.faultless)
 
-  refused_stream : (broken : Broken) → Breaks head table (stream_of r stream) broken → IsSaid r.err r.status broken → r.status ≡ 4 → IsRefusedStream r
-  refused_stream Broken.Shelf breaks said four = absurd (let two = status_sent r.err r.status 2 4 (line_of Read) said four (λ e. omega arith) in omega arith)
+  refused_stream : (broken : Broken) → Breaks head table (stream_of r stream) broken → IsSaid r.err r.status broken →
+      r.status ≡ 4 →
+      IsRefusedStream r
+  refused_stream Broken.Shelf breaks said four =
+      absurd (let two = status_sent r.err r.status 2 4 (line_of Read) said four (λ e. omega arith) in omega arith)
   refused_stream Broken.Sink breaks said four = absurd (let three = said.0 in omega arith)
   refused_stream (Broken.Refused fault) breaks said four = record
       { follows = stream; fault = fault; lines = breaks.0; refused = breaks.1; out = wrote_all r stream breaks.0 breaks.2; err = (said.whole (λ three. omega arith)).1 }
 
-  unread_stream : (broken : Broken) → Breaks head table (stream_of r stream) broken → IsSaid r.err r.status broken → r.status ≡ 2 → IsUnreadStream r
+  unread_stream : (broken : Broken) → Breaks head table (stream_of r stream) broken → IsSaid r.err r.status broken →
+      r.status ≡ 2 →
+      IsUnreadStream r
   unread_stream Broken.Shelf breaks said two = record
       { follows = stream; lines = breaks.0; lawful = breaks.1; out = wrote_all r stream breaks.0 breaks.2; err = (said.whole (λ three. omega arith)).1 }
   unread_stream Broken.Sink breaks said two = absurd (let three = said.0 in omega arith)
-  unread_stream (Broken.Refused fault) breaks said two = absurd (let four = status_sent r.err r.status 4 2 (fault_line fault) said two (λ e. omega arith) in omega arith)
+  unread_stream (Broken.Refused fault) breaks said two =
+      absurd (let four = status_sent r.err r.status 4 2 (fault_line fault) said two (λ e. omega arith) in omega arith)
 
-  sound_stream : (broken : Broken) → Breaks head table (stream_of r stream) broken → IsSaid r.err r.status broken → AreSound r.shelf.old.history r.shelf.new.history ⊎
+  sound_stream : (broken : Broken) → Breaks head table (stream_of r stream) broken → IsSaid r.err r.status broken →
+      AreSound r.shelf.old.history r.shelf.new.history ⊎
       ((r.status ≡ 2) ⊎ ((r.status ≡ 3) × Part r.err (line_of Read)))
-  sound_stream Broken.Shelf breaks said = elim (cases_eq r.status 3) [ inl three ↦ inr (inr (three, said.part three)) | inr other ↦ inr (inl (said.whole other).0) ]
+  sound_stream Broken.Shelf breaks said = elim (cases_eq r.status 3) [
+    | inl three ↦ inr (inr (three, said.part three))
+    | inr other ↦ inr (inl (said.whole other).0)
+  ]
   sound_stream Broken.Sink breaks said = inl (sound_all r stream breaks.1.sound)
   sound_stream (Broken.Refused fault) breaks said = inl (sound_all r stream breaks.1.sound)
 
   failed_stream : IsUnreadStream r → IsFailed r
-  failed_stream unread = let f = unread.follows in record { fetch = f.fetch; past = f.read ∷ r.shelf.old.history; last = f.history; failed = unread.lawful.failed }
+  failed_stream unread = let f = unread.follows in
+      record { fetch = f.fetch; past = f.read ∷ r.shelf.old.history; last = f.history; failed = unread.lawful.failed }
 
-  silent : r.status ≢ 0 → r.status ≢ 3 → Untouched r.out ⊎ (((r.status ≡ 2) × IsUnreadStream r) ⊎ ((r.status ≡ 4) × IsRefusedStream r))
+  silent : r.status ≢ 0 → r.status ≢ 3 →
+      Untouched r.out ⊎ (((r.status ≡ 2) × IsUnreadStream r) ⊎ ((r.status ≡ 4) × IsRefusedStream r))
   silent zero other = elim (said_status r ends.broken ends.said) [
     | inl two ↦ inr (inl (two, unread_stream ends.broken ends.breaks ends.said two))
     | inr (inl three) ↦ absurd (other three)
     | inr (inr four) ↦ inr (inr (four, refused_stream ends.broken ends.breaks ends.said four))
   ]
 
-  ended : (g : Follows r) → IsFaultless r → g.fetch.failed ≡ false → (broken : Broken) → Breaks head table (stream_of r stream) broken → IsSaid r.err r.status broken →
+  ended : (g : Follows r) → IsFaultless r → g.fetch.failed ≡ false → (broken : Broken) →
+      Breaks head table (stream_of r stream) broken →
+      IsSaid r.err r.status broken →
       r.status ≡ status_of_end (stream_end (table_of g) g.fetch.given)
-  ended g faultless sound Broken.Shelf breaks said = absurd (true≢false (sym breaks.1.failed ∙ (ap (λ (e : Fetch). e.failed) (same_fetch r stream g) ∙ sound)))
+  ended g faultless sound Broken.Shelf breaks said =
+      absurd (true≢false (sym breaks.1.failed ∙ (ap (λ (e : Fetch). e.failed) (same_fetch r stream g) ∙ sound)))
   ended g faultless sound Broken.Sink breaks said = absurd (faultless.out breaks.0)
   ended g faultless sound (Broken.Refused fault) breaks said = elim (cases_eq r.status 3) [
     | inl three ↦ absurd (faultless.err (said.part three).rose)
@@ -230,7 +266,8 @@ module _ (r : Ran) (ends : EndsInStream r) where
     done = λ zero. absurd (other_status 0 zero (λ e. omega arith) (λ e. omega arith) (λ e. omega arith));
     words = λ one. absurd (other_status 1 one (λ e. omega arith) (λ e. omega arith) (λ e. omega arith));
     formless = λ none other. absurd (none-some (Live stream.pack stream.name stream.stream) (sym none ∙ stream.words));
-    read = λ two. let unread = unread_stream ends.broken ends.breaks ends.said two in (failed_stream unread, inr unread);
+    read =
+        λ two. let unread = unread_stream ends.broken ends.breaks ends.said two in (failed_stream unread, inr unread);
     unread = sound_stream ends.broken ends.breaks ends.said;
     write = write_rose ends.broken ends.breaks ends.said;
     unmet = faultless_stream ends.broken ends.breaks ends.said;
@@ -249,8 +286,10 @@ module _ (r : Ran) (ends : EndsInStream r) where
     nameless = λ pack name t asks none. absurd (other_words r stream (Some (Node pack name)) refl asks.has.words);
     tried = λ number asks. absurd (other_words r stream (Some (Trial number)) refl asks);
     tuned = λ graph a asks. absurd (other_words r stream (Some (Tune graph)) refl asks.has.words);
-    unrolled = λ pairs parts g asks periods shows. absurd (other_words r stream (Some (Hyper pairs)) refl asks.has.words);
-    apart = λ pairs parts fault asks periods shows other. absurd (other_words r stream (Some (Hyper pairs)) refl asks.has.words);
+    unrolled =
+        λ pairs parts g asks periods shows. absurd (other_words r stream (Some (Hyper pairs)) refl asks.has.words);
+    apart = λ pairs parts fault asks periods shows other.
+        absurd (other_words r stream (Some (Hyper pairs)) refl asks.has.words);
     followed = λ g faultless sound. ended g faultless sound ends.broken ends.breaks ends.said;
     unfollowed = λ pack name path t asks none. absurd (one_file r stream (tables_value t ∷ []) asks.has);
   }

@@ -16,9 +16,11 @@ use Rattle.cpg_outputs.specs.Tunes.{IsNamedRow}
 row_named : (g : Graph) (faults : ℕ) (judged : Judged) → IsJudged (row_graph g faults) judged → IsNamedRow g judged
 row_named g faults (Worst finish) is = tt
 row_named g faults (Late finish) is = tt
-row_named g faults (Wide item) is = subst (λ n. item < n) (items_same g (best_parts g) faults (best_parts_of g).one_each) is.answer.wide.within
+row_named g faults (Wide item) is =
+    subst (λ n. item < n) (items_same g (best_parts g) faults (best_parts_of g).one_each) is.answer.wide.within
 
 pub rows_named : (g : Graph) (t : Tuning) → IsTuning IsJudged g t → All (IsNamedRow g) t.rows
 rows_named g t is k d l =
     let nine = is.rows.long in
-    subst (IsNamedRow g) (get_or_default t.rows k _ d l) (row_named g k (row_at t.rows k) (is.rows.each k (omega (arith, l, nine))))
+    subst (IsNamedRow g) (get_or_default t.rows k _ d l)
+    (row_named g k (row_at t.rows k) (is.rows.each k (omega (arith, l, nine))))

@@ -8,7 +8,8 @@ use Rattle.cpg_hyper.specs.declared.part.Part.{Part}
 use Rattle.cpg_hyper.specs.declared.part.HyperFault.{HyperFault}
 use Rattle.cpg_hyper.specs.declared.part.HyperFault.TheVariants.{OutOfMemory}
 use Rattle.cpg_hyper.specs.Hyperperiod.{IsHyperperiod}
-use Rattle.cpg_hyper.specs.Refusals.{Exceeds, FailsFirst, HasFewEnough, HasShortNames, HoldsOfEach, IsAlike, IsInRange, FitsPeriod, GivesNoOrder, ShowsUnrolled}
+use Rattle.cpg_hyper.specs.Refusals.{Exceeds, FailsFirst, HasFewEnough, HasShortNames, HoldsOfEach, IsAlike, IsInRange}
+use Rattle.cpg_hyper.specs.Refusals.{FitsPeriod, GivesNoOrder, ShowsUnrolled}
 use Rattle.cpg_hyper.specs.Unrolled.{first_graph, unrolled}
 
 none_fails : (P : ℕ → Part → Type 0) (parts : List Part) (p : ℕ) → HoldsOfEach P parts → FailsFirst P parts p → ⊥
@@ -26,16 +27,23 @@ enough What.Conditions g over few = let l = few.conditions in let m = over.2 in 
 one_hyperperiod : (parts : List Part) (n m : ℕ) → IsHyperperiod parts n → IsHyperperiod parts m → n ≡ m
 one_hyperperiod parts n m a b = dvd_antisymm (a.least m b.common) (b.least n a.common)
 
-pub not_both : (parts : List Part) (g : Graph) (fault : HyperFault) → ShowsUnrolled parts (Ok g) → ShowsUnrolled parts (Err fault) → fault ≢ OutOfMemory → ⊥
-not_both parts g (HyperFault.Range p) made refused other = none_fails (λ p part. IsInRange part) parts p made.1.fitting.ranges refused
-not_both parts g (HyperFault.Differ p) made refused other = none_fails (λ p part. IsAlike (first_graph parts) part) parts p made.1.fitting.alike refused.1
-not_both parts g (HyperFault.Over p) made refused other = none_fails (λ p part. FitsPeriod part) parts p made.1.fitting.fitting refused.1
-not_both parts g HyperFault.Period made refused other = let l = refused.1 made.0 made.1.hyperperiod in let s = made.1.short in omega (arith, l, s)
+pub not_both : (parts : List Part) (g : Graph) (fault : HyperFault) → ShowsUnrolled parts (Ok g) →
+    ShowsUnrolled parts (Err fault) → fault ≢ OutOfMemory → ⊥
+not_both parts g (HyperFault.Range p) made refused other =
+    none_fails (λ p part. IsInRange part) parts p made.1.fitting.ranges refused
+not_both parts g (HyperFault.Differ p) made refused other =
+    none_fails (λ p part. IsAlike (first_graph parts) part) parts p made.1.fitting.alike refused.1
+not_both parts g (HyperFault.Over p) made refused other =
+    none_fails (λ p part. FitsPeriod part) parts p made.1.fitting.fitting refused.1
+not_both parts g HyperFault.Period made refused other = let l = refused.1 made.0 made.1.hyperperiod in
+    let s = made.1.short in
+    omega (arith, l, s)
 not_both parts g (HyperFault.Count what) made refused other =
     let same = one_hyperperiod parts refused.0 made.0 refused.1.hyperperiod made.1.hyperperiod in
     enough what (unrolled made.0 parts) (subst (λ n. Exceeds what (unrolled n parts)) same refused.2) made.2
 not_both parts g (HyperFault.LongName p) made refused other =
     let same = one_hyperperiod parts refused.0 made.0 refused.1.hyperperiod made.1.hyperperiod in
     none_fails (HasShortNames made.0) parts p made.3 (subst (λ n. FailsFirst (HasShortNames n) parts p) same refused.3)
-not_both parts g (HyperFault.Order p) made refused other = none_fails (λ q part. GivesNoOrder part) parts p made.4 refused.4
+not_both parts g (HyperFault.Order p) made refused other =
+    none_fails (λ q part. GivesNoOrder part) parts p made.4 refused.4
 not_both parts g HyperFault.OutOfMemory made refused other = other refl

@@ -3,7 +3,8 @@ use Rattle.std.proofs.Common.{ℕ, ◌≡◌, List, [], ◌∷◌, refl, sym, su
 use Rattle.std.specs.Prelude.{Result, Ok, Err, IfOk, IfErr, string_bytes}
 use Rattle.cpg_words.specs.Parts.{Text}
 use Rattle.cpg_words.specs.declared.command.Command.{Command}
-use Rattle.cpg_words.specs.declared.command.Command.TheVariants.{Show, Compile, Check, Play, Node, Trial, Live, Hyper, Tune, Audit}
+use Rattle.cpg_words.specs.declared.command.Command.TheVariants.{Show, Compile, Check, Play, Node, Trial, Live, Hyper}
+use Rattle.cpg_words.specs.declared.command.Command.TheVariants.{Tune, Audit}
 use Rattle.cpg_rules.specs.Admission.{Admission}
 use Rattle.cpg_table.specs.Lawful.{Tables}
 use Rattle.cpg_codec.specs.Spelling.{spelling}
@@ -21,7 +22,8 @@ use Rattle.cpg_show.specs.NodeText.{node_text}
 use Rattle.cpg_app.specs.declared.output.Output.{Output}
 use Rattle.cpg_app.specs.declared.output.Output.TheVariants.{Lines, Table as Shown, NodeTable as OfNode, Pack, Stream}
 use Rattle.cpg_app.specs.Causes.{IsNotUnrolled, IsUncompiled, OrMemory, StopsNaming, StopsVerdict, StopsWork}
-use Rattle.cpg_app.specs.Outputs.{Answers, IsAuditedText, IsFollower, IsMadeOf, IsNodeText, IsPlayedText, IsSafeText, IsTrialText, IsUnrolledText, Opens, Puts, PutsOut, packed, shown, shown_by}
+use Rattle.cpg_app.specs.Outputs.{Answers, IsAuditedText, IsFollower, IsMadeOf, IsNodeText, IsPlayedText, IsSafeText}
+use Rattle.cpg_app.specs.Outputs.{IsTrialText, IsUnrolledText, Opens, Puts, PutsOut, packed, shown, shown_by}
 use Rattle.cpg_app.specs.Tunes.{IsTuningText}
 
 -- ---- answers
@@ -49,34 +51,55 @@ module _ (c : Command) (vs : List Value) (r : Result Output Halt) where
   puts : {P Q : Text → Type 0} → ((text : Text) → P text → Q text) → IfOk r (λ o. Puts o P) → IfOk r (λ o. Puts o Q)
   puts f = if_ok r (λ o. put_on o f)
 
-  pub of_show : (a : Admission) → AreInputs c vs (Inputs.Graph a Purpose.Show) → IfOk r (λ o. Puts o (IsMadeOf a shown)) → IfOk r (Answers c vs)
+  pub of_show : (a : Admission) → AreInputs c vs (Inputs.Graph a Purpose.Show) →
+      IfOk r (λ o. Puts o (IsMadeOf a shown)) →
+      IfOk r (Answers c vs)
   of_show a (graph, e, is) ok = known (Show graph) e (puts (λ text made. (a, is, made)) ok)
 
-  pub of_compile : (a : Admission) → AreInputs c vs (Inputs.Graph a Purpose.Compile) → IfOk r (λ o. Puts o (IsMadeOf a packed)) → IfOk r (Answers c vs)
+  pub of_compile : (a : Admission) → AreInputs c vs (Inputs.Graph a Purpose.Compile) →
+      IfOk r (λ o. Puts o (IsMadeOf a packed)) →
+      IfOk r (Answers c vs)
   of_compile a (graph, e, is) ok = known (Compile graph) e (puts (λ text made. (a, is, made)) ok)
 
-  pub of_tune : (a : Admission) → AreInputs c vs (Inputs.Graph a Purpose.Tune) → IfOk r (λ o. Puts o (IsTuningText a.graph)) → IfOk r (Answers c vs)
+  pub of_tune : (a : Admission) → AreInputs c vs (Inputs.Graph a Purpose.Tune) →
+      IfOk r (λ o. Puts o (IsTuningText a.graph)) →
+      IfOk r (Answers c vs)
   of_tune a (graph, e, is) ok = known (Tune graph) e (puts (λ text made. (a, is, made)) ok)
 
-  pub of_check : (a : Admission) (t : Tables) → AreInputs c vs (Inputs.Check a t) → IfOk r (λ o. Puts o (IsSafeText a t)) → IfOk r (Answers c vs)
+  pub of_check : (a : Admission) (t : Tables) → AreInputs c vs (Inputs.Check a t) →
+      IfOk r (λ o. Puts o (IsSafeText a t)) →
+      IfOk r (Answers c vs)
   of_check a t (graph, pack, e, is) ok = known (Check graph pack) e (puts (λ text made. (a, t, is, made)) ok)
 
-  pub of_play : (a : Admission) (t : Tables) (p : Played) (turns : ℕ) → AreInputs c vs (Inputs.Play a t p turns) → IfOk r (λ o. Puts o (IsPlayedText a t p turns)) → IfOk r (Answers c vs)
-  of_play a t p turns (graph, pack, scenario, e, is) ok = known (Play graph pack scenario turns) e (puts (λ text made. (a, t, p, is, made)) ok)
+  pub of_play : (a : Admission) (t : Tables) (p : Played) (turns : ℕ) → AreInputs c vs (Inputs.Play a t p turns) →
+      IfOk r (λ o. Puts o (IsPlayedText a t p turns)) →
+      IfOk r (Answers c vs)
+  of_play a t p turns (graph, pack, scenario, e, is) ok =
+      known (Play graph pack scenario turns) e (puts (λ text made. (a, t, p, is, made)) ok)
 
-  pub of_audit : (a : Admission) (t : Tables) (l : Log) → AreInputs c vs (Inputs.Audit a t l) → IfOk r (λ o. Puts o (IsAuditedText a t l)) → IfOk r (Answers c vs)
-  of_audit a t l (graph, pack, log, e, is) ok = known (Audit graph pack log) e (puts (λ text made. (a, t, l, is, made)) ok)
+  pub of_audit : (a : Admission) (t : Tables) (l : Log) → AreInputs c vs (Inputs.Audit a t l) →
+      IfOk r (λ o. Puts o (IsAuditedText a t l)) →
+      IfOk r (Answers c vs)
+  of_audit a t l (graph, pack, log, e, is) ok =
+      known (Audit graph pack log) e (puts (λ text made. (a, t, l, is, made)) ok)
 
-  pub of_node : (t : Tables) (name : Text) → AreInputs c vs (Inputs.Node t name) → IfOk r (λ o. Puts o (IsNodeText t name)) → IfOk r (Answers c vs)
+  pub of_node : (t : Tables) (name : Text) → AreInputs c vs (Inputs.Node t name) →
+      IfOk r (λ o. Puts o (IsNodeText t name)) →
+      IfOk r (Answers c vs)
   of_node t name (pack, e, is) ok = known (Node pack name) e (puts (λ text made. (t, is, made)) ok)
 
-  pub of_live : (t : Tables) (name stream : Text) → AreInputs c vs (Inputs.Live t name stream) → IfOk r (Opens t name stream) → IfOk r (Answers c vs)
+  pub of_live : (t : Tables) (name stream : Text) → AreInputs c vs (Inputs.Live t name stream) →
+      IfOk r (Opens t name stream) →
+      IfOk r (Answers c vs)
   of_live t name stream (pack, e, is) ok = known (Live pack name stream) e (if_ok r (λ o opens. (t, is, opens)) ok)
 
-  pub of_hyper : (parts : List Part) → AreInputs c vs (Inputs.Hyper parts) → IfOk r (λ o. Puts o (IsUnrolledText parts)) → IfOk r (Answers c vs)
+  pub of_hyper : (parts : List Part) → AreInputs c vs (Inputs.Hyper parts) →
+      IfOk r (λ o. Puts o (IsUnrolledText parts)) →
+      IfOk r (Answers c vs)
   of_hyper parts (pairs, e, is, periods) ok = known (Hyper pairs) e (puts (λ text made. (parts, is, periods, made)) ok)
 
-  pub of_trial : (number : ℕ) → AreInputs c vs (Inputs.Trial number) → IfOk r (λ o. Puts o (IsTrialText number)) → IfOk r (Answers c vs)
+  pub of_trial : (number : ℕ) → AreInputs c vs (Inputs.Trial number) → IfOk r (λ o. Puts o (IsTrialText number)) →
+      IfOk r (Answers c vs)
   of_trial number (e, is) ok = known (Trial number) e ok
 
   -- ---- halts
@@ -91,33 +114,49 @@ module _ (c : Command) (vs : List Value) (r : Result Output Halt) where
       go h (inl p) = inl (f h p)
       go h (inr memory) = inr memory
 
-  pub stops_show : (a : Admission) → AreInputs c vs (Inputs.Graph a Purpose.Show) → IfErr r (IsUncompiled a) → IfErr r (OrMemory (StopsWork c vs))
+  pub stops_show : (a : Admission) → AreInputs c vs (Inputs.Graph a Purpose.Show) → IfErr r (IsUncompiled a) →
+      IfErr r (OrMemory (StopsWork c vs))
   stops_show a (graph, e, is) err = stop_as (Show graph) e (if_err r (λ h wrong. inl (a, is, wrong)) err)
 
-  pub stops_compile : (a : Admission) → AreInputs c vs (Inputs.Graph a Purpose.Compile) → IfErr r (IsUncompiled a) → IfErr r (OrMemory (StopsWork c vs))
+  pub stops_compile : (a : Admission) → AreInputs c vs (Inputs.Graph a Purpose.Compile) → IfErr r (IsUncompiled a) →
+      IfErr r (OrMemory (StopsWork c vs))
   stops_compile a (graph, e, is) err = stop_as (Compile graph) e (if_err r (λ h wrong. inl (a, is, wrong)) err)
 
   -- out of memory alone
   pub stops_memory : IfErr r (λ h. h ≡ Memory) → IfErr r (OrMemory (StopsWork c vs))
   stops_memory err = if_err r (λ h memory. inr memory) err
 
-  pub stops_check : (a : Admission) (t : Tables) → AreInputs c vs (Inputs.Check a t) → IfErr r (OrMemory (StopsVerdict a t)) → IfErr r (OrMemory (StopsWork c vs))
+  pub stops_check : (a : Admission) (t : Tables) → AreInputs c vs (Inputs.Check a t) →
+      IfErr r (OrMemory (StopsVerdict a t)) →
+      IfErr r (OrMemory (StopsWork c vs))
   stops_check a t (graph, pack, e, is) err = stop_as (Check graph pack) e (stops (λ h wrong. (a, t, is, wrong)) err)
 
-  pub stops_play : (a : Admission) (t : Tables) (p : Played) (turns : ℕ) → AreInputs c vs (Inputs.Play a t p turns) → IfErr r (OrMemory (StopsVerdict a t)) → IfErr r (OrMemory (StopsWork c vs))
-  stops_play a t p turns (graph, pack, scenario, e, is) err = stop_as (Play graph pack scenario turns) e (stops (λ h wrong. (a, t, p, is, wrong)) err)
+  pub stops_play : (a : Admission) (t : Tables) (p : Played) (turns : ℕ) → AreInputs c vs (Inputs.Play a t p turns) →
+      IfErr r (OrMemory (StopsVerdict a t)) →
+      IfErr r (OrMemory (StopsWork c vs))
+  stops_play a t p turns (graph, pack, scenario, e, is) err =
+      stop_as (Play graph pack scenario turns) e (stops (λ h wrong. (a, t, p, is, wrong)) err)
 
-  pub stops_audit : (a : Admission) (t : Tables) (l : Log) → AreInputs c vs (Inputs.Audit a t l) → IfErr r (OrMemory (StopsVerdict a t)) → IfErr r (OrMemory (StopsWork c vs))
-  stops_audit a t l (graph, pack, log, e, is) err = stop_as (Audit graph pack log) e (stops (λ h wrong. (a, t, l, is, wrong)) err)
+  pub stops_audit : (a : Admission) (t : Tables) (l : Log) → AreInputs c vs (Inputs.Audit a t l) →
+      IfErr r (OrMemory (StopsVerdict a t)) →
+      IfErr r (OrMemory (StopsWork c vs))
+  stops_audit a t l (graph, pack, log, e, is) err =
+      stop_as (Audit graph pack log) e (stops (λ h wrong. (a, t, l, is, wrong)) err)
 
-  pub stops_node : (t : Tables) (name : Text) → AreInputs c vs (Inputs.Node t name) → IfErr r (OrMemory (StopsNaming t name)) → IfErr r (OrMemory (StopsWork c vs))
+  pub stops_node : (t : Tables) (name : Text) → AreInputs c vs (Inputs.Node t name) →
+      IfErr r (OrMemory (StopsNaming t name)) →
+      IfErr r (OrMemory (StopsWork c vs))
   stops_node t name (pack, e, is) err = stop_as (Node pack name) e (stops (λ h wrong. (t, is, wrong)) err)
 
-  pub stops_live : (t : Tables) (name stream : Text) → AreInputs c vs (Inputs.Live t name stream) → IfErr r (OrMemory (StopsNaming t name)) → IfErr r (OrMemory (StopsWork c vs))
+  pub stops_live : (t : Tables) (name stream : Text) → AreInputs c vs (Inputs.Live t name stream) →
+      IfErr r (OrMemory (StopsNaming t name)) →
+      IfErr r (OrMemory (StopsWork c vs))
   stops_live t name stream (pack, e, is) err = stop_as (Live pack name stream) e (stops (λ h wrong. (t, is, wrong)) err)
 
-  pub stops_hyper : (parts : List Part) → AreInputs c vs (Inputs.Hyper parts) → IfErr r (IsNotUnrolled parts) → IfErr r (OrMemory (StopsWork c vs))
-  stops_hyper parts (pairs, e, is, periods) err = stop_as (Hyper pairs) e (if_err r (λ h wrong. inl (parts, is, periods, wrong)) err)
+  pub stops_hyper : (parts : List Part) → AreInputs c vs (Inputs.Hyper parts) → IfErr r (IsNotUnrolled parts) →
+      IfErr r (OrMemory (StopsWork c vs))
+  stops_hyper parts (pairs, e, is, periods) err =
+      stop_as (Hyper pairs) e (if_err r (λ h wrong. inl (parts, is, periods, wrong)) err)
 
 -- ---- what an answer is of
 
@@ -156,7 +195,8 @@ pub record IsLive (c : Command) (vs : List Value) (f : Follower) (path : Text) :
   pub said : vs ≡ tables_value tables ∷ []
   pub follower : IsFollower tables name f
 
-pub live_of : (c : Command) (vs : List Value) (f : Follower) (path : Text) → Answers c vs (Stream f path) → IsLive c vs f path
+pub live_of : (c : Command) (vs : List Value) (f : Follower) (path : Text) → Answers c vs (Stream f path) →
+    IsLive c vs f path
 live_of (Show graph) vs f path answers = absurd answers
 live_of (Compile graph) vs f path answers = absurd answers
 live_of (Check graph pack) vs f path answers = absurd answers
@@ -164,7 +204,14 @@ live_of (Play graph pack scenario turns) vs f path answers = absurd answers
 live_of (Node pack name) vs f path answers = absurd answers
 live_of (Trial number) vs f path answers = absurd answers
 live_of (Live pack name stream) vs f path (t, is, opens) =
-    record { pack = pack; name = name; command = subst (λ p. Live pack name stream ≡ Live pack name p) (sym opens.1) refl; tables = t; said = is; follower = opens.0 }
+    record {
+      pack = pack;
+      name = name;
+      command = subst (λ p. Live pack name stream ≡ Live pack name p) (sym opens.1) refl;
+      tables = t;
+      said = is;
+      follower = opens.0;
+    }
 live_of (Hyper pairs) vs f path answers = absurd answers
 live_of (Tune graph) vs f path answers = absurd answers
 live_of (Audit graph pack log) vs f path answers = absurd answers

@@ -11,23 +11,33 @@ use Rattle.cpg_refusal.specs.Lines.{line_of, status_of}
 use Rattle.cpg_outputs.specs.Told.{SinkSeen, Sent, Part, Untouched, IsWritten, sent}
 use Rattle.cpg_app.specs.Endings.{Ran, IsTold, IsMuted}
 
-pub stopped : (r : Ran) (h : Halt) → Untouched r.out → Sent r.err r.status (status_of h) (line_of h) → IsTold r h ⊎ IsMuted r h
+pub stopped : (r : Ran) (h : Halt) → Untouched r.out → Sent r.err r.status (status_of h) (line_of h) →
+    IsTold r h ⊎ IsMuted r h
 stopped r h silent sent = elim (cases_eq r.status 3) [
   | inl three ↦ inr (record { status = three; out = silent; err = sent.part three })
   | inr other ↦ inl (record { status = (sent.whole other).0; out = silent; err = (sent.whole other).1 })
 ]
 
-pub cut_of : (sink : SinkSeen) (bytes : List ℕ) (fault : WriteFault) → fault ≡ WriteFault.Failed → IsWritten sink (Err fault) bytes → Part sink bytes
+pub cut_of : (sink : SinkSeen) (bytes : List ℕ) (fault : WriteFault) → fault ≡ WriteFault.Failed →
+    IsWritten sink (Err fault) bytes → Part sink bytes
 cut_of sink bytes fault is written = subst (λ f. IsWritten sink (Err f) bytes) is written
 
-pub none_of : (sink : SinkSeen) (bytes : List ℕ) (fault : WriteFault) → fault ≡ WriteFault.OutOfMemory → IsWritten sink (Err fault) bytes → Untouched sink
+pub none_of : (sink : SinkSeen) (bytes : List ℕ) (fault : WriteFault) → fault ≡ WriteFault.OutOfMemory →
+    IsWritten sink (Err fault) bytes → Untouched sink
 none_of sink bytes fault is written = subst (λ f. IsWritten sink (Err f) bytes) is written
 
 -- a pack was written
-pub packed : (old new : SinkState) (bytes : List ℕ) (result : Result Unit WriteFault) → OnOk result (Took old.taken new.taken bytes) → OnOk result (new.faults ≡ old.faults) →
+pub packed : (old new : SinkState) (bytes : List ℕ) (result : Result Unit WriteFault) →
+    OnOk result (Took old.taken new.taken bytes) →
+    OnOk result (new.faults ≡ old.faults) →
     (result ≡ Err WriteFault.Failed → TookPrefix old.taken new.taken bytes) →
-    (result ≡ Err WriteFault.Failed → Rose old.faults new.faults) → (result ≡ Err WriteFault.OutOfMemory → new ≡ old) → IsWritten (sent old new) result bytes
+    (result ≡ Err WriteFault.Failed → Rose old.faults new.faults) → (result ≡ Err WriteFault.OutOfMemory → new ≡ old) →
+    IsWritten (sent old new) result bytes
 packed old new bytes (Ok done) whole kept part cause same = record { faultless = kept; taken = whole }
-packed old new bytes (Err WriteFault.Failed) whole kept part cause same = record { rose = cause refl; prefix = part refl }
+packed old new bytes (Err WriteFault.Failed) whole kept part cause same =
+    record { rose = cause refl; prefix = part refl }
 packed old new bytes (Err WriteFault.OutOfMemory) whole kept part cause same =
-    record { faultless = ap (λ (s : SinkState). s.faults) (same refl); taken = ap (λ (s : SinkState). s.taken) (same refl) }
+    record {
+      faultless = ap (λ (s : SinkState). s.faults) (same refl);
+      taken = ap (λ (s : SinkState). s.taken) (same refl);
+    }

@@ -1,5 +1,5 @@
--- How a run ends: either its output or its line is taken whole, or a sink meets a fault. A run that follows a stream has
--- endings of its own.
+-- How a run ends: either its output or its line is taken whole, or a sink meets a fault. A run that follows a stream
+-- has endings of its own.
 use Rattle.std.specs.Prelude.{ℕ, ◌≡◌, ◌⊎◌, List, ◌∷◌, Some, None, All}
 use Rattle.cpg_history.specs.Fetch.{Fetch}
 use Rattle.cpg_io.specs.State.{ShelfState}
@@ -127,8 +127,8 @@ pub record EndsBy (r : Ran) (halt : Halt) : Type 0 where
   pub stops : Stops r halt
   pub ending : IsTold r halt ⊎ IsMuted r halt
 
--- A run in which a node follows a stream: the first node of the given name in the tables of a pack. The pack was read, then the
--- stream was fetched, and nothing else was.
+-- A run in which a node follows a stream: the first node of the given name in the tables of a pack. The pack was read,
+-- then the stream was fetched, and nothing else was.
 pub record Follows (r : Ran) : Type 0 where
   pub pack : Text
   pub name : Text

@@ -54,31 +54,37 @@ pub record IsTaken (g : Graph) (pack : Text) : Type 0 where
   -- A fetch that gave the whole pack is read as its tables. It stops no run unless memory runs out.
   pub read : (o : Option Graph) (fetch : Fetch) → GaveAll fetch pack → (t : Tables) ×
       IsRead o (file PackFile fetch.name) fetch (tables_value t) × (pack ≡ spelling t)
-  pub unstopped : (o : Option Graph) (fetch : Fetch) (halt : Halt) → GaveAll fetch pack → StopsAt o (file PackFile fetch.name) fetch halt → halt ≡ Memory
-  -- With a file that says the graph, the pack is found safe, played for each scenario file of the graph, and used to audit each
-  -- log of the graph.
-  pub judged : (r : Ran) (a : Admission) (t : Tables) → IsLawful r → a.graph ≡ g → pack ≡ spelling t → AsksVerdict r a t → EndsWell r
+  pub unstopped : (o : Option Graph) (fetch : Fetch) (halt : Halt) → GaveAll fetch pack →
+      StopsAt o (file PackFile fetch.name) fetch halt → halt ≡ Memory
+  -- With a file that says the graph, the pack is found safe, played for each scenario file of the graph, and used to
+  -- audit each log of the graph.
+  pub judged : (r : Ran) (a : Admission) (t : Tables) → IsLawful r → a.graph ≡ g → pack ≡ spelling t →
+      AsksVerdict r a t → EndsWell r
   -- the table of each of its nodes is printed
-  pub printed : (r : Ran) (name : Text) (t : Tables) (node : ℕ) → IsLawful r → pack ≡ spelling t → node < length g.nodes →
+  pub printed : (r : Ran) (name : Text) (t : Tables) (node : ℕ) → IsLawful r → pack ≡ spelling t →
+      node < length g.nodes →
       Asks r (Node name (get_or g.nodes node [])) (tables_value t ∷ []) → EndsWell r
 
--- If memory suffices, the other commands accept the pack that `compile` wrote for a graph. With that graph, `check` finds it
--- safe, `play` plays it for each scenario file of the graph, and `audit` audits each log of the graph by it. `node` prints the
--- table of each of its nodes.
+-- If memory suffices, the other commands accept the pack that `compile` wrote for a graph. With that graph, `check`
+-- finds it safe, `play` plays it for each scenario file of the graph, and `audit` audits each log of the graph by it.
+-- `node` prints the table of each of its nodes.
 abbrev pub PacksAreTaken : Type 0
 PacksAreTaken = (r : Ran) (g : Graph) (pack : Text) → HasPacked r g pack → IsTaken g pack
 
 -- each command that reads packs rejects these bytes, at the place where they end
 pub record IsCutShort (bytes : Text) : Type 0 where
   -- a fetch that gave all of the bytes isn't read as any value
-  pub unread : (o : Option Graph) (fetch : Fetch) (value : Value) → GaveAll fetch bytes → IsRead o (file PackFile fetch.name) fetch value → ⊥
+  pub unread : (o : Option Graph) (fetch : Fetch) (value : Value) → GaveAll fetch bytes →
+      IsRead o (file PackFile fetch.name) fetch value → ⊥
   -- If it stops a run, the bytes are rejected as no pack from the place where they end, or memory runs out.
-  pub stops : (o : Option Graph) (fetch : Fetch) (halt : Halt) → GaveAll fetch bytes → StopsAt o (file PackFile fetch.name) fetch halt →
+  pub stops : (o : Option Graph) (fetch : Fetch) (halt : Halt) → GaveAll fetch bytes →
+      StopsAt o (file PackFile fetch.name) fetch halt →
       (halt ≡ Refused (BadPack (length bytes))) ⊎ (halt ≡ Memory)
 
 -- If what `compile` wrote is cut short anywhere, each command that reads packs rejects it, at the place where it ends.
 abbrev pub FrontsAreRefused : Type 0
-FrontsAreRefused = (r : Ran) (g : Graph) (pack : Text) (n : ℕ) → HasPacked r g pack → n < length pack → IsCutShort (take n pack)
+FrontsAreRefused =
+    (r : Ran) (g : Graph) (pack : Text) (n : ℕ) → HasPacked r g pack → n < length pack → IsCutShort (take n pack)
 
 -- A text and a pack come from two compilations of one admitted graph. These ask the same in every scenario.
 pub record AreOfOneGraph (g : Graph) (text pack : Text) : Type 0 where
@@ -91,4 +97,5 @@ pub record AreOfOneGraph (g : Graph) (text pack : Text) : Type 0 where
 
 -- what `show` printed and what `compile` wrote for a graph belong together
 abbrev pub ShowAndCompileAgree : Type 0
-ShowAndCompileAgree = (r q : Ran) (g : Graph) (text pack : Text) → HasShown r g text → HasPacked q g pack → AreOfOneGraph g text pack
+ShowAndCompileAgree =
+    (r q : Ran) (g : Graph) (text pack : Text) → HasShown r g text → HasPacked q g pack → AreOfOneGraph g text pack

@@ -8,7 +8,8 @@ use Rattle.cpg_words.specs.Parts.{Text}
 use Rattle.cpg_words.specs.Forms.{command_of}
 use Rattle.cpg_words.specs.declared.command.Pair.{Pair}
 use Rattle.cpg_words.specs.declared.command.Command.{Command}
-use Rattle.cpg_words.specs.declared.command.Command.TheVariants.{Show, Compile, Check, Play, Node, Trial, Live, Hyper, Tune, Audit}
+use Rattle.cpg_words.specs.declared.command.Command.TheVariants.{Show, Compile, Check, Play, Node, Trial, Live, Hyper}
+use Rattle.cpg_words.specs.declared.command.Command.TheVariants.{Tune, Audit}
 use Rattle.cpg_rules.specs.Admission.{Admission}
 use Rattle.cpg_reach.specs.Wide.{IsWide}
 use Rattle.cpg_order.specs.Urgency.{first_order}
@@ -47,10 +48,11 @@ pub record Asks (r : Ran) (command : Command) (values : List Value) : Type 0 whe
 
 -- the run asks for the tables of this graph, as a text or as a pack
 abbrev pub AsksForTables : Ran → Admission → Type 0
-AsksForTables r a = (graph : Text) × (Asks r (Show graph) (graph_value a ∷ []) ⊎ Asks r (Compile graph) (graph_value a ∷ []))
+AsksForTables r a =
+    (graph : Text) × (Asks r (Show graph) (graph_value a ∷ []) ⊎ Asks r (Compile graph) (graph_value a ∷ []))
 
--- The runs that judge tables for a graph. They play the tables (`AsksPlay`), audit a log by them (`AsksAudit`), or do either of
--- these or check the tables (`AsksVerdict`).
+-- The runs that judge tables for a graph. They play the tables (`AsksPlay`), audit a log by them (`AsksAudit`), or do
+-- either of these or check the tables (`AsksVerdict`).
 pub record AsksPlay (r : Ran) (graph pack : Text) (a : Admission) (t : Tables) : Type 0 where
   pub scenario : Text
   pub turns : ℕ
@@ -115,58 +117,78 @@ pub record IsLawful (r : Ran) : Type 0 where
   pub ends : Ends r
   -- 0: the output was written whole, or a stream was followed to its close
   pub done : r.status ≡ 0 → ((text : Text) × Prints r text × IsPrinted r text) ⊎ IsClosedStream r
-  -- 1: the words form no command. Conversely, words that form none end with 1, unless `err` meets a fault or memory runs out.
+  -- 1: the words form no command. Conversely, words that form none end with 1, unless `err` meets a fault or memory
+  -- runs out.
   pub words : r.status ≡ 1 → command_of r.words ≡ None
   pub formless : command_of r.words ≡ None → r.status ≢ 3 → (r.status ≡ 1) ⊎ (r.status ≡ 8)
   -- 2: the shelf met a fault at the last file; every earlier file was read, and none was rejected
   pub read : r.status ≡ 2 → IsFailed r × ((Stops r Read × IsTold r Read) ⊎ IsUnreadStream r)
   -- a fetch that failed ends the run with 2, or with 3 if `err` met a fault in the line that says so
-  pub unread : AreSound r.shelf.old.history r.shelf.new.history ⊎ ((r.status ≡ 2) ⊎ ((r.status ≡ 3) × TookPart r.err (line_of Read)))
+  pub unread : AreSound r.shelf.old.history r.shelf.new.history ⊎
+      ((r.status ≡ 2) ⊎ ((r.status ≡ 3) × TookPart r.err (line_of Read)))
   -- 3: a sink met a fault. Under any other status none did.
   pub write : r.status ≡ 3 → Rose r.out.before r.out.now ⊎ Rose r.err.before r.err.now
   pub unmet : r.status ≢ 3 → (r.out.now ≡ r.out.before) × (r.err.now ≡ r.err.before)
   -- 4: a refusal whose cause holds and whose line was written whole, or a rejected stream
-  pub refused : r.status ≡ 4 → ((refusal : Refusal) × Stops r (Refused refusal) × IsTold r (Refused refusal)) ⊎ IsRefusedStream r
+  pub refused : r.status ≡ 4 →
+      ((refusal : Refusal) × Stops r (Refused refusal) × IsTold r (Refused refusal)) ⊎ IsRefusedStream r
   -- 5: a process is late, as the line says
-  pub is_late : r.status ≡ 5 → (a : Admission) × (s : Scenario) × (p : ℕ) × (finish : ℕ) × Stops r (Late a s p finish) × IsTold r (Late a s p finish)
+  pub is_late : r.status ≡ 5 →
+      (a : Admission) × (s : Scenario) × (p : ℕ) × (finish : ℕ) × Stops r (Late a s p finish) ×
+      IsTold r (Late a s p finish)
   -- 6: an item is too wide, as the line says
   pub is_wide : r.status ≡ 6 → (a : Admission) × (x : ℕ) × Stops r (TooWide a x) × IsTold r (TooWide a x)
   -- 7: the tables of a pack break a rule, as the line says
-  pub is_unsafe : r.status ≡ 7 → (a : Admission) × (fault : Fault) × Stops r (Unsafe a fault) × IsTold r (Unsafe a fault)
-  -- Under a status other than 0 and 3, nothing was written to `out`, with one exception. If a stream that a node follows meets
-  -- a fault of the shelf or is rejected, the lines of the records before were written.
-  pub silent : r.status ≢ 0 → r.status ≢ 3 → Untouched r.out ⊎ (((r.status ≡ 2) × IsUnreadStream r) ⊎ ((r.status ≡ 4) × IsRefusedStream r))
-  -- If a graph gives no order and some item is too wide by its views under its urgency order, the graph is rejected as too
-  -- wide. Otherwise the graph is shown or packed if every process ends by its due in every scenario, under the order that the
-  -- graph gives, or under its urgency order or its track order. If some process doesn't, the graph is rejected as late. If the
-  -- graph gives an order under which some item is too wide by its views, it may be rejected as too wide instead. In each case
-  -- memory may run out.
-  pub wide : (a : Admission) (x : ℕ) → AsksForTables r a → a.graph.order ≡ None → IsWide a.graph (first_order a.graph a.order) x →
+  pub is_unsafe : r.status ≡ 7 →
+      (a : Admission) × (fault : Fault) × Stops r (Unsafe a fault) × IsTold r (Unsafe a fault)
+  -- Under a status other than 0 and 3, nothing was written to `out`, with one exception. If a stream that a node
+  -- follows meets a fault of the shelf or is rejected, the lines of the records before were written.
+  pub silent : r.status ≢ 0 → r.status ≢ 3 →
+      Untouched r.out ⊎ (((r.status ≡ 2) × IsUnreadStream r) ⊎ ((r.status ≡ 4) × IsRefusedStream r))
+  -- If a graph gives no order and some item is too wide by its views under its urgency order, the graph is rejected as
+  -- too wide. Otherwise the graph is shown or packed if every process ends by its due in every scenario, under the
+  -- order that the graph gives, or under its urgency order or its track order. If some process doesn't, the graph is
+  -- rejected as late. If the graph gives an order under which some item is too wide by its views, it may be rejected as
+  -- too wide instead. In each case memory may run out.
+  pub wide : (a : Admission) (x : ℕ) → AsksForTables r a → a.graph.order ≡ None →
+      IsWide a.graph (first_order a.graph a.order) x →
       (r.status ≡ 6) ⊎ (r.status ≡ 8)
-  pub made : (a : Admission) → AsksForTables r a → IsTimely a.graph a.order → ((r.status ≡ 0) ⊎ (r.status ≡ 8)) ⊎ IsRefusedAsWide r a
-  pub late : (a : Admission) → AsksForTables r a → IsLate a.graph a.order → ((r.status ≡ 5) ⊎ (r.status ≡ 8)) ⊎ IsRefusedAsWide r a
-  -- Tables are rejected as another graph's if their head is. Otherwise, tables that keep the ten rules are found safe, are
-  -- played, or serve to audit a log, and tables that don't are found unsafe. In each case memory may run out.
-  pub other : (a : Admission) (t : Tables) → AsksVerdict r a t → (IsHeadFor a.graph t.head → ⊥) → (r.status ≡ 4) ⊎ (r.status ≡ 8)
-  pub safe : (a : Admission) (t : Tables) → AsksVerdict r a t → IsHeadFor a.graph t.head → IsValid a.graph t.nodes → (r.status ≡ 0) ⊎ (r.status ≡ 8)
-  pub broken : (a : Admission) (t : Tables) → AsksVerdict r a t → IsHeadFor a.graph t.head → (IsValid a.graph t.nodes → ⊥) → (r.status ≡ 7) ⊎ (r.status ≡ 8)
-  -- The table of the first node of that name is printed. A name that no node has is rejected. In both cases memory may run out.
+  pub made : (a : Admission) → AsksForTables r a → IsTimely a.graph a.order →
+      ((r.status ≡ 0) ⊎ (r.status ≡ 8)) ⊎ IsRefusedAsWide r a
+  pub late : (a : Admission) → AsksForTables r a → IsLate a.graph a.order →
+      ((r.status ≡ 5) ⊎ (r.status ≡ 8)) ⊎ IsRefusedAsWide r a
+  -- Tables are rejected as another graph's if their head is. Otherwise, tables that keep the ten rules are found safe,
+  -- are played, or serve to audit a log, and tables that don't are found unsafe. In each case memory may run out.
+  pub other : (a : Admission) (t : Tables) → AsksVerdict r a t → (IsHeadFor a.graph t.head → ⊥) →
+      (r.status ≡ 4) ⊎ (r.status ≡ 8)
+  pub safe : (a : Admission) (t : Tables) → AsksVerdict r a t → IsHeadFor a.graph t.head → IsValid a.graph t.nodes →
+      (r.status ≡ 0) ⊎ (r.status ≡ 8)
+  pub broken : (a : Admission) (t : Tables) → AsksVerdict r a t → IsHeadFor a.graph t.head →
+      (IsValid a.graph t.nodes → ⊥) →
+      (r.status ≡ 7) ⊎ (r.status ≡ 8)
+  -- The table of the first node of that name is printed. A name that no node has is rejected. In both cases memory may
+  -- run out.
   pub named : (pack name : Text) (t : Tables) (node : ℕ) → Asks r (Node pack name) (tables_value t ∷ []) →
       first_named t.head name ≡ Some node → (r.status ≡ 0) ⊎ (r.status ≡ 8)
-  pub nameless : (pack name : Text) (t : Tables) → Asks r (Node pack name) (tables_value t ∷ []) → first_named t.head name ≡ None →
+  pub nameless : (pack name : Text) (t : Tables) → Asks r (Node pack name) (tables_value t ∷ []) →
+      first_named t.head name ≡ None →
       (r.status ≡ 4) ⊎ (r.status ≡ 8)
   -- a trial of a number writes its figures, unless a sink meets a fault or memory runs out
-  pub tried : (number : ℕ) → command_of r.words ≡ Some (Trial number) → (r.status ≡ 0) ⊎ ((r.status ≡ 3) ⊎ (r.status ≡ 8))
+  pub tried : (number : ℕ) → command_of r.words ≡ Some (Trial number) →
+      (r.status ≡ 0) ⊎ ((r.status ≡ 3) ⊎ (r.status ≡ 8))
   -- an admitted graph is tuned, however late or wide it is, unless memory runs out
-  pub tuned : (graph : Text) (a : Admission) → Asks r (Tune graph) (graph_value a ∷ []) → (r.status ≡ 0) ⊎ (r.status ≡ 8)
-  -- If parts have a graph of all their instances, it is written. If not, the parts are rejected. In both cases memory may run
-  -- out.
-  pub unrolled : (pairs : List Pair) (parts : List Part) (g : Graph) → Asks r (Hyper pairs) (part_values parts) → HavePeriods pairs parts →
+  pub tuned : (graph : Text) (a : Admission) → Asks r (Tune graph) (graph_value a ∷ []) →
+      (r.status ≡ 0) ⊎ (r.status ≡ 8)
+  -- If parts have a graph of all their instances, it is written. If not, the parts are rejected. In both cases memory
+  -- may run out.
+  pub unrolled : (pairs : List Pair) (parts : List Part) (g : Graph) → Asks r (Hyper pairs) (part_values parts) →
+      HavePeriods pairs parts →
       ShowsUnrolled parts (Ok g) → (r.status ≡ 0) ⊎ (r.status ≡ 8)
   pub apart : (pairs : List Pair) (parts : List Part) (fault : HyperFault) → Asks r (Hyper pairs) (part_values parts) →
       HavePeriods pairs parts → ShowsUnrolled parts (Err fault) → fault ≢ OutOfMemory → (r.status ≡ 4) ⊎ (r.status ≡ 8)
   -- if nothing fails, a node follows its stream to the close, or the stream is rejected
-  pub followed : (f : Follows r) → IsFaultless r → f.fetch.failed ≡ false → r.status ≡ status_of_end (stream_end (table_of f) f.fetch.given)
+  pub followed : (f : Follows r) → IsFaultless r → f.fetch.failed ≡ false →
+      r.status ≡ status_of_end (stream_end (table_of f) f.fetch.given)
   -- a name that no node has is rejected, unless memory runs out
   pub unfollowed : (pack name stream : Text) (t : Tables) → Asks r (Live pack name stream) (tables_value t ∷ []) →
       first_named t.head name ≡ None → (r.status ≡ 4) ⊎ (r.status ≡ 8)

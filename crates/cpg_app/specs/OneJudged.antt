@@ -9,7 +9,8 @@ use Rattle.cpg_core.specs.declared.compiling.Compiled.{Compiled}
 use Rattle.cpg_expand.specs.Measured.{IsMeasured}
 use Rattle.cpg_core.specs.Compilation.{IsCompilation}
 use Rattle.cpg_core.proofs.Compilations.{measured}
-use Rattle.cpg_core.proofs.CompiledLaws.{first_topological, one_measure, one_shown, one_compiled, one_wide, not_late_and_compiled}
+use Rattle.cpg_core.proofs.CompiledLaws.{first_topological, one_measure, one_shown, one_compiled, one_wide}
+use Rattle.cpg_core.proofs.CompiledLaws.{not_late_and_compiled}
 use Rattle.cpg_tune.specs.declared.judge.Judged.{Judged}
 use Rattle.cpg_tune.specs.declared.judge.Judged.TheVariants.{Worst, Late, Wide}
 use Rattle.cpg_app.specs.Tunes.{IsCompileAnswer, IsJudged}
@@ -26,15 +27,18 @@ module _ (g : Graph) (w : WellFormed g) (urgency : List ℕ) (top : IsTopologica
   one_worst c d x y =
       let same : c.order ≡ d.order = one_compiled g w urgency top first_top c.order d.order x.compiled y.compiled in
       let other : IsMeasured g urgency c.order d.built.excess d.built.worst =
-      subst (λ order. IsMeasured g urgency order d.built.excess d.built.worst) (sym same) (measured g urgency d.order d.built y.built) in
+      subst (λ order. IsMeasured g urgency order d.built.excess d.built.worst) (sym same)
+      (measured g urgency d.order d.built y.built) in
       (one_measure g w urgency c.order (order_topological c x) c.built.excess c.built.worst d.built.excess d.built.worst
       (measured g urgency c.order c.built x.built) other).1
 
   one_answer : (a b : Judged) → IsCompileAnswer g urgency a → IsCompileAnswer g urgency b → a ≡ b
   one_answer (Worst m) (Worst n) x y = ap Worst (sym x.3 ∙ (one_worst x.1 y.1 x.2 y.2 ∙ y.3))
-  one_answer (Worst m) (Late n) x y = absurd (not_late_and_compiled g w urgency top first_top x.1.order y.3.0 x.2.compiled)
+  one_answer (Worst m) (Late n) x y =
+      absurd (not_late_and_compiled g w urgency top first_top x.1.order y.3.0 x.2.compiled)
   one_answer (Worst m) (Wide i) x y = absurd (x.0 i y.wide)
-  one_answer (Late m) (Worst n) x y = absurd (not_late_and_compiled g w urgency top first_top y.1.order x.3.0 y.2.compiled)
+  one_answer (Late m) (Worst n) x y =
+      absurd (not_late_and_compiled g w urgency top first_top y.1.order x.3.0 y.2.compiled)
   one_answer (Late m) (Late n) x y = ap Late (one_shown g w urgency top first_top x.1 y.1 x.2 y.2 m n x.3.1 y.3.1).2
   one_answer (Late m) (Wide i) x y = absurd (x.0 i y.wide)
   one_answer (Wide i) (Worst n) x y = absurd (y.0 i x.wide)
@@ -45,4 +49,5 @@ pub one_judged : (g : Graph) (a b : Judged) → IsJudged g a → IsJudged g b �
 one_judged g a b x y =
     let same : y.order ≡ x.order = one_urgency_order g y.order x.order y.admitted.urgency x.admitted.urgency in
     one_answer g x.admitted.well_formed x.order x.admitted.topological
-    (first_topological g x.order x.admitted.topological x.admitted.given) a b x.answer (subst (λ order. IsCompileAnswer g order b) same y.answer)
+    (first_topological g x.order x.admitted.topological x.admitted.given) a b x.answer
+    (subst (λ order. IsCompileAnswer g order b) same y.answer)

@@ -1,10 +1,12 @@
 -- What a command puts out, given what its files say.
-use Rattle.std.specs.Prelude.{ℕ, ◌≡◌, ◌<◌, ◌≤◌, ◌++◌, List, Option, Some, None, IfNone, IfSome, Ok, codes, length, string_bytes}
+use Rattle.std.specs.Prelude.{ℕ, ◌≡◌, ◌<◌, ◌≤◌, ◌++◌, List, Option, Some, None, IfNone, IfSome, Ok, codes, length}
+use Rattle.std.specs.Prelude.{string_bytes}
 use Rattle.cpg_base.specs.Graph.{Graph}
 use Rattle.cpg_base.specs.Scenario.{Scenario, IsScenario, IsLeast}
 use Rattle.cpg_words.specs.Parts.{Text}
 use Rattle.cpg_words.specs.declared.command.Command.{Command}
-use Rattle.cpg_words.specs.declared.command.Command.TheVariants.{Show, Compile, Check, Play, Node, Trial, Live, Hyper, Tune, Audit}
+use Rattle.cpg_words.specs.declared.command.Command.TheVariants.{Show, Compile, Check, Play, Node, Trial, Live, Hyper}
+use Rattle.cpg_words.specs.declared.command.Command.TheVariants.{Tune, Audit}
 use Rattle.cpg_reader.specs.Document.{problem_of}
 use Rattle.cpg_rules.specs.Admission.{Admission}
 use Rattle.cpg_head.specs.GraphHead.{head_of}
@@ -40,9 +42,9 @@ use Rattle.cpg_app.specs.Trial.{IsTrial}
 use Rattle.cpg_outputs.specs.Trials.{trial_text}
 use Rattle.cpg_app.specs.Tunes.{IsTuningText}
 
--- Tables that keep the ten rules, and what follows for the nodes that have them. It holds in every scenario, for all lengths of
--- executions and for every order of turns. Each node starts and sends just what is due, in order and in time. It can always go
--- on, and what it does doesn't depend on how early an execution ends.
+-- Tables that keep the ten rules, and what follows for the nodes that have them. It holds in every scenario, for all
+-- lengths of executions and for every order of turns. Each node starts and sends just what is due, in order and in
+-- time. It can always go on, and what it does doesn't depend on how early an execution ends.
 pub record AreSafe (g : Graph) (tables : List NodeTable) : Type 0 where
   pub valid : IsValid g tables
   pub correct : IsCorrect g tables
@@ -50,8 +52,9 @@ pub record AreSafe (g : Graph) (tables : List NodeTable) : Type 0 where
   pub steady : IsSteady g tables
   pub planned : EndsAsPlanned g tables
 
--- Tables that are a pack of the graph. Their head allows each row: its cubes have lawful literals with rising variables, none
--- of them whole, and its times are below 2^60. The spelling of the tables is short enough to be read again.
+-- Tables that are a pack of the graph. Their head allows each row: its cubes have lawful literals with rising
+-- variables, none of them whole, and its times are below 2^60. The spelling of the tables is short enough to be read
+-- again.
 pub record ArePackOf (g : Graph) (t : Tables) : Type 0 where
   pub head : t.head ≡ head_of g
   pub lawful : AreLawful t

@@ -18,7 +18,8 @@ world_of p = record { scenario = p.scenario; lengths = p.lengths }
 abbrev pub waits_line : ℕ → Text
 waits_line waits = codes "waits " ++ decimal waits ++ codes "\n"
 
--- the nodes' trace after a play that a number drives until each is done, and how often a node that was asked had to wait
+-- the nodes' trace after a play that a number drives until each is done, and how often a node that was asked had to
+-- wait
 pub record IsPlayText (g : Graph) (tables : List NodeTable) (w : World) (number : ℕ) (text : Text) : Type 0 where
   pub cluster : Cluster
   pub waits : ℕ

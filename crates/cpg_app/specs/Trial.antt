@@ -24,8 +24,8 @@ IsGenerated g = (number : ℕ) × (g ≡ generated number)
 abbrev pub planned_world : Graph → Scenario → World
 planned_world g s = record { scenario = s; lengths = full_lengths g s }
 
--- a scenario's play, which a number drives until each node is done: its greatest end, and how often a node that was asked had
--- to wait
+-- a scenario's play, which a number drives until each node is done: its greatest end, and how often a node that was
+-- asked had to wait
 pub record IsEnding (g : Graph) (tables : List NodeTable) (s : Scenario) (number : ℕ) (e : Ending) : Type 0 where
   pub cluster : Cluster
   pub driven : IsDriven g (planned_world g s) number (initial_cluster g tables) cluster e.waits
@@ -34,9 +34,11 @@ pub record IsEnding (g : Graph) (tables : List NodeTable) (s : Scenario) (number
 
 -- every value is true, and the first process has two faults
 abbrev pub true_scenario : Graph → Scenario
-true_scenario g = record { values = replicate (condition_count g) true; faults = slice_set (replicate (process_count g) 0) 0 2 }
+true_scenario g =
+    record { values = replicate (condition_count g) true; faults = slice_set (replicate (process_count g) 0) 0 2 }
 
--- three plays: with no fault and no true value, in the least scenario that has the greatest finish, and with every value true
+-- three plays: with no fault and no true value, in the least scenario that has the greatest finish, and with every
+-- value true
 pub record AreEndings (g : Graph) (c : Compiled) (number : ℕ) (e : Endings) : Type 0 where
   pub fault_free : IsEnding g c.built.tables.nodes (zero_scenario g) number e.fault_free
   pub worst_case : IsEnding g c.built.tables.nodes c.built.worst_in number e.worst_case

@@ -15,12 +15,14 @@ use Rattle.cpg_tune.specs.declared.judge.Judged.TheVariants.{Worst, Late, Wide}
 use Rattle.cpg_tune.specs.Tuned.{Tuning, IsTuning}
 use Rattle.cpg_outputs.specs.Tunes.{tuning_text}
 
--- The answer for a graph: the first item that is too wide by its views under the first order. If there is none, it is the
--- compile's answer: the greatest finish of the tables, or the end of a process that is late.
+-- The answer for a graph: the first item that is too wide by its views under the first order. If there is none, it is
+-- the compile's answer: the greatest finish of the tables, or the end of a process that is late.
 abbrev pub IsCompileAnswer : Graph → List ℕ → Judged → Type 0
-IsCompileAnswer g urgency (Worst finish) = IsNarrow g (first_order g urgency) × (c : Compiled) × IsCompilation g urgency c × (c.built.worst ≡ finish)
+IsCompileAnswer g urgency (Worst finish) =
+    IsNarrow g (first_order g urgency) × (c : Compiled) × IsCompilation g urgency c × (c.built.worst ≡ finish)
 IsCompileAnswer g urgency (Late finish) =
-    IsNarrow g (first_order g urgency) × (s : Scenario) × (p : ℕ) × ShowsCompileFault g urgency (CompileFault.Late s p finish)
+    IsNarrow g (first_order g urgency) × (s : Scenario) × (p : ℕ) ×
+    ShowsCompileFault g urgency (CompileFault.Late s p finish)
 IsCompileAnswer g urgency (Wide item) = IsLeastWide g (first_order g urgency) item
 
 -- the graph is admitted, and this is its answer

@@ -1,16 +1,20 @@
 -- A scenario gives a log exactly if no cube that the log excludes matches.
-use Rattle.std.proofs.Common.{ℕ, suc, ◌≤◌, ◌≡◌, ◌≢◌, ◌==◌, Bool, true, false, not, List, [], ◌∷◌, ◌++◌, map, filter, Option, Some, None, IfSome, IfNone, All, AllPairs, Contains, arith, refl, sym, ap}
+use Rattle.std.proofs.Common.{ℕ, suc, ◌≤◌, ◌≡◌, ◌≢◌, ◌==◌, Bool, true, false, not, List, [], ◌∷◌, ◌++◌, map, filter}
+use Rattle.std.proofs.Common.{Option, Some, None, IfSome, IfNone, All, AllPairs, Contains, arith, refl, sym, ap}
 use Rattle.std.proofs.Common.{◌∙◌, subst, inl, inr, eq-eqb, eqb-true, ne_eqb, true≢false}
 use Rattle.std.specs.Prelude.{nat_le}
 use Rattle.std.specs.List.{list_any, flat_map}
 use Rattle.std.proofs.lemmas.Bool.{cases_eq, cond-true, cond-false, false_from_ne_true, leb-true, le-leb, not-false}
-use Rattle.std.proofs.lemmas.List.Elements.{All-append, All-contains, All-filter, All-map, Contains-append_cases, Contains-append_left, Contains-append_right}
+use Rattle.std.proofs.lemmas.List.Elements.{All-append, All-contains, All-filter, All-map, Contains-append_cases}
+use Rattle.std.proofs.lemmas.List.Elements.{Contains-append_left, Contains-append_right}
 use Rattle.std.proofs.lemmas.Option.{none-some, same_Some}
 use Rattle.cpg_base.specs.Numbers.{numbers_below}
 use Rattle.cpg_base.specs.Graph.{Graph, item_at, item_count}
 use Rattle.cpg_base.specs.Activity.{item_active}
-use Rattle.cpg_base.proofs.Lists.{Contains-first, Contains-rest, Contains-cases, Contains-nil, Contains-map, Contains-map_parts, Contains-filter, Contains-filter_parts, Contains-flat_map}
-use Rattle.cpg_base.proofs.Lists.{Contains-flat_map_parts, Contains-numbers, list_any_false, from_any_false, slice_get-Contains}
+use Rattle.cpg_base.proofs.Lists.{Contains-first, Contains-rest, Contains-cases, Contains-nil, Contains-map}
+use Rattle.cpg_base.proofs.Lists.{Contains-map_parts, Contains-filter, Contains-filter_parts, Contains-flat_map}
+use Rattle.cpg_base.proofs.Lists.{Contains-flat_map_parts, Contains-numbers, list_any_false, from_any_false}
+use Rattle.cpg_base.proofs.Lists.{slice_get-Contains}
 use Rattle.cpg_base.specs.Scenario.{Scenario, IsScenario, IsLeast}
 use Rattle.cpg_base.specs.First.{IsFirst}
 use Rattle.cpg_cube.specs.Cube.{matches}
@@ -36,20 +40,27 @@ use Rattle.cpg_log.proofs.TextLaws.{act_within}
 same_logged : (l : Logged) (time item : ℕ) → l.time ≡ time → l.item ≡ item → l ≡ record { time = time; item = item }
 same_logged l time item p q = λ i. record { time = p i; item = q i }
 
-pub logged_at : (ls : List Logged) → AllPairs (λ (a b : Logged). a.item ≢ b.item) ls → (l : Logged) → Contains ls l → logged_time ls l.item ≡ Some l.time
+pub logged_at : (ls : List Logged) → AllPairs (λ (a b : Logged). a.item ≢ b.item) ls → (l : Logged) → Contains ls l →
+    logged_time ls l.item ≡ Some l.time
 logged_at [] pairs l c = absurd (Contains-nil l c)
 logged_at (m ∷ ls) pairs l c = elim (Contains-cases m ls l c) [
-  | inl e ↦ cond-true (m.item == l.item) (Some m.time) (logged_time ls l.item) (eq-eqb m.item l.item (ap (λ (z : Logged). z.item) e)) ∙ ap (λ (z : Logged). Some z.time) e
+  | inl e ↦ cond-true (m.item == l.item) (Some m.time) (logged_time ls l.item)
+      (eq-eqb m.item l.item (ap (λ (z : Logged). z.item) e)) ∙ ap (λ (z : Logged). Some z.time) e
   | inr r ↦ cond-false (m.item == l.item) (Some m.time) (logged_time ls l.item)
-      (ne_eqb m.item l.item (λ same. pairs 0 (suc r.0) l (omega arith) (omega (arith, r.1)) (same ∙ sym (ap (λ (z : Logged). z.item) r.2))))
+      (ne_eqb m.item l.item (λ same.
+      pairs 0 (suc r.0) l (omega arith) (omega (arith, r.1)) (same ∙ sym (ap (λ (z : Logged). z.item) r.2))))
       ∙ logged_at ls (λ i j d a b. pairs (suc i) (suc j) d (omega arith) (omega arith)) l r
 ]
 
-pub logged_in : (ls : List Logged) (x time : ℕ) → logged_time ls x ≡ Some time → Contains ls (record { time = time; item = x })
+pub logged_in : (ls : List Logged) (x time : ℕ) → logged_time ls x ≡ Some time →
+    Contains ls (record { time = time; item = x })
 logged_in [] x time e = absurd (none-some time e)
 logged_in (m ∷ ls) x time e = elim (cases_eq m.item x) [
-  | inl is ↦ subst (Contains (m ∷ ls)) (same_logged m time x (same_Some m.time time (sym (cond-true (m.item == x) (Some m.time) (logged_time ls x) (eq-eqb m.item x is)) ∙ e)) is) (Contains-first m ls)
-  | inr other ↦ Contains-rest m ls (record { time = time; item = x }) (logged_in ls x time (sym (cond-false (m.item == x) (Some m.time) (logged_time ls x) (ne_eqb m.item x other)) ∙ e))
+  | inl is ↦ subst (Contains (m ∷ ls)) (same_logged m time x (same_Some m.time time
+      (sym (cond-true (m.item == x) (Some m.time) (logged_time ls x) (eq-eqb m.item x is)) ∙ e)) is)
+      (Contains-first m ls)
+  | inr other ↦ Contains-rest m ls (record { time = time; item = x }) (logged_in ls x time
+      (sym (cond-false (m.item == x) (Some m.time) (logged_time ls x) (ne_eqb m.item x other)) ∙ e))
 ]
 
 -- ---- what is due, and the columns that match
@@ -59,23 +70,34 @@ pub record Fits (g : Graph) (tables : List NodeTable) (log : Log) (s : Scenario)
   pub times : (x : ℕ) (c : Column) → Match tables s x c → is_excluded log.until (logged_time log.acts x) c.time ≡ false
   pub active : (l : Logged) → Contains log.acts l → item_active g s.values (item_at g l.item) ≡ true
 
-module _ {g : Graph} {tables : List NodeTable} {s : Scenario} (k : Setting g tables s) (log : Log) (is : IsLog g log) where
+module _ {g : Graph} {tables : List NodeTable} {s : Scenario} (k : Setting g tables s) (log : Log)
+    (is : IsLog g log) where
   -- the act of a column that matches
-  act_of : (x : ℕ) (c : Column) → Match tables s x c → (a : Act) × Contains (all_asked g tables s) a × (a.time ≡ c.time) × (a.item ≡ x)
+  act_of : (x : ℕ) (c : Column) → Match tables s x c →
+      (a : Act) × Contains (all_asked g tables s) a × (a.time ≡ c.time) × (a.item ≡ x)
   act_of x c m =
       let p = slice_get-Contains (columns_of tables x) c m.there in
-      let a : Act = record { time = c.time; item = x; column = p.0 } in
-      (a, all_asked_in k a (record { row = has_row k.formed k.shape x c m.there; column = c; at = p.1; holds = m.holds; time = refl }), refl, refl)
+      let a : Act = record { time = c.time; item = x; column = p.0 } in (
+        a,
+        all_asked_in k a
+            (record { row = has_row k.formed k.shape x c m.there; column = c; at = p.1; holds = m.holds; time = refl }),
+        refl,
+        refl,
+      )
 
   match_of : (a : Act) → Contains (all_asked g tables s) a → (c : Column) × Match tables s a.item c × (c.time ≡ a.time)
   match_of a h = let q = all_asked_parts k a h in (q.column, asked_match q, q.time)
 
   -- the column of a logged act that is due
-  match_due : Gives g tables log s → (l : Logged) → Contains log.acts l → (c : Column) × Match tables s l.item c × (c.time ≡ l.time)
+  match_due : Gives g tables log s → (l : Logged) → Contains log.acts l →
+      (c : Column) × Match tables s l.item c × (c.time ≡ l.time)
   match_due gives l c =
       let due = gives.due l c in
-      let m = match_of due.0 due.1 in
-      (m.0, subst (λ x. Match tables s x m.0) (ap (λ (z : Logged). z.item) due.2) m.1, m.2 ∙ ap (λ (z : Logged). z.time) due.2)
+      let m = match_of due.0 due.1 in (
+        m.0,
+        subst (λ x. Match tables s x m.0) (ap (λ (z : Logged). z.item) due.2) m.1,
+        m.2 ∙ ap (λ (z : Logged). z.time) due.2,
+      )
 
   pub gives_fits : Gives g tables log s → Fits g tables log s
   gives_fits gives = record {
@@ -83,11 +105,13 @@ module _ {g : Graph} {tables : List NodeTable} {s : Scenario} (k : Setting g tab
     active = λ l c. let m = match_due gives l c in match_active k l.item m.0 m.1;
   }
     where
-      times : (x : ℕ) (c : Column) → Match tables s x c → (o : Option ℕ) → logged_time log.acts x ≡ o → is_excluded log.until o c.time ≡ false
+      times : (x : ℕ) (c : Column) → Match tables s x c → (o : Option ℕ) → logged_time log.acts x ≡ o →
+          is_excluded log.until o c.time ≡ false
       times x c m None e = false_from_ne_true (nat_le c.time log.until) (λ early.
           let a = act_of x c m in
           let named = gives.named a.0 a.1 (omega (arith, a.2, leb-true c.time log.until early)) in
-          none-some a.0.time (sym e ∙ ap (logged_time log.acts) (sym a.3) ∙ logged_at log.acts is.apart (logged a.0) named))
+          none-some a.0.time
+          (sym e ∙ ap (logged_time log.acts) (sym a.3) ∙ logged_at log.acts is.apart (logged a.0) named))
       times x c m (Some time) e =
           let l = logged_in log.acts x time e in
           let d = match_due gives (record { time = time; item = x }) l in
@@ -104,55 +128,84 @@ module _ {g : Graph} {tables : List NodeTable} {s : Scenario} (k : Setting g tab
         let m = match_there k l.item (act_within g l.item act.item) (fits.active l c) in
         let a = act_of l.item m.0 m.1 in
         let same : m.0.time ≡ l.time = eqb-true m.0.time l.time
-        (not-false (m.0.time == l.time) (subst (λ o. is_excluded log.until o m.0.time ≡ false) (logged_at log.acts is.apart l c) (fits.times l.item m.0 m.1))) in
+        (not-false (m.0.time == l.time) (subst (λ o. is_excluded log.until o m.0.time ≡ false)
+        (logged_at log.acts is.apart l c) (fits.times l.item m.0 m.1))) in
         (a.0, a.1, same_logged (logged a.0) l.time l.item (a.2 ∙ same) a.3);
   }
     where
-      named : (a : Act) (c : Column) (o : Option ℕ) → logged_time log.acts a.item ≡ o → is_excluded log.until (logged_time log.acts a.item) c.time ≡ false → c.time ≡ a.time → a.time ≤ log.until →
+      named : (a : Act) (c : Column) (o : Option ℕ) → logged_time log.acts a.item ≡ o →
+          is_excluded log.until (logged_time log.acts a.item) c.time ≡ false → c.time ≡ a.time →
+          a.time ≤ log.until →
           Contains log.acts (logged a)
-      named a c None e x same early = absurd (true≢false (sym (le-leb c.time log.until (omega (arith, same, early))) ∙ subst (λ o. is_excluded log.until o c.time ≡ false) e x))
+      named a c None e x same early = absurd (true≢false (sym (le-leb c.time log.until (omega (arith, same, early)))
+          ∙ subst (λ o. is_excluded log.until o c.time ≡ false) e x))
       named a c (Some time) e x same early =
-          let at : c.time ≡ time = eqb-true c.time time (not-false (c.time == time) (subst (λ o. is_excluded log.until o c.time ≡ false) e x)) in
-          subst (Contains log.acts) (sym (same_logged (logged a) time a.item (sym same ∙ at) refl)) (logged_in log.acts a.item time e)
+          let at : c.time ≡ time = eqb-true c.time time
+          (not-false (c.time == time) (subst (λ o. is_excluded log.until o c.time ≡ false) e x)) in
+          subst (Contains log.acts) (sym (same_logged (logged a) time a.item (sym same ∙ at) refl))
+          (logged_in log.acts a.item time e)
 
   -- ---- the cubes
 
-  module _ (idle : List Column) (told : list_any (λ (c : Column). matches c.cube s) idle ≡ is_some_idle g log.acts s) where
-    pub fits_left : Fits g tables log s → list_any (λ b. matches b s) (flat_map (excluded_of tables log) (numbers_below (item_count g)) ++ map (λ (c : Column). c.cube) idle) ≡ false
-    fits_left fits = list_any_false (λ b. matches b s) (flat_map (excluded_of tables log) (numbers_below (item_count g)) ++ map (λ (c : Column). c.cube) idle) (λ b c.
-        elim (Contains-append_cases (flat_map (excluded_of tables log) (numbers_below (item_count g))) (map (λ (c : Column). c.cube) idle) b c) [
+  module _ (idle : List Column)
+      (told : list_any (λ (c : Column). matches c.cube s) idle ≡ is_some_idle g log.acts s) where
+    pub fits_left : Fits g tables log s →
+        list_any (λ b. matches b s)
+        (flat_map (excluded_of tables log) (numbers_below (item_count g)) ++ map (λ (c : Column). c.cube) idle) ≡ false
+    fits_left fits = list_any_false (λ b. matches b s)
+        (flat_map (excluded_of tables log) (numbers_below (item_count g)) ++ map (λ (c : Column). c.cube) idle) (λ b c.
+        elim (Contains-append_cases (flat_map (excluded_of tables log) (numbers_below (item_count g)))
+        (map (λ (c : Column). c.cube) idle) b c) [
           | inl h ↦ of_column b h
           | inr h ↦ of_idle b h
         ])
       where
-        of_column : (b : List Literal) → Contains (flat_map (excluded_of tables log) (numbers_below (item_count g))) b → matches b s ≡ false
+        of_column : (b : List Literal) → Contains (flat_map (excluded_of tables log) (numbers_below (item_count g))) b →
+            matches b s ≡ false
         of_column b h = false_from_ne_true (matches b s) (λ m.
             let p = Contains-flat_map_parts (excluded_of tables log) (numbers_below (item_count g)) b h in
-            let q = Contains-map_parts (λ (c : Column). c.cube) (filter (λ (c : Column). is_excluded log.until (logged_time log.acts p.0) c.time) (columns_of tables p.0)) b p.2 in
-            let r = Contains-filter_parts (λ (c : Column). is_excluded log.until (logged_time log.acts p.0) c.time) (columns_of tables p.0) q.0 q.1 in
-            true≢false (sym r.1 ∙ fits.times p.0 q.0 (record { there = r.0; holds = subst (λ (ls : List Literal). matches ls s ≡ true) (sym q.2) m })))
+            let q = Contains-map_parts (λ (c : Column). c.cube)
+            (filter (λ (c : Column). is_excluded log.until (logged_time log.acts p.0) c.time)
+            (columns_of tables p.0)) b p.2 in
+            let r = Contains-filter_parts (λ (c : Column). is_excluded log.until (logged_time log.acts p.0) c.time)
+            (columns_of tables p.0) q.0 q.1 in
+            true≢false (sym r.1 ∙ fits.times p.0 q.0
+            (record { there = r.0; holds = subst (λ (ls : List Literal). matches ls s ≡ true) (sym q.2) m })))
 
         none_idle : is_some_idle g log.acts s ≡ false
-        none_idle = list_any_false (λ (l : Logged). not (item_active g s.values (item_at g l.item))) log.acts (λ l c. ap not (fits.active l c))
+        none_idle = list_any_false (λ (l : Logged). not (item_active g s.values (item_at g l.item))) log.acts
+            (λ l c. ap not (fits.active l c))
 
         of_idle : (b : List Literal) → Contains (map (λ (c : Column). c.cube) idle) b → matches b s ≡ false
-        of_idle b h = from_any_false (λ b. matches b s) (map (λ (c : Column). c.cube) idle) b (any_map (λ b. matches b s) (λ (c : Column). c.cube) idle ∙ told ∙ none_idle) h
+        of_idle b h = from_any_false (λ b. matches b s) (map (λ (c : Column). c.cube) idle) b
+            (any_map (λ b. matches b s) (λ (c : Column). c.cube) idle ∙ told ∙ none_idle) h
 
-    pub left_fits : list_any (λ b. matches b s) (flat_map (excluded_of tables log) (numbers_below (item_count g)) ++ map (λ (c : Column). c.cube) idle) ≡ false → Fits g tables log s
+    pub left_fits : list_any (λ b. matches b s) (flat_map (excluded_of tables log) (numbers_below (item_count g))
+        ++ map (λ (c : Column). c.cube) idle) ≡ false →
+        Fits g tables log s
     left_fits none = record {
       times = λ x c m. false_from_ne_true (is_excluded log.until (logged_time log.acts x) c.time) (λ e.
-          true≢false (sym m.holds ∙ from_any_false (λ b. matches b s) (flat_map (excluded_of tables log) (numbers_below (item_count g)) ++ map (λ (c : Column). c.cube) idle) c.cube none
-          (Contains-append_left (flat_map (excluded_of tables log) (numbers_below (item_count g))) (map (λ (c : Column). c.cube) idle) c.cube
-          (Contains-flat_map (excluded_of tables log) (numbers_below (item_count g)) x c.cube (Contains-numbers (item_count g) x (item_within k x c m.there))
-          (Contains-map (λ (c : Column). c.cube) (filter (λ (c : Column). is_excluded log.until (logged_time log.acts x) c.time) (columns_of tables x)) c
-          (Contains-filter (λ (c : Column). is_excluded log.until (logged_time log.acts x) c.time) (columns_of tables x) c e m.there))))));
-      active = λ l c. not-false (item_active g s.values (item_at g l.item)) (from_any_false (λ (l : Logged). not (item_active g s.values (item_at g l.item))) log.acts l (sym told ∙ none_idle) c);
+          true≢false (sym m.holds ∙ from_any_false (λ b. matches b s) (flat_map (excluded_of tables log)
+          (numbers_below (item_count g)) ++ map (λ (c : Column). c.cube) idle) c.cube none
+          (Contains-append_left (flat_map (excluded_of tables log) (numbers_below (item_count g)))
+          (map (λ (c : Column). c.cube) idle) c.cube
+          (Contains-flat_map (excluded_of tables log) (numbers_below (item_count g)) x c.cube
+          (Contains-numbers (item_count g) x (item_within k x c m.there))
+          (Contains-map (λ (c : Column). c.cube)
+          (filter (λ (c : Column). is_excluded log.until (logged_time log.acts x) c.time) (columns_of tables x)) c
+          (Contains-filter (λ (c : Column). is_excluded log.until (logged_time log.acts x) c.time)
+          (columns_of tables x) c e m.there))))));
+      active = λ l c. not-false (item_active g s.values (item_at g l.item)) (from_any_false
+          (λ (l : Logged). not (item_active g s.values (item_at g l.item))) log.acts l (sym told ∙ none_idle) c);
     }
       where
         none_idle : list_any (λ (c : Column). matches c.cube s) idle ≡ false
-        none_idle = sym (any_map (λ b. matches b s) (λ (c : Column). c.cube) idle) ∙ list_any_false (λ b. matches b s) (map (λ (c : Column). c.cube) idle) (λ b h.
-            from_any_false (λ b. matches b s) (flat_map (excluded_of tables log) (numbers_below (item_count g)) ++ map (λ (c : Column). c.cube) idle) b none
-            (Contains-append_right (flat_map (excluded_of tables log) (numbers_below (item_count g))) (map (λ (c : Column). c.cube) idle) b h))
+        none_idle = sym (any_map (λ b. matches b s) (λ (c : Column). c.cube) idle)
+            ∙ list_any_false (λ b. matches b s) (map (λ (c : Column). c.cube) idle) (λ b h.
+            from_any_false (λ b. matches b s) (flat_map (excluded_of tables log) (numbers_below (item_count g))
+            ++ map (λ (c : Column). c.cube) idle) b none
+            (Contains-append_right (flat_map (excluded_of tables log) (numbers_below (item_count g)))
+            (map (λ (c : Column). c.cube) idle) b h))
 
 -- ---- the least scenario that is left
 
@@ -160,17 +213,22 @@ left_is : (b : Bool) → not b ≡ true → b ≡ false
 left_is false e = refl
 left_is true e = absurd (true≢false (sym e))
 
-module _ (g : Graph) (order : List ℕ) (tables : List NodeTable) (setting : (s : Scenario) → IsScenario g s → Setting g tables s) (log : Log) (is : IsLog g log)
-    (idle : List Column) (told : (s : Scenario) → IsScenario g s → list_any (λ (c : Column). matches c.cube s) idle ≡ is_some_idle g log.acts s)
-    (by : List (List Literal)) (are : by ≡ flat_map (excluded_of tables log) (numbers_below (item_count g)) ++ map (λ (c : Column). c.cube) idle) where
+module _ (g : Graph) (order : List ℕ) (tables : List NodeTable)
+    (setting : (s : Scenario) → IsScenario g s → Setting g tables s) (log : Log) (is : IsLog g log)
+    (idle : List Column) (told : (s : Scenario) → IsScenario g s →
+    list_any (λ (c : Column). matches c.cube s) idle ≡ is_some_idle g log.acts s)
+    (by : List (List Literal)) (are : by ≡ flat_map (excluded_of tables log) (numbers_below (item_count g))
+    ++ map (λ (c : Column). c.cube) idle) where
   left_gives : (s : Scenario) → IsScenario g s → is_left by [] s ≡ true → Gives g tables log s
   left_gives s law e = fits_gives (setting s law) log is (left_fits (setting s law) log is idle (told s law)
       (ap (list_any (λ b. matches b s)) (sym are) ∙ left_is (list_any (λ b. matches b s) by) e))
 
   gives_left : (s : Scenario) → IsScenario g s → Gives g tables log s → is_left by [] s ≡ true
-  gives_left s law gives = ap not (ap (list_any (λ b. matches b s)) are ∙ fits_left (setting s law) log is idle (told s law) (gives_fits (setting s law) log is gives))
+  gives_left s law gives = ap not (ap (list_any (λ b. matches b s)) are
+      ∙ fits_left (setting s law) log is idle (told s law) (gives_fits (setting s law) log is gives))
 
-  pub least_gives : (r : Option Scenario) → IsFirst g order (is_left by []) r → IfSome r (IsLeast g order (Gives g tables log))
+  pub least_gives : (r : Option Scenario) → IsFirst g order (is_left by []) r →
+      IfSome r (IsLeast g order (Gives g tables log))
   least_gives None first = tt
   least_gives (Some s) first = record {
     lawful = first.lawful;
@@ -178,16 +236,22 @@ module _ (g : Graph) (order : List ℕ) (tables : List NodeTable) (setting : (s 
     least = λ t law gives. first.least t law (gives_left t law gives);
   }
 
-  pub none_gives : (r : Option Scenario) → IsFirst g order (is_left by []) r → IfNone r ((s : Scenario) → IsScenario g s → Gives g tables log s → ⊥)
+  pub none_gives : (r : Option Scenario) → IsFirst g order (is_left by []) r →
+      IfNone r ((s : Scenario) → IsScenario g s → Gives g tables log s → ⊥)
   none_gives None first = λ s law gives. true≢false (sym (gives_left s law gives) ∙ first s law)
   none_gives (Some s) first = tt
 
 -- the variables of excluded cubes are the graph's
-pub excluded_known : (g : Graph) (tables : List NodeTable) (log : Log) (x : ℕ) → All (λ (c : Column). IsKnown g c.cube) (columns_of tables x) → All (IsKnown g) (excluded_of tables log x)
+pub excluded_known : (g : Graph) (tables : List NodeTable) (log : Log) (x : ℕ) →
+    All (λ (c : Column). IsKnown g c.cube) (columns_of tables x) →
+    All (IsKnown g) (excluded_of tables log x)
 excluded_known g tables log x known =
     let excluded : Column → Bool = λ c. is_excluded log.until (logged_time log.acts x) c.time in
-    All-map (IsKnown g) (λ (c : Column). c.cube) (filter excluded (columns_of tables x)) (All-filter excluded (λ (c : Column). IsKnown g c.cube) (columns_of tables x) known)
+    All-map (IsKnown g) (λ (c : Column). c.cube) (filter excluded (columns_of tables x))
+    (All-filter excluded (λ (c : Column). IsKnown g c.cube) (columns_of tables x) known)
 
-pub idle_known : (g : Graph) (kept : List (List Literal)) (idle : List Column) → All (IsKnown g) kept → All (λ (c : Column). IsKnown g c.cube) idle →
+pub idle_known : (g : Graph) (kept : List (List Literal)) (idle : List Column) → All (IsKnown g) kept →
+    All (λ (c : Column). IsKnown g c.cube) idle →
     All (IsKnown g) (kept ++ map (λ (c : Column). c.cube) idle)
-idle_known g kept idle first then = All-append (IsKnown g) kept (map (λ (c : Column). c.cube) idle) first (All-map (IsKnown g) (λ (c : Column). c.cube) idle then)
+idle_known g kept idle first then = All-append (IsKnown g) kept (map (λ (c : Column). c.cube) idle) first
+    (All-map (IsKnown g) (λ (c : Column). c.cube) idle then)

@@ -1,5 +1,6 @@
 -- The columns of the tree of where an item isn't active match in just the scenarios in which it isn't.
-use Rattle.std.proofs.Common.{ℕ, ◌+◌, ◌<◌, ◌≡◌, ◌||◌, Bool, true, false, not, List, [], ◌++◌, length, take, get_or, Option, Some, None, Contains, IsPermutation, refl, sym, ap, ap₂, ◌∙◌, subst, inl}
+use Rattle.std.proofs.Common.{ℕ, ◌+◌, ◌<◌, ◌≡◌, ◌||◌, Bool, true, false, not, List, [], ◌++◌, length, take, get_or}
+use Rattle.std.proofs.Common.{Option, Some, None, Contains, IsPermutation, refl, sym, ap, ap₂, ◌∙◌, subst, inl}
 use Rattle.std.proofs.Common.{inr}
 use Rattle.std.specs.List.{list_any}
 use Rattle.std.proofs.lemmas.List.Folds.{list_any-append, list_any_more}
@@ -7,7 +8,8 @@ use Rattle.std.proofs.lemmas.List.Sorted.{IsPermutation-sym, Contains-permutatio
 use Rattle.std.proofs.lemmas.Option.{none-some}
 use Rattle.cpg_base.specs.Graph.{Graph, item_at}
 use Rattle.cpg_base.specs.Activity.{item_active}
-use Rattle.cpg_base.proofs.Lists.{Contains-first, Contains-cases, Contains-nil, Contains-flat_map, Contains-flat_map_parts, list_any_true, list_any_parts, same_truth}
+use Rattle.cpg_base.proofs.Lists.{Contains-first, Contains-cases, Contains-nil, Contains-flat_map}
+use Rattle.cpg_base.proofs.Lists.{Contains-flat_map_parts, list_any_true, list_any_parts, same_truth}
 use Rattle.cpg_base.specs.Scenario.{Scenario, IsScenario}
 use Rattle.cpg_cube.specs.Column.{Column}
 use Rattle.cpg_cube.specs.Cube.{matches}
@@ -22,7 +24,8 @@ use Rattle.cpg_audit.specs.Excluded.{idle_time, is_some_idle}
 use Rattle.cpg_log.specs.declared.log.Logged.{Logged}
 
 -- a column comes of a path
-column_parts : (cube : List Literal) (time : Option ℕ) (c : Column) → Contains (column_of cube time) c → (time ≡ Some c.time) × (cube ≡ c.cube)
+column_parts : (cube : List Literal) (time : Option ℕ) (c : Column) → Contains (column_of cube time) c →
+    (time ≡ Some c.time) × (cube ≡ c.cube)
 column_parts cube None c j = absurd (Contains-nil c j)
 column_parts cube (Some n) c j = elim (Contains-cases (record { time = n; cube = cube }) [] c j) [
   | inl e ↦ (ap (λ (d : Column). Some d.time) e, ap (λ (d : Column). d.cube) e)
@@ -40,8 +43,10 @@ idle_at true e = absurd (true_false (sym e))
     true_false e = cc
 idle_at false e = refl
 
-module _ (g : Graph) (x : ℕ) (a : TreeState Bool) (tree : IsTree g a) (active : IsActivityOf g x a) (t : TreeState (Option ℕ)) (is : IsMap (λ b z. z ≡ idle_time b) a t)
-    (each : HasOnePathEach t.faults t.paths) (columns : List Column) (all : IsPermutation (columns_of_paths t.paths) columns) (s : Scenario) (law : IsScenario g s) where
+module _ (g : Graph) (x : ℕ) (a : TreeState Bool) (tree : IsTree g a) (active : IsActivityOf g x a)
+    (t : TreeState (Option ℕ)) (is : IsMap (λ b z. z ≡ idle_time b) a t)
+    (each : HasOnePathEach t.faults t.paths) (columns : List Column)
+    (all : IsPermutation (columns_of_paths t.paths) columns) (s : Scenario) (law : IsScenario g s) where
   few : HasAtMostFaults g.faults s
   few = scenario_few g s law
 
@@ -49,31 +54,43 @@ module _ (g : Graph) (x : ℕ) (a : TreeState Bool) (tree : IsTree g a) (active 
   value : (z : Path (Option ℕ)) → IsOnPath t.paths s z → z.1 ≡ idle_time (item_active g s.values (item_at g x))
   value z on =
       let y = the_path g.faults a.paths tree.each s few in
-      is.value s y.0 z (subst (λ k. HasAtMostFaults k s) (sym tree.faults) few) y.1 on ∙ ap idle_time (active s y.0 law y.1)
+      is.value s y.0 z (subst (λ k. HasAtMostFaults k s) (sym tree.faults) few) y.1 on
+      ∙ ap idle_time (active s y.0 law y.1)
 
-  from_column : list_any (λ (c : Column). matches c.cube s) columns ≡ true → not (item_active g s.values (item_at g x)) ≡ true
+  from_column : list_any (λ (c : Column). matches c.cube s) columns ≡ true →
+      not (item_active g s.values (item_at g x)) ≡ true
   from_column e =
       let r = list_any_parts (λ (c : Column). matches c.cube s) columns e in
-      let back = Contains-permutation columns (columns_of_paths t.paths) r.0 (IsPermutation-sym (columns_of_paths t.paths) columns all) r.1 in
+      let back = Contains-permutation columns (columns_of_paths t.paths) r.0
+      (IsPermutation-sym (columns_of_paths t.paths) columns all) r.1 in
       let p = Contains-flat_map_parts (λ (p : Path (Option ℕ)). column_of p.0 p.1) t.paths r.0 back in
       let parts = column_parts p.0.0 p.0.1 r.0 p.2 in
-      idle_from (item_active g s.values (item_at g x)) r.0.time (sym (value p.0 (record { stands = p.1; matched = subst (λ (ls : List Literal). matches ls s ≡ true) (sym parts.1) r.2 })) ∙ parts.0)
+      idle_from (item_active g s.values (item_at g x)) r.0.time (sym (value p.0
+      (record { stands = p.1; matched = subst (λ (ls : List Literal). matches ls s ≡ true) (sym parts.1) r.2 }))
+      ∙ parts.0)
 
-  to_column : not (item_active g s.values (item_at g x)) ≡ true → list_any (λ (c : Column). matches c.cube s) columns ≡ true
+  to_column : not (item_active g s.values (item_at g x)) ≡ true →
+      list_any (λ (c : Column). matches c.cube s) columns ≡ true
   to_column e =
       let z = the_path g.faults t.paths (subst (λ k. HasOnePathEach k t.paths) (is.faults ∙ tree.faults) each) s few in
       let idle : Column = record { time = 0; cube = z.0.0 } in
       let here : z.0.1 ≡ Some 0 = value z.0 z.1 ∙ idle_at (item_active g s.values (item_at g x)) e in
-      list_any_true (λ (c : Column). matches c.cube s) columns idle (Contains-permutation (columns_of_paths t.paths) columns idle all
-      (Contains-flat_map (λ (p : Path (Option ℕ)). column_of p.0 p.1) t.paths z.0 idle z.1.stands (subst (λ o. Contains (column_of z.0.0 o) idle) (sym here) (Contains-first idle [])))) z.1.matched
+      list_any_true (λ (c : Column). matches c.cube s) columns idle
+      (Contains-permutation (columns_of_paths t.paths) columns idle all
+      (Contains-flat_map (λ (p : Path (Option ℕ)). column_of p.0 p.1) t.paths z.0 idle z.1.stands
+      (subst (λ o. Contains (column_of z.0.0 o) idle) (sym here) (Contains-first idle [])))) z.1.matched
 
   pub idle_columns : list_any (λ (c : Column). matches c.cube s) columns ≡ not (item_active g s.values (item_at g x))
-  idle_columns = same_truth (list_any (λ (c : Column). matches c.cube s) columns) (not (item_active g s.values (item_at g x))) from_column to_column
+  idle_columns = same_truth (list_any (λ (c : Column). matches c.cube s) columns)
+      (not (item_active g s.values (item_at g x))) from_column to_column
 
 -- the columns of one act more
-pub idle_more : (g : Graph) (s : Scenario) (acts : List Logged) (i : ℕ) (d : Logged) → i < length acts → (old columns : List Column) →
+pub idle_more : (g : Graph) (s : Scenario) (acts : List Logged) (i : ℕ) (d : Logged) → i < length acts →
+    (old columns : List Column) →
     list_any (λ (c : Column). matches c.cube s) old ≡ is_some_idle g (take i acts) s
-    → list_any (λ (c : Column). matches c.cube s) columns ≡ not (item_active g s.values (item_at g (get_or acts i d).item)) →
+    → list_any (λ (c : Column). matches c.cube s) columns
+    ≡ not (item_active g s.values (item_at g (get_or acts i d).item)) →
     list_any (λ (c : Column). matches c.cube s) (old ++ columns) ≡ is_some_idle g (take (i + 1) acts) s
 idle_more g s acts i d l old columns first second = list_any-append (λ (c : Column). matches c.cube s) old columns
-    ∙ ap₂ (λ a b. a || b) first second ∙ sym (list_any_more (λ (l : Logged). not (item_active g s.values (item_at g l.item))) acts i d l)
+    ∙ ap₂ (λ a b. a || b) first second
+    ∙ sym (list_any_more (λ (l : Logged). not (item_active g s.values (item_at g l.item))) acts i d l)

@@ -1,5 +1,6 @@
 -- What ranges tell of the cubes that they are narrowed by.
-use Rattle.std.proofs.Common.{ℕ, zero, suc, refl, ◌||◌, ◌∷◌, ◌++◌, ◌+◌, ◌-◌, ◌<◌, ◌≤◌, ◌≡◌, true, false, not, ◌&&◌, List, [], length, get_or, take, drop, map, All, Bor, Bool, arith, sym, ap, ◌∙◌}
+use Rattle.std.proofs.Common.{ℕ, zero, suc, refl, ◌||◌, ◌∷◌, ◌++◌, ◌+◌, ◌-◌, ◌<◌, ◌≤◌, ◌≡◌, true, false, not, ◌&&◌}
+use Rattle.std.proofs.Common.{List, [], length, get_or, take, drop, map, All, Bor, Bool, arith, sym, ap, ◌∙◌}
 use Rattle.std.proofs.Common.{subst, inl, inr, Option, Some, None}
 use Rattle.std.specs.Prelude.{IfNone, IfSome, IsPermutation}
 use Rattle.std.specs.List.{flat_map, list_any}
@@ -26,27 +27,34 @@ use Rattle.cpg_audit.specs.Narrowing.{IsRange}
 -- ---- where a literal doesn't hold
 
 module _ (s : Scenario) (l : Literal) (off : holds s l ≡ false) where
-  pub above_range : (most : ℕ) → l.low ≤ number_of s l.variable → number_of s l.variable ≤ most → holds s (record { variable = l.variable; low = l.high + 1; high = most }) ≡ true
+  pub above_range : (most : ℕ) → l.low ≤ number_of s l.variable → number_of s l.variable ≤ most →
+      holds s (record { variable = l.variable; low = l.high + 1; high = most }) ≡ true
   above_range most h k = elim (cases_lt l.high (number_of s l.variable)) [
-    | inl above ↦ let m : Literal = record { variable = l.variable; low = l.high + 1; high = most } in holds-from s m (omega (arith, above)) k
+    | inl above ↦ let m : Literal = record { variable = l.variable; low = l.high + 1; high = most } in
+        holds-from s m (omega (arith, above)) k
     | inr within ↦ absurd (both_ways (holds s l) off (holds-from s l h within))
   ]
 
-  pub below_range : (least : ℕ) → least ≤ number_of s l.variable → number_of s l.variable ≤ l.high → holds s (record { variable = l.variable; low = least; high = l.low - 1 }) ≡ true
+  pub below_range : (least : ℕ) → least ≤ number_of s l.variable → number_of s l.variable ≤ l.high →
+      holds s (record { variable = l.variable; low = least; high = l.low - 1 }) ≡ true
   below_range least h k = elim (cases_lt (number_of s l.variable) l.low) [
-    | inl below ↦ let m : Literal = record { variable = l.variable; low = least; high = l.low - 1 } in holds-from s m h (omega (arith, below))
+    | inl below ↦ let m : Literal = record { variable = l.variable; low = least; high = l.low - 1 } in
+        holds-from s m h (omega (arith, below))
     | inr within ↦ absurd (both_ways (holds s l) off (holds-from s l within k))
   ]
 
 -- ---- one cube more, from the last
 
-pub before_place : {X : Type 0} (f : X → Bool) (xs : List X) (place : ℕ) (x : X) (held : Bool) → 0 < place → place ≤ length xs → x ≡ get_or xs (place - 1) x →
+pub before_place : {X : Type 0} (f : X → Bool) (xs : List X) (place : ℕ) (x : X) (held : Bool) → 0 < place →
+    place ≤ length xs →
+    x ≡ get_or xs (place - 1) x →
     ((held || list_any f (drop place xs)) || f x) ≡ (held || list_any f (drop (place - 1) xs))
 before_place f xs place x held some within is =
     let more = at_drop_more (list_any f) xs (place - 1) x (omega (arith, some, within)) in
     let next : place - 1 + 1 ≡ place = omega (arith, some) in
     turn held (list_any f (drop place xs)) (f x) ∙ ap (λ b. held || (b || list_any f (drop place xs))) (ap f is) ∙
-    ap (λ k. held || (f (get_or xs (place - 1) x) || list_any f (drop k xs))) (sym next) ∙ ap (λ b. held || b) (sym more)
+    ap (λ k. held || (f (get_or xs (place - 1) x) || list_any f (drop k xs))) (sym next)
+    ∙ ap (λ b. held || b) (sym more)
   where
     turn : (a b c : Bool) → ((a || b) || c) ≡ (a || (c || b))
     turn true b c = refl
@@ -55,7 +63,9 @@ before_place f xs place x held some within is =
     turn false false true = refl
     turn false false false = refl
 
-pub one_before : {X : Type 0} (f : X → Bool) (xs : List X) (place : ℕ) (x : X) → 0 < place → place ≤ length xs → x ≡ get_or xs (place - 1) x → list_any f (drop (place - 1) xs) ≡ false →
+pub one_before : {X : Type 0} (f : X → Bool) (xs : List X) (place : ℕ) (x : X) → 0 < place → place ≤ length xs →
+    x ≡ get_or xs (place - 1) x →
+    list_any f (drop (place - 1) xs) ≡ false →
     (list_any f (drop place xs) ≡ false) × (f x ≡ false)
 one_before f xs place x some within is off =
     let more = at_drop_more (list_any f) xs (place - 1) x (omega (arith, some, within)) in
@@ -68,14 +78,16 @@ one_before f xs place x some within is off =
 any_taken : {X : Type 0} (f : X → Bool) (n : ℕ) (xs : List X) → list_any f xs ≡ false → list_any f (take n xs) ≡ false
 any_taken f zero xs off = refl
 any_taken f (suc n) [] off = off
-any_taken f (suc n) (x ∷ xs) off = let parts = or_parts (f x) (list_any f xs) off in ap (λ b. b || list_any f (take n xs)) parts.0 ∙ any_taken f n xs parts.1
+any_taken f (suc n) (x ∷ xs) off = let parts = or_parts (f x) (list_any f xs) off in
+    ap (λ b. b || list_any f (take n xs)) parts.0 ∙ any_taken f n xs parts.1
 
 any_dropped : {X : Type 0} (f : X → Bool) (n : ℕ) (xs : List X) → list_any f xs ≡ false → list_any f (drop n xs) ≡ false
 any_dropped f zero xs off = off
 any_dropped f (suc n) [] off = off
 any_dropped f (suc n) (x ∷ xs) off = any_dropped f n xs (or_parts (f x) (list_any f xs) off).1
 
-pub any_within : {X : Type 0} (f : X → Bool) (n m : ℕ) (xs : List X) → list_any f xs ≡ false → list_any f (take m (drop n xs)) ≡ false
+pub any_within : {X : Type 0} (f : X → Bool) (n m : ℕ) (xs : List X) → list_any f xs ≡ false →
+    list_any f (take m (drop n xs)) ≡ false
 any_within f n m xs off = any_taken f m (drop n xs) (any_dropped f n xs off)
 
 -- ---- a list of cubes that one more is added to, or isn't
@@ -85,7 +97,8 @@ module _ (kept : List (Bor (List Literal))) (cube : Bor (List Literal)) (s : Sce
   matched bs = list_any (λ (b : Bor (List Literal)). matches b.now s) bs
 
   pub pushed : matched (kept ++ cube ∷ []) ≡ (matched kept || matches cube.now s)
-  pushed = list_any-append (λ (b : Bor (List Literal)). matches b.now s) kept (cube ∷ []) ∙ ap (λ b. matched kept || b) (or-false (matches cube.now s))
+  pushed = list_any-append (λ (b : Bor (List Literal)). matches b.now s) kept (cube ∷ [])
+      ∙ ap (λ b. matched kept || b) (or-false (matches cube.now s))
 
   pub passed : (matched kept ≡ false → matches cube.now s ≡ false) → matched kept ≡ (matched kept || matches cube.now s)
   passed h = elim (cases_Bool (matched kept)) [
@@ -95,17 +108,23 @@ module _ (kept : List (Bor (List Literal))) (cube : Bor (List Literal)) (s : Sce
 
 -- ---- the cubes of all items, one by one and in another order
 
-any_flat : {X Y : Type 0} (p : Y → Bool) (f : X → List Y) (xs : List X) → list_any p (flat_map f xs) ≡ list_any (λ x. list_any p (f x)) xs
+any_flat : {X Y : Type 0} (p : Y → Bool) (f : X → List Y) (xs : List X) →
+    list_any p (flat_map f xs) ≡ list_any (λ x. list_any p (f x)) xs
 any_flat p f [] = refl
-any_flat p f (x ∷ xs) = ap (list_any p) (flat_map-cons f x xs) ∙ list_any-append p (f x) (flat_map f xs) ∙ ap (λ b. list_any p (f x) || b) (any_flat p f xs)
+any_flat p f (x ∷ xs) = ap (list_any p) (flat_map-cons f x xs) ∙ list_any-append p (f x) (flat_map f xs)
+    ∙ ap (λ b. list_any p (f x) || b) (any_flat p f xs)
 
-pub any_in_order : {X Y : Type 0} (p : Y → Bool) (f : X → List Y) (xs ys : List X) → IsPermutation xs ys → list_any p (flat_map f ys) ≡ list_any p (flat_map f xs)
-any_in_order p f xs ys perm = any_flat p f ys ∙ sym (list_any-IsPermutation (λ x. list_any p (f x)) xs ys perm) ∙ sym (any_flat p f xs)
+pub any_in_order : {X Y : Type 0} (p : Y → Bool) (f : X → List Y) (xs ys : List X) → IsPermutation xs ys →
+    list_any p (flat_map f ys) ≡ list_any p (flat_map f xs)
+any_in_order p f xs ys perm =
+    any_flat p f ys ∙ sym (list_any-IsPermutation (λ x. list_any p (f x)) xs ys perm) ∙ sym (any_flat p f xs)
 
 pub flat_more : {X Y Z : Type 0} (f : Y → List Z) (g : X → Y) (xs : List X) (i : ℕ) (d : X) → i < length xs →
     flat_map f (map g (take (i + 1) xs)) ≡ flat_map f (map g (take i xs)) ++ f (g (get_or xs i d))
 flat_more f g xs i d within =
-    ap (λ ys. flat_map f (map g ys)) (take_more xs i d within) ∙ ap (flat_map f) (map-append g (take i xs) (get_or xs i d ∷ [])) ∙ flat_map-append f (map g (take i xs)) (g (get_or xs i d) ∷ [])
+    ap (λ ys. flat_map f (map g ys)) (take_more xs i d within)
+    ∙ ap (flat_map f) (map-append g (take i xs) (get_or xs i d ∷ []))
+    ∙ flat_map-append f (map g (take i xs)) (g (get_or xs i d) ∷ [])
     ∙ ap (λ ys. flat_map f (map g (take i xs)) ++ ys) (append-nil (f (g (get_or xs i d))))
 
 -- ---- one literal more
@@ -114,54 +133,73 @@ module _ (space : Space) (ls : List Literal) (i : ℕ) (d : Literal) (within : i
   -- that holds in the whole space
   module _ (told : (s : Scenario) → IsInSpace space s → holds s (get_or ls i d) ≡ true) where
     same_with_told : (s : Scenario) → IsInSpace space s → matches (take (i + 1) ls) s ≡ matches (take i ls) s
-    same_with_told s lies = list_all_more (holds s) ls i d within ∙ ap (λ b. matches (take i ls) s && b) (told s lies) ∙ and-true (matches (take i ls) s)
+    same_with_told s lies = list_all_more (holds s) ls i d within ∙ ap (λ b. matches (take i ls) s && b) (told s lies)
+        ∙ and-true (matches (take i ls) s)
 
-    pub none_with_told : (o : Option Literal) → IfNone o ((s : Scenario) → IsInSpace space s → matches (take i ls) s ≡ true)
+    pub none_with_told : (o : Option Literal) →
+        IfNone o ((s : Scenario) → IsInSpace space s → matches (take i ls) s ≡ true)
         → IfNone o ((s : Scenario) → IsInSpace space s → matches (take (i + 1) ls) s ≡ true)
     none_with_told None h = λ s lies. same_with_told s lies ∙ h s lies
     none_with_told (Some l) h = tt
 
-    pub some_with_told : (o : Option Literal) → IfSome o (λ l. (s : Scenario) → IsInSpace space s → matches (take i ls) s ≡ holds s l) →
+    pub some_with_told : (o : Option Literal) →
+        IfSome o (λ l. (s : Scenario) → IsInSpace space s → matches (take i ls) s ≡ holds s l) →
         IfSome o (λ l. (s : Scenario) → IsInSpace space s → matches (take (i + 1) ls) s ≡ holds s l)
     some_with_told None h = tt
     some_with_told (Some l) h = λ s lies. same_with_told s lies ∙ h s lies
 
   -- the first that may not hold
-  pub first_open : (o : Option Literal) → o ≡ None → IfNone o ((s : Scenario) → IsInSpace space s → matches (take i ls) s ≡ true) → (s : Scenario) → IsInSpace space s →
+  pub first_open : (o : Option Literal) → o ≡ None →
+      IfNone o ((s : Scenario) → IsInSpace space s → matches (take i ls) s ≡ true) → (s : Scenario) →
+      IsInSpace space s →
       matches (take (i + 1) ls) s ≡ holds s (get_or ls i d)
   first_open o e h s lies =
-      let none : (s : Scenario) → IsInSpace space s → matches (take i ls) s ≡ true = subst (λ (x : Option Literal). IfNone x ((s : Scenario) → IsInSpace space s → matches (take i ls) s ≡ true)) e h in
+      let none : (s : Scenario) → IsInSpace space s → matches (take i ls) s ≡ true = subst
+      (λ (x : Option Literal). IfNone x ((s : Scenario) → IsInSpace space s → matches (take i ls) s ≡ true)) e h in
       list_all_more (holds s) ls i d within ∙ ap (λ b. b && holds s (get_or ls i d)) (none s lies)
 
 -- ---- the cube of a space
 
 module _ (g : Graph) (space : Space) where
-  pub ranges_weaker : (m n : ℕ) → m ≤ n → (cube : List Literal) → All (IsRange g space m) cube → All (IsRange g space n) cube
-  ranges_weaker m n h cube all = All-weaker (IsRange g space m) (IsRange g space n) (λ l r. record { known = r.known; below = omega (arith, r.below); told = r.told }) cube all
+  pub ranges_weaker : (m n : ℕ) → m ≤ n → (cube : List Literal) → All (IsRange g space m) cube →
+      All (IsRange g space n) cube
+  ranges_weaker m n h cube all = All-weaker (IsRange g space m) (IsRange g space n)
+      (λ l r. record { known = r.known; below = omega (arith, r.below); told = r.told }) cube all
 
-  pub matches_space : (n : ℕ) (cube : List Literal) → All (IsRange g space n) cube → (s : Scenario) → IsInSpace space s → matches cube s ≡ true
-  matches_space n cube all s lies = all_from (holds s) cube (λ l c. let r : IsRange g space n l = All-contains (IsRange g space n) cube l all c in r.told s lies)
+  pub matches_space : (n : ℕ) (cube : List Literal) → All (IsRange g space n) cube → (s : Scenario) →
+      IsInSpace space s →
+      matches cube s ≡ true
+  matches_space n cube all s lies = all_from (holds s) cube
+      (λ l c. let r : IsRange g space n l = All-contains (IsRange g space n) cube l all c in r.told s lies)
 
   pub known_ranges : (n : ℕ) (cube : List Literal) → All (IsRange g space n) cube → IsKnown g cube
-  known_ranges n cube all = All-weaker (IsRange g space n) (λ (l : Literal). IsVariable g l.variable) (λ l r. r.known) cube all
+  known_ranges n cube all =
+      All-weaker (IsRange g space n) (λ (l : Literal). IsVariable g l.variable) (λ l r. r.known) cube all
 
 -- what no cube matches is left of a cube that matches it, and cubes that match alike leave the same
-module _ (kept by : List (Bor (List Literal))) (idle all : List (List Literal)) (cube : List Literal) (s : Scenario) where
+module _ (kept by : List (Bor (List Literal))) (idle all : List (List Literal)) (cube : List Literal)
+    (s : Scenario) where
   abbrev seen : Bor (List Literal) → List Literal
   seen b = b.now
 
   abbrev test : List Literal → Bool
   test b = matches b s
 
-  pub left_of_whole : map seen by ≡ map seen kept ++ idle → list_any (λ (b : Bor (List Literal)). matches b.now s) kept ≡ list_any test all
-      → (list_any (λ (b : Bor (List Literal)). matches b.now s) kept ≡ false → matches cube s ≡ true) → is_left (map seen by) cube s ≡ is_left (all ++ idle) [] s
+  pub left_of_whole : map seen by ≡ map seen kept ++ idle →
+      list_any (λ (b : Bor (List Literal)). matches b.now s) kept ≡ list_any test all
+      → (list_any (λ (b : Bor (List Literal)). matches b.now s) kept ≡ false → matches cube s ≡ true) →
+      is_left (map seen by) cube s ≡ is_left (all ++ idle) [] s
   left_of_whole added alike within =
-      let parts : list_any test (map seen by) ≡ (list_any (λ (b : Bor (List Literal)). matches b.now s) kept || list_any test idle) = ap (list_any test) added ∙
+      let parts : list_any test (map seen by)
+      ≡ (list_any (λ (b : Bor (List Literal)). matches b.now s) kept || list_any test idle) =
+      ap (list_any test) added ∙
       list_any-append test (map seen kept) idle ∙ ap (λ b. b || list_any test idle) (any_map test seen kept) in
-      let same : list_any test (map seen by) ≡ list_any test (all ++ idle) = parts ∙ ap (λ b. b || list_any test idle) alike ∙ sym (list_any-append test all idle) in
+      let same : list_any test (map seen by) ≡ list_any test (all ++ idle) =
+      parts ∙ ap (λ b. b || list_any test idle) alike ∙ sym (list_any-append test all idle) in
       elim (cases_Bool (list_any test (map seen by))) [
         | inl on ↦ ap (λ x. matches cube s && not x) on ∙ and-false (matches cube s) ∙ sym (ap not (sym same ∙ on))
         | inr off ↦
-            let none = (or_parts (list_any (λ (b : Bor (List Literal)). matches b.now s) kept) (list_any test idle) (sym parts ∙ off)).0 in
+            let none = (or_parts (list_any (λ (b : Bor (List Literal)). matches b.now s) kept) (list_any test idle)
+            (sym parts ∙ off)).0 in
             ap (λ m. m && not (list_any test (map seen by))) (within none) ∙ ap not same
       ]

@@ -1,5 +1,6 @@
 -- Lists without repeats, by a test of two elements.
-use Rattle.std.proofs.Common.{◌≡◌, ◌≢◌, ◌==◌, eqb-true, ◌↔◌, ℕ, Bool, true, false, not, List, [], ◌∷◌, AllPairs, IsTrue, refl, ◌∙◌, sym, ap, subst, true≢false, arith, get_or, suc}
+use Rattle.std.proofs.Common.{◌≡◌, ◌≢◌, ◌==◌, eqb-true, ◌↔◌, ℕ, Bool, true, false, not, List, [], ◌∷◌, AllPairs, IsTrue}
+use Rattle.std.proofs.Common.{refl, ◌∙◌, sym, ap, subst, true≢false, arith, get_or, suc}
 use Rattle.std.specs.List.{list_any}
 use Rattle.std.specs.Str.{bytes_eq}
 use Rattle.std.proofs.lemmas.Slice.Eq.{bytes_eq-Decides}
@@ -10,17 +11,20 @@ use Rattle.cpg_base.specs.Numbers.{are_apart}
 use Rattle.cpg_base.specs.Graph.{Process, Slot}
 use Rattle.cpg_base.proofs.Lists.{list_any_false, from_any_false}
 
-module _ {X : Type 0} (same : X → X → Bool) (R : X → X → Type 0) (to : (x y : X) → same x y ≡ false → R x y) (back : (x y : X) → R x y → same x y ≡ false) where
+module _ {X : Type 0} (same : X → X → Bool) (R : X → X → Type 0) (to : (x y : X) → same x y ≡ false → R x y)
+    (back : (x y : X) → R x y → same x y ≡ false) where
   pub pairs_from_apart : (xs : List X) → are_apart same xs ≡ true → AllPairs R xs
   pairs_from_apart [] e = λ i j d l h. absurd (omega arith)
   pairs_from_apart (x ∷ xs) e =
       let p = and_parts (not (list_any (same x) xs)) (are_apart same xs) e in
-      AllPairs-cons R x xs (λ k d l. to x (get_or xs k d) (from_any_false (same x) xs (get_or xs k d) (not-true (list_any (same x) xs) p.0) (Contains-get_or xs k d l))) (pairs_from_apart xs p.1)
+      AllPairs-cons R x xs (λ k d l. to x (get_or xs k d) (from_any_false (same x) xs (get_or xs k d)
+      (not-true (list_any (same x) xs) p.0) (Contains-get_or xs k d l))) (pairs_from_apart xs p.1)
 
   pub apart_from_pairs : (xs : List X) → AllPairs R xs → are_apart same xs ≡ true
   apart_from_pairs [] h = refl
   apart_from_pairs (x ∷ xs) h = and_from (not (list_any (same x) xs)) (are_apart same xs)
-      (ap not (list_any_false (same x) xs (λ y c. back x y (subst (R x) c.2 (h 0 (suc c.0) y (omega arith) (omega (arith, c.1)))))))
+      (ap not (list_any_false (same x) xs
+      (λ y c. back x y (subst (R x) c.2 (h 0 (suc c.0) y (omega arith) (omega (arith, c.1)))))))
       (apart_from_pairs xs (λ i j d l m. h (suc i) (suc j) d (omega arith) (omega arith)))
 
   -- the test says whether it is so
@@ -38,9 +42,12 @@ differ_names x y apart = false_from_ne_true (bytes_eq x y) (λ t. apart ((bytes_
 pub names_apart : (b : Bool) (xs : List (List ℕ)) → are_apart bytes_eq xs ≡ b → IsTrue b ↔ AllPairs (λ x y. x ≢ y) xs
 names_apart b xs e = apart_iff bytes_eq (λ x y. x ≢ y) names_differ differ_names b xs e
 
-pub processes_apart : (b : Bool) (ps : List Process) → are_apart (λ p q. bytes_eq p.name q.name) ps ≡ b → IsTrue b ↔ AllPairs (λ p q. p.name ≢ q.name) ps
-processes_apart b ps e = apart_iff (λ p q. bytes_eq p.name q.name) (λ p q. p.name ≢ q.name) (λ p q. names_differ p.name q.name) (λ p q. differ_names p.name q.name) b ps e
+pub processes_apart : (b : Bool) (ps : List Process) → are_apart (λ p q. bytes_eq p.name q.name) ps ≡ b →
+    IsTrue b ↔ AllPairs (λ p q. p.name ≢ q.name) ps
+processes_apart b ps e = apart_iff (λ p q. bytes_eq p.name q.name) (λ p q. p.name ≢ q.name)
+    (λ p q. names_differ p.name q.name) (λ p q. differ_names p.name q.name) b ps e
 
-pub slots_apart : (b : Bool) (ss : List Slot) → are_apart (λ s t. s.node == t.node) ss ≡ b → IsTrue b ↔ AllPairs (λ s t. s.node ≢ t.node) ss
+pub slots_apart : (b : Bool) (ss : List Slot) → are_apart (λ s t. s.node == t.node) ss ≡ b →
+    IsTrue b ↔ AllPairs (λ s t. s.node ≢ t.node) ss
 slots_apart b ss e = apart_iff (λ s t. s.node == t.node) (λ s t. s.node ≢ t.node) (λ s t e. eqb-false s.node t.node e)
     (λ s t apart. false_from_ne_true (s.node == t.node) (λ e. apart (eqb-true s.node t.node e))) b ss e

@@ -11,20 +11,29 @@ use Rattle.cpg_base.specs.Limits.{IsProcessWithin, IsWithinLimits}
 use Rattle.cpg_base.proofs.Durations.{product_within, part_within}
 
 pub round-le : (g : Graph) → IsWithinLimits g → round g ≤ 16000000000
-round-le g within = omega (arith, sum_by-le (λ (s : Slot). s.length) 1000000000 g.slots (λ k d l. (within.slots k d l).length), within.few_slots)
+round-le g within = omega (
+  arith,
+  sum_by-le (λ (s : Slot). s.length) 1000000000 g.slots (λ k d l. (within.slots k d l).length),
+  within.few_slots,
+)
 
 -- a slot is no longer than the round
 pub slot_length-le : (g : Graph) (node : ℕ) → slot_length g node ≤ round g
 slot_length-le g node = elim (cases_lt (slot_place g node) (length g.slots)) [
   | inl l ↦ get_or-le-sum_by (λ (s : Slot). s.length) g.slots (slot_place g node) _ l
-  | inr l ↦ let e : slot_length g node ≡ 0 = ap (λ (s : Slot). s.length) (get_or_past g.slots (slot_place g node) _ l) in omega arith
+  | inr l ↦ let e : slot_length g node ≡ 0 =
+      ap (λ (s : Slot). s.length) (get_or_past g.slots (slot_place g node) _ l) in
+      omega arith
 ]
 
-pub duration_of-le : (nodes : ℕ) (p : Process) (f : ℕ) → IsProcessWithin nodes p → f ≤ 8 → duration_of p f ≤ 600000000000
+pub duration_of-le : (nodes : ℕ) (p : Process) (f : ℕ) → IsProcessWithin nodes p → f ≤ 8 →
+    duration_of p f ≤ 600000000000
 duration_of-le nodes p f within few =
-    let checks = product_within p.parts (p.alpha + p.chi) 255 2000000000 within.parts (omega (arith, within.alpha, within.chi)) in
+    let checks = product_within p.parts (p.alpha + p.chi) 255 2000000000 within.parts
+    (omega (arith, within.alpha, within.chi)) in
     let part = part_within p.wcet p.parts within.divided in
-    let again = product_within f (p.mu + div_ceil p.wcet p.parts + p.alpha) 8 3000000000 few (omega (arith, within.mu, within.alpha, within.wcet)) in
+    let again = product_within f (p.mu + div_ceil p.wcet p.parts + p.alpha) 8 3000000000 few
+    (omega (arith, within.mu, within.alpha, within.wcet)) in
     omega (arith, within.wcet)
 
 pub duration-le : (g : Graph) (p f : ℕ) → IsWithinLimits g → p < process_count g → f ≤ 8 → duration g p f ≤ 600000000000

@@ -1,5 +1,6 @@
 -- The conditions of a graph and the processes that have them: each condition is that of its process.
-use Rattle.std.proofs.Common.{ℕ, ◌<◌, ◌≤◌, ◌≡◌, ◌==◌, Bool, true, false, List, length, get_or, Some, is_some, unwrap_or, Contains, arith, ap, ◌∙◌, subst, ⊎_elim, lt_irrefl, eqb-true}
+use Rattle.std.proofs.Common.{ℕ, ◌<◌, ◌≤◌, ◌≡◌, ◌==◌, Bool, true, false, List, length, get_or, Some, is_some, unwrap_or}
+use Rattle.std.proofs.Common.{Contains, arith, ap, ◌∙◌, subst, ⊎_elim, lt_irrefl, eqb-true}
 use Rattle.std.specs.List.Sorted.{IsStrictlyIncreasing}
 use Rattle.std.proofs.lemmas.Bool.{cases_lt}
 use Rattle.std.proofs.lemmas.List.Elements.{Contains-get_or}
@@ -7,7 +8,8 @@ use Rattle.std.proofs.lemmas.List.{get_or_default}
 use Rattle.std.proofs.lemmas.List.Kept.{AllPairs-from_increasing}
 use Rattle.std.proofs.lemmas.List.Quantifiers.{position-Some}
 use Rattle.cpg_base.specs.Numbers.{numbers_below}
-use Rattle.cpg_base.specs.Graph.{Graph, process_count, edge_count, edge_at, source, outputs, is_disjunction, disjunctions, condition_count, condition_of, process_of}
+use Rattle.cpg_base.specs.Graph.{Graph, process_count, edge_count, edge_at, source, outputs, is_disjunction}
+use Rattle.cpg_base.specs.Graph.{disjunctions, condition_count, condition_of, process_of}
 use Rattle.cpg_base.specs.Activity.{value_of}
 use Rattle.cpg_base.proofs.Lists.{Contains-filter, Contains-numbers, list_any_true}
 use Rattle.cpg_base.proofs.Items.{disjunctions_rise}
@@ -22,7 +24,8 @@ place-get_or xs k rises h =
     let le = place-le xs (get_or xs k 0) k h (get_or_here xs k h) in
     ⊎_elim
     (λ (l : place xs (get_or xs k 0) < k). absurd
-    (lt_irrefl _ (subst (λ y. y < get_or xs k 0) (get_or-place xs (get_or xs k 0) 0 c) (AllPairs-from_increasing xs rises (place xs (get_or xs k 0)) k 0 l h))))
+    (lt_irrefl _ (subst (λ y. y < get_or xs k 0) (get_or-place xs (get_or xs k 0) 0 c)
+    (AllPairs-from_increasing xs rises (place xs (get_or xs k 0)) k 0 l h))))
     (λ (l : k ≤ place xs (get_or xs k 0)). omega arith)
     (cases_lt (place xs (get_or xs k 0)) k)
   where
@@ -41,20 +44,25 @@ module _ (g : Graph) where
   process_of_condition_of p c e = eqb-true (process_of g c) p (position-Some (λ q. q == p) (disjunctions g) c 0 e).1
 
   -- the condition of a process that has one
-  pub condition_there : (p : ℕ) → p < process_count g → is_disjunction g p ≡ true → (c : ℕ) × (c < condition_count g) × (process_of g c ≡ p)
+  pub condition_there : (p : ℕ) → p < process_count g → is_disjunction g p ≡ true →
+      (c : ℕ) × (c < condition_count g) × (process_of g c ≡ p)
   condition_there p h t =
-      let c = Contains-filter (is_disjunction g) (numbers_below (process_count g)) p t (Contains-numbers (process_count g) p h) in
+      let c = Contains-filter (is_disjunction g) (numbers_below (process_count g)) p t
+      (Contains-numbers (process_count g) p h) in
       (place (disjunctions g) p, place-lt (disjunctions g) p c, get_or-place (disjunctions g) p 0 c)
 
   -- the source of a conditional edge has a condition
-  pub condition_of_edge : (e : ℕ) (wanted : Bool) → e < edge_count g → source g e < process_count g → (edge_at g e).when ≡ Some wanted → (c : ℕ) × (c < condition_count g) ×
+  pub condition_of_edge : (e : ℕ) (wanted : Bool) → e < edge_count g → source g e < process_count g →
+      (edge_at g e).when ≡ Some wanted →
+      (c : ℕ) × (c < condition_count g) ×
       (process_of g c ≡ source g e)
   condition_of_edge e wanted h s w = condition_there (source g e) s
       (list_any_true (λ f. is_some (edge_at g f).when) (outputs g (source g e)) e
       (outputs-Contains g e h)
       (ap is_some w))
 
-  pub value_of_process : (values : List Bool) (c : ℕ) → c < condition_count g → value_of g values (process_of g c) ≡ get_or values c false
+  pub value_of_process : (values : List Bool) (c : ℕ) → c < condition_count g →
+      value_of g values (process_of g c) ≡ get_or values c false
   value_of_process values c h = ap (λ o. get_or values (unwrap_or o 0) false) (condition_of_process_of c h)
 
 module _ (g : Graph) where

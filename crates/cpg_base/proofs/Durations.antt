@@ -22,10 +22,13 @@ part_within work parts h = elim (cases_lt work (div_ceil work parts)) [
   | inr l ↦ l
 ]
 
-pub duration_short : (g : Graph) → IsWithinLimits g → (p f : ℕ) → p < process_count g → f ≤ g.faults → duration g p f < 2 ^ 40
+pub duration_short : (g : Graph) → IsWithinLimits g → (p f : ℕ) → p < process_count g → f ≤ g.faults →
+    duration g p f < 2 ^ 40
 duration_short g within p f l few =
     let at : IsProcessWithin _ (process_at g p) = within.processes p _ l in
-    let checks = product_within (process_at g p).parts ((process_at g p).alpha + (process_at g p).chi) 255 2000000000 at.parts (omega arith) in
+    let checks = product_within (process_at g p).parts
+    ((process_at g p).alpha + (process_at g p).chi) 255 2000000000 at.parts (omega arith) in
     let part = part_within (process_at g p).wcet (process_at g p).parts at.divided in
-    let again = product_within f ((process_at g p).mu + div_ceil (process_at g p).wcet (process_at g p).parts + (process_at g p).alpha) 8 3000000000 (omega (arith, within.faults)) (omega arith) in
+    let again = product_within f ((process_at g p).mu + div_ceil (process_at g p).wcet (process_at g p).parts
+    + (process_at g p).alpha) 8 3000000000 (omega (arith, within.faults)) (omega arith) in
     omega arith

@@ -1,5 +1,6 @@
 -- The first scenario that passes a test, from answers to smaller questions.
-use Rattle.std.proofs.Common.{ℕ, ◌≡◌, Bool, true, false, cond, ◌||◌, IsTrue, List, [], ◌∷◌, Contains, Option, Some, None, refl, sym, ap, ◌∙◌, ⊎_elim, IsPermutation}
+use Rattle.std.proofs.Common.{ℕ, ◌≡◌, Bool, true, false, cond, ◌||◌, IsTrue, List, [], ◌∷◌, Contains, Option, Some}
+use Rattle.std.proofs.Common.{None, refl, sym, ap, ◌∙◌, ⊎_elim, IsPermutation}
 use Rattle.std.specs.List.{list_any}
 use Rattle.std.proofs.lemmas.Bool.{both_ways, or_from, or_left, or_right, or_cases}
 use Rattle.cpg_base.specs.Numbers.{numbers_below}
@@ -11,7 +12,9 @@ use Rattle.cpg_base.proofs.ScenarioOrder.{not_before_transitive, before_one_way,
 
 module _ (g : Graph) (order : List ℕ) where
   -- the first scenario that passes a test is that of another test with the same answers
-  pub first_same : (p q : Scenario → Bool) (o : Option Scenario) → ((s : Scenario) → IsScenario g s → p s ≡ q s) → IsFirst g order p o → IsFirst g order q o
+  pub first_same : (p q : Scenario → Bool) (o : Option Scenario) → ((s : Scenario) → IsScenario g s → p s ≡ q s) →
+      IsFirst g order p o →
+      IsFirst g order q o
   first_same p q None h f = λ s i. sym (h s i) ∙ f s i
   first_same p q (Some s) h f = record {
     lawful = f.lawful;
@@ -23,17 +26,20 @@ module _ (g : Graph) (order : List ℕ) where
   first_none p h = h
 
   -- the first scenario that passes one of two tests is the earlier of theirs
-  pub first_or : (p q : Scenario → Bool) (a b : Option Scenario) → IsFirst g order p a → IsFirst g order q b → IsFirst g order (λ s. p s || q s) (earlier g order a b)
+  pub first_or : (p q : Scenario → Bool) (a b : Option Scenario) → IsFirst g order p a → IsFirst g order q b →
+      IsFirst g order (λ s. p s || q s) (earlier g order a b)
   first_or p q None None f h = λ s i. or_from (p s) (q s) (f s i) (h s i)
   first_or p q None (Some t) f h = record {
     lawful = h.lawful;
     holds = or_right (p t) (q t) h.holds;
-    least = λ s i k. ⊎_elim (λ (e : p s ≡ true). absurd (both_ways (p s) (f s i) e)) (λ (e : q s ≡ true). h.least s i e) (or_cases (p s) (q s) k);
+    least = λ s i k. ⊎_elim (λ (e : p s ≡ true). absurd (both_ways (p s) (f s i) e)) (λ (e : q s ≡ true). h.least s i e)
+        (or_cases (p s) (q s) k);
   }
   first_or p q (Some s) None f h = record {
     lawful = f.lawful;
     holds = or_left (p s) (q s) f.holds;
-    least = λ t i k. ⊎_elim (λ (e : p t ≡ true). f.least t i e) (λ (e : q t ≡ true). absurd (both_ways (q t) (h t i) e)) (or_cases (p t) (q t) k);
+    least = λ t i k. ⊎_elim (λ (e : p t ≡ true). f.least t i e) (λ (e : q t ≡ true). absurd (both_ways (q t) (h t i) e))
+        (or_cases (p t) (q t) k);
   }
   first_or p q (Some s) (Some t) f h = of_two (is_before g order t s) refl
     where
@@ -56,15 +62,18 @@ module _ (g : Graph) (order : List ℕ) where
       }
 
   -- the first scenario that passes one of a list of tests is the earliest of theirs
-  pub first_of_all : {X : Type 0} (test : X → Scenario → Bool) (answer : X → Option Scenario) (cs : List X) → ((c : X) → Contains cs c → IsFirst g order (test c) (answer c)) →
+  pub first_of_all : {X : Type 0} (test : X → Scenario → Bool) (answer : X → Option Scenario) (cs : List X) →
+      ((c : X) → Contains cs c → IsFirst g order (test c) (answer c)) →
       IsFirst g order (λ s. list_any (λ c. test c s) cs) (first_of g order answer cs)
   first_of_all test answer [] h = λ s i. refl
-  first_of_all test answer (c ∷ cs) h = first_or (test c) (λ s. list_any (λ d. test d s) cs) (answer c) (first_of g order answer cs)
+  first_of_all test answer (c ∷ cs) h =
+      first_or (test c) (λ s. list_any (λ d. test d s) cs) (answer c) (first_of g order answer cs)
       (h c (Contains-first c cs))
       (first_of_all test answer cs (λ d k. h d (Contains-rest c cs d k)))
 
   -- along an order of all processes there is one answer
-  pub one_first : IsPermutation (numbers_below (process_count g)) order → (p : Scenario → Bool) (a b : Option Scenario) → IsFirst g order p a → IsFirst g order p b → a ≡ b
+  pub one_first : IsPermutation (numbers_below (process_count g)) order →
+      (p : Scenario → Bool) (a b : Option Scenario) → IsFirst g order p a → IsFirst g order p b → a ≡ b
   one_first all p None None f h = refl
   one_first all p None (Some t) f h = absurd (both_ways (p t) (f t h.lawful) h.holds)
   one_first all p (Some s) None f h = absurd (both_ways (p s) (h s f.lawful) f.holds)

@@ -1,5 +1,6 @@
 -- The conditions that one pass over the edges finds are those of the graph.
-use Rattle.std.proofs.Common.{ℕ, ◌<◌, ◌≡◌, Bool, true, ◌==◌, length, get_or, filter, Some, is_some, refl, ap, ◌∙◌, arith, eq-eqb, eqb-true, lt-ltb}
+use Rattle.std.proofs.Common.{ℕ, ◌<◌, ◌≡◌, Bool, true, ◌==◌, length, get_or, filter, Some, is_some, refl, ap, ◌∙◌}
+use Rattle.std.proofs.Common.{arith, eq-eqb, eqb-true, lt-ltb}
 use Rattle.std.specs.List.{position_or_len}
 use Rattle.std.proofs.lemmas.Bool.{and_parts, and_from, cond-true, false_from_ne_true}
 use Rattle.std.proofs.lemmas.List.{get_or_default}
@@ -7,9 +8,11 @@ use Rattle.std.proofs.lemmas.List.Elements.{Contains-get_or}
 use Rattle.std.proofs.lemmas.List.Kept.{AllPairs-from_increasing}
 use Rattle.std.proofs.lemmas.List.Sums.{position_or_len_is}
 use Rattle.cpg_base.specs.Numbers.{numbers_below}
-use Rattle.cpg_base.specs.Graph.{Graph, Edge, process_count, edge_count, edge_at, source, outputs, is_disjunction, disjunctions, condition_count, condition_of, process_of}
+use Rattle.cpg_base.specs.Graph.{Graph, Edge, process_count, edge_count, edge_at, source, outputs, is_disjunction}
+use Rattle.cpg_base.specs.Graph.{disjunctions, condition_count, condition_of, process_of}
 use Rattle.cpg_base.specs.Conditions.{is_conditional_output, has_conditional_output}
-use Rattle.cpg_base.proofs.Lists.{Contains-filter, Contains-numbers, list_any_parts, list_any_true, same_truth, same_filter}
+use Rattle.cpg_base.proofs.Lists.{Contains-filter, Contains-numbers, list_any_parts, list_any_true, same_truth}
+use Rattle.cpg_base.proofs.Lists.{same_filter}
 use Rattle.cpg_base.proofs.Inputs.{outputs_parts}
 use Rattle.cpg_base.proofs.Items.{disjunctions_rise}
 
@@ -27,7 +30,8 @@ module _ (g : Graph) where
       let is : edge_at g a.1.0 ≡ a.0 = get_or_default g.edges a.1.0 _ a.0 a.1.1 ∙ a.1.2 in
       let both = and_parts (a.0.from == p) (is_some a.0.when) a.2 in
       list_any_true (λ e. is_some (edge_at g e).when) (outputs g p) a.1.0
-      (Contains-filter (λ e. source g e == p) (numbers_below (edge_count g)) a.1.0 (ap (λ (d : Edge). d.from == p) is ∙ both.0) (Contains-numbers (edge_count g) a.1.0 a.1.1))
+      (Contains-filter (λ e. source g e == p) (numbers_below (edge_count g)) a.1.0
+      (ap (λ (d : Edge). d.from == p) is ∙ both.0) (Contains-numbers (edge_count g) a.1.0 a.1.1))
       (ap (λ (d : Edge). is_some d.when) is ∙ both.1)
 
   pub conditions_found : filter (has_conditional_output g.edges) (numbers_below (process_count g)) ≡ disjunctions g
@@ -38,7 +42,13 @@ module _ (g : Graph) where
   pub condition_back : (c : ℕ) → c < condition_count g → condition_of g (process_of g c) ≡ Some c
   condition_back c h =
       let passes : ℕ → Bool = λ q. q == process_of g c in
-      let at : position_or_len passes (disjunctions g) ≡ c = position_or_len_is passes (disjunctions g) c 0 (omega arith)
-      (λ k l. false_from_ne_true _ (λ e. absurd (omega (arith, AllPairs-from_increasing (disjunctions g) (disjunctions_rise g) k c 0 l h, eqb-true (get_or (disjunctions g) k 0) (process_of g c) e))))
+      let at : position_or_len passes (disjunctions g) ≡ c =
+      position_or_len_is passes (disjunctions g) c 0 (omega arith)
+      (λ k l. false_from_ne_true _ (λ e. absurd (omega (
+        arith,
+        AllPairs-from_increasing (disjunctions g) (disjunctions_rise g) k c 0 l h,
+        eqb-true (get_or (disjunctions g) k 0) (process_of g c) e,
+      ))))
       (λ l. eq-eqb (process_of g c) (process_of g c) refl) in
-      cond-true _ _ _ (lt-ltb (position_or_len passes (disjunctions g)) (length (disjunctions g)) (omega (arith, at))) ∙ ap Some at
+      cond-true _ _ _ (lt-ltb (position_or_len passes (disjunctions g)) (length (disjunctions g)) (omega (arith, at)))
+      ∙ ap Some at

@@ -1,5 +1,6 @@
 -- Marks of the processes that have a conditional output, and the list of their numbers.
-use Rattle.std.proofs.Common.{ℕ, ◌+◌, ◌<◌, ◌≤◌, ◌≡◌, Bool, true, false, ◌&&◌, ◌||◌, ◌==◌, cond, List, [], ◌∷◌, ◌++◌, length, get_or, take, filter, is_some, replicate, set, refl, sym, ap, ap₂, ◌∙◌}
+use Rattle.std.proofs.Common.{ℕ, ◌+◌, ◌<◌, ◌≤◌, ◌≡◌, Bool, true, false, ◌&&◌, ◌||◌, ◌==◌, cond, List, [], ◌∷◌, ◌++◌}
+use Rattle.std.proofs.Common.{length, get_or, take, filter, is_some, replicate, set, refl, sym, ap, ap₂, ◌∙◌}
 use Rattle.std.proofs.Common.{inl, inr, arith, zero, suc, ◌-◌, subst, length-append}
 use Rattle.std.proofs.lemmas.Bool.{and_right, or_right}
 use Rattle.std.proofs.lemmas.Bool.Decides.{eqb_tells}
@@ -19,46 +20,64 @@ or_false true b h = refl
 or_false false b h = h
 
 module _ (edges : List Edge) (i : ℕ) (d : Edge) (within : i < length edges) where
-  more : (p : ℕ) → has_conditional_output (take (i + 1) edges) p ≡ (has_conditional_output (take i edges) p || is_conditional_output p (get_or edges i d))
+  more : (p : ℕ) →
+      has_conditional_output (take (i + 1) edges) p
+      ≡ (has_conditional_output (take i edges) p || is_conditional_output p (get_or edges i d))
   more p = list_any_more (is_conditional_output p) edges i d within
 
   -- a simple edge marks nothing
-  pub marks_keep : (marks : List Bool) → AreMarks marks (take i edges) → is_some (get_or edges i d).when ≡ false → AreMarks marks (take (i + 1) edges)
+  pub marks_keep : (marks : List Bool) → AreMarks marks (take i edges) → is_some (get_or edges i d).when ≡ false →
+      AreMarks marks (take (i + 1) edges)
   marks_keep marks h simple p l = h p l ∙ sym
-      (more p ∙ or_false (has_conditional_output (take i edges) p) (is_conditional_output p (get_or edges i d)) (and_right ((get_or edges i d).from == p) (is_some (get_or edges i d).when) simple))
+      (more p ∙ or_false (has_conditional_output (take i edges) p) (is_conditional_output p (get_or edges i d))
+      (and_right ((get_or edges i d).from == p) (is_some (get_or edges i d).when) simple))
 
   -- another edge marks its source
-  pub marks_set : (marks : List Bool) → AreMarks marks (take i edges) → is_some (get_or edges i d).when ≡ true → (get_or edges i d).from < length marks →
+  pub marks_set : (marks : List Bool) → AreMarks marks (take i edges) → is_some (get_or edges i d).when ≡ true →
+      (get_or edges i d).from < length marks →
       AreMarks (set marks (get_or edges i d).from true) (take (i + 1) edges)
   marks_set marks h taken inside p l = let e = get_or edges i d in elim (eqb_tells e.from p) [
-    | inl same ↦ ap (λ q. get_or (set marks e.from true) q false) (sym same.1) ∙ get_or-set_same marks e.from true false inside
-        ∙ sym (more p ∙ or_right (has_conditional_output (take i edges) p) (is_conditional_output p e) (ap₂ (λ a b. a && b) same.0 taken))
+    | inl same ↦ ap (λ q. get_or (set marks e.from true) q false) (sym same.1)
+        ∙ get_or-set_same marks e.from true false inside
+        ∙ sym (more p ∙ or_right (has_conditional_output (take i edges) p) (is_conditional_output p e)
+        (ap₂ (λ a b. a && b) same.0 taken))
     | inr apart ↦ get_or-set_other marks e.from p true false (λ q. apart.1 (sym q)) ∙ h p l
-        ∙ sym (more p ∙ or_false (has_conditional_output (take i edges) p) (is_conditional_output p e) (ap (λ a. a && is_some e.when) apart.0))
+        ∙ sym (more p ∙ or_false (has_conditional_output (take i edges) p) (is_conditional_output p e)
+        (ap (λ a. a && is_some e.when) apart.0))
   ]
 
 pub no_marks : (p : ℕ) → p < 128 → get_or (replicate 128 false) p false ≡ false
 no_marks p l = get_or-replicate 128 p false false l
 
 -- with more numbers no fewer pass a test
-filter_grows_by : (p : ℕ → Bool) (n m : ℕ) → length (filter p (numbers_below n)) ≤ length (filter p (numbers_below (m + n)))
-filter_grows_by p n zero = subst (λ k. length (filter p (numbers_below n)) ≤ length (filter p (numbers_below k))) (let e : n ≡ 0 + n = omega arith in e) (omega arith)
+filter_grows_by : (p : ℕ → Bool) (n m : ℕ) →
+    length (filter p (numbers_below n)) ≤ length (filter p (numbers_below (m + n)))
+filter_grows_by p n zero = subst (λ k. length (filter p (numbers_below n)) ≤ length (filter p (numbers_below k)))
+    (let e : n ≡ 0 + n = omega arith in e) (omega arith)
 filter_grows_by p n (suc m) =
-    let e : length (filter p (numbers_below (m + n + 1))) ≡ length (filter p (numbers_below (m + n))) + length (cond (p (m + n)) ((m + n) ∷ []) []) = ap length (filter_below_push p (m + n)) ∙
+    let e : length (filter p (numbers_below (m + n + 1))) ≡ length (filter p (numbers_below (m + n)))
+    + length (cond (p (m + n)) ((m + n) ∷ []) []) = ap length (filter_below_push p (m + n)) ∙
     length-append (filter p (numbers_below (m + n))) (cond (p (m + n)) ((m + n) ∷ []) []) in
-    subst (λ k. length (filter p (numbers_below n)) ≤ length (filter p (numbers_below k))) (let e : m + n + 1 ≡ suc m + n = omega arith in e) (omega (arith, e, filter_grows_by p n m))
+    subst (λ k. length (filter p (numbers_below n)) ≤ length (filter p (numbers_below k)))
+    (let e : m + n + 1 ≡ suc m + n = omega arith in e) (omega (arith, e, filter_grows_by p n m))
 
-pub filter_grows : (p : ℕ → Bool) (n k : ℕ) → n ≤ k → length (filter p (numbers_below n)) ≤ length (filter p (numbers_below k))
-filter_grows p n k h = subst (λ j. length (filter p (numbers_below n)) ≤ length (filter p (numbers_below j))) (let e : (k - n) + n ≡ k = omega arith in e) (filter_grows_by p n (k - n))
+pub filter_grows : (p : ℕ → Bool) (n k : ℕ) → n ≤ k →
+    length (filter p (numbers_below n)) ≤ length (filter p (numbers_below k))
+filter_grows p n k h = subst (λ j. length (filter p (numbers_below n)) ≤ length (filter p (numbers_below j)))
+    (let e : (k - n) + n ≡ k = omega arith in e) (filter_grows_by p n (k - n))
 
 -- if a number passes that comes after so many others, there are more
-pub many_pass : (p : ℕ → Bool) (n i most : ℕ) → i < n → p i ≡ true → length (filter p (numbers_below i)) ≡ most → most < length (filter p (numbers_below n))
+pub many_pass : (p : ℕ → Bool) (n i most : ℕ) → i < n → p i ≡ true → length (filter p (numbers_below i)) ≡ most →
+    most < length (filter p (numbers_below n))
 many_pass p n i most l t e =
-    let q : length (filter p (numbers_below (i + 1))) ≡ length (filter p (numbers_below i)) + 1 = ap length (filter_below_push p i ∙ ap (λ b. filter p (numbers_below i) ++ cond b (i ∷ []) []) t) ∙
+    let q : length (filter p (numbers_below (i + 1))) ≡ length (filter p (numbers_below i)) + 1 =
+    ap length (filter_below_push p i ∙ ap (λ b. filter p (numbers_below i) ++ cond b (i ∷ []) []) t) ∙
     length-append (filter p (numbers_below i)) (i ∷ []) in
     omega (arith, q, e, filter_grows p (i + 1) n (omega arith))
 
 -- the same numbers pass if the marks agree with a test
-pub same_marked : (marks : List Bool) (p : ℕ → Bool) (n : ℕ) → n ≤ 128 → ((q : ℕ) → q < 128 → get_or marks q false ≡ p q) →
+pub same_marked : (marks : List Bool) (p : ℕ → Bool) (n : ℕ) → n ≤ 128 →
+    ((q : ℕ) → q < 128 → get_or marks q false ≡ p q) →
     filter (λ q. get_or marks q false) (numbers_below n) ≡ filter p (numbers_below n)
-same_marked marks p n few h = same_filter (λ q. get_or marks q false) p (numbers_below n) (λ q c. h q (omega (arith, numbers-Contains n q c)))
+same_marked marks p n few h =
+    same_filter (λ q. get_or marks q false) p (numbers_below n) (λ q c. h q (omega (arith, numbers-Contains n q c)))

@@ -1,5 +1,6 @@
 -- The variables of a graph: which they are, and what values are as numbers; what is no variable is 0.
-use Rattle.std.proofs.Common.{ℕ, ◌-◌, ◌<◌, ◌≤◌, ◌≡◌, ◌⊎◌, Bool, true, false, not, ◌==◌, get_or, arith, refl, ap, ◌∙◌, ⊎_elim, inl, inr, le-ltb, lt-ltb}
+use Rattle.std.proofs.Common.{ℕ, ◌-◌, ◌<◌, ◌≤◌, ◌≡◌, ◌⊎◌, Bool, true, false, not, ◌==◌, get_or, arith, refl, ap, ◌∙◌}
+use Rattle.std.proofs.Common.{⊎_elim, inl, inr, le-ltb, lt-ltb}
 use Rattle.std.specs.Prelude.{nat_lt}
 use Rattle.std.proofs.lemmas.Bool.{cases_lt, cond-false, cond-true}
 use Rattle.std.proofs.lemmas.List.{get_or_past}
@@ -14,8 +15,10 @@ one_value true false e = absurd (omega arith)
 one_value false true e = absurd (omega arith)
 one_value false false e = refl
 
-pub number_of-value : (s : Scenario) (c : ℕ) → number_of s (value_variable c) ≡ number_of_value (get_or s.values c false)
-number_of-value s c = cond-false _ _ _ (le-ltb (value_variable c) 128 (omega arith)) ∙ ap (λ k. number_of_value (get_or s.values k false)) (let e : value_variable c - 128 ≡ c = omega arith in e)
+pub number_of-value : (s : Scenario) (c : ℕ) →
+    number_of s (value_variable c) ≡ number_of_value (get_or s.values c false)
+number_of-value s c = cond-false _ _ _ (le-ltb (value_variable c) 128 (omega arith))
+    ∙ ap (λ k. number_of_value (get_or s.values k false)) (let e : value_variable c - 128 ≡ c = omega arith in e)
 
 pub number_of-fault : (s : Scenario) (p : ℕ) → p < 128 → number_of s p ≡ fault_of s p
 number_of-fault s p h = cond-true _ _ _ (lt-ltb p 128 h)
@@ -29,7 +32,8 @@ number_of_value-le true = omega arith
 number_of_value-le false = omega arith
 
 -- the variable of a count, or of a value
-pub variable_cases : (g : Graph) (v : ℕ) → IsVariable g v → (v < process_count g) ⊎ ((c : ℕ) × (c < condition_count g) × (v ≡ value_variable c))
+pub variable_cases : (g : Graph) (v : ℕ) → IsVariable g v →
+    (v < process_count g) ⊎ ((c : ℕ) × (c < condition_count g) × (v ≡ value_variable c))
 variable_cases g v (inl h) = inl h
 variable_cases g v (inr h) = inr (v - 128, omega arith, omega arith)
 
@@ -37,19 +41,25 @@ pub variable_or_not : (g : Graph) (v : ℕ) → IsVariable g v ⊎ (IsVariable g
 variable_or_not g v = ⊎_elim
     (λ (a : v < process_count g). inl (inl a))
     (λ (a : process_count g ≤ v). ⊎_elim
-    (λ (b : v < 128). inr (λ h. ⊎_elim (λ (c : v < process_count g). omega arith) (λ (c : (128 ≤ v) × (v < value_variable (condition_count g))). omega arith) h))
+    (λ (b : v < 128). inr (λ h. ⊎_elim (λ (c : v < process_count g). omega arith)
+    (λ (c : (128 ≤ v) × (v < value_variable (condition_count g))). omega arith) h))
     (λ (b : 128 ≤ v). ⊎_elim
     (λ (c : v < value_variable (condition_count g)). inl (inr (b, c)))
-    (λ (c : value_variable (condition_count g) ≤ v). inr (λ h. ⊎_elim (λ (d : v < process_count g). omega arith) (λ (d : (128 ≤ v) × (v < value_variable (condition_count g))). omega arith) h))
+    (λ (c : value_variable (condition_count g) ≤ v). inr (λ h. ⊎_elim (λ (d : v < process_count g). omega arith)
+    (λ (d : (128 ≤ v) × (v < value_variable (condition_count g))). omega arith) h))
     (cases_lt v (value_variable (condition_count g))))
     (cases_lt v 128))
     (cases_lt v (process_count g))
 
 pub unknown-zero : (g : Graph) (s : Scenario) → IsScenario g s → (v : ℕ) → (IsVariable g v → ⊥) → number_of s v ≡ 0
 unknown-zero g s i v n = ⊎_elim
-    (λ (a : v < 128). let f = i.faults in number_of-fault s v a ∙ ⊎_elim (λ (b : v < process_count g). absurd (n (inl b))) (λ (b : process_count g ≤ v). get_or_past s.faults v 0 (omega arith))
+    (λ (a : v < 128). let f = i.faults in
+    number_of-fault s v a ∙ ⊎_elim (λ (b : v < process_count g). absurd (n (inl b)))
+    (λ (b : process_count g ≤ v). get_or_past s.faults v 0 (omega arith))
     (cases_lt v (process_count g)))
-    (λ (a : 128 ≤ v). let f = i.values in cond-false (nat_lt v 128) (fault_of s v) (number_of_value (get_or s.values (v - 128) false)) (le-ltb v 128 a)
+    (λ (a : 128 ≤ v). let f = i.values in
+    cond-false (nat_lt v 128) (fault_of s v) (number_of_value (get_or s.values (v - 128) false)) (le-ltb v 128 a)
     ∙ ⊎_elim (λ (b : v < value_variable (condition_count g)). absurd (n (inr (a, b))))
-    (λ (b : value_variable (condition_count g) ≤ v). ap number_of_value (get_or_past s.values (v - 128) false (omega arith))) (cases_lt v (value_variable (condition_count g))))
+    (λ (b : value_variable (condition_count g) ≤ v). ap number_of_value
+    (get_or_past s.values (v - 128) false (omega arith))) (cases_lt v (value_variable (condition_count g))))
     (cases_lt v 128)

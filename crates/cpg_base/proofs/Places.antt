@@ -1,5 +1,6 @@
 -- The places of processes in an order: what comes before another has a lower place, and of two one comes first.
-use Rattle.std.proofs.Common.{◌⊎◌, inl, inr, ◌≢◌, ℕ, ◌<◌, ◌≤◌, ◌≡◌, true, cond, ◌==◌, List, [], ◌∷◌, ◌++◌, length, get_or, Contains, IsPermutation, position, Some, None, unwrap_or, arith, refl, sym}
+use Rattle.std.proofs.Common.{◌⊎◌, inl, inr, ◌≢◌, ℕ, ◌<◌, ◌≤◌, ◌≡◌, true, cond, ◌==◌, List, [], ◌∷◌, ◌++◌, length}
+use Rattle.std.proofs.Common.{get_or, Contains, IsPermutation, position, Some, None, unwrap_or, arith, refl, sym}
 use Rattle.std.proofs.Common.{ap, ◌∙◌, subst, ⊎_elim, lt-ltb, le-ltb, eq-eqb, eqb-true, length-take}
 use Rattle.std.specs.List.{position_or_len, AllPairs}
 use Rattle.std.proofs.lemmas.Bool.{both_ways, cases_lt, cases_order}
@@ -10,26 +11,30 @@ use Rattle.std.proofs.lemmas.List.FromFn.{length-range_with_len}
 use Rattle.std.proofs.lemmas.List.Elements.{Contains-append_cases, Contains-get_or}
 use Rattle.cpg_base.specs.Numbers.{numbers_below}
 use Rattle.cpg_base.specs.Graph.{Graph, node_of}
-use Rattle.cpg_base.proofs.Lists.{Contains-nil, Contains-cases, Contains-filter_parts, list_any_parts, list_any_true, numbers-Contains, Contains-numbers}
+use Rattle.cpg_base.proofs.Lists.{Contains-nil, Contains-cases, Contains-filter_parts, list_any_parts, list_any_true}
+use Rattle.cpg_base.proofs.Lists.{numbers-Contains, Contains-numbers}
 use Rattle.cpg_base.specs.Order.{place, before, before_on_node, comes_before}
 
 -- the first place is at or before each place
 first_le : (xs : List ℕ) (x k : ℕ) → get_or xs k x ≡ x → position_or_len (λ q. q == x) xs ≤ k
 first_le xs x k e = ⊎_elim
-    (λ (l : k < position_or_len (λ q. q == x) xs). absurd (both_ways _ (fails_before_first (λ q. q == x) xs k x l) (eq-eqb _ _ e)))
+    (λ (l : k < position_or_len (λ q. q == x) xs).
+    absurd (both_ways _ (fails_before_first (λ q. q == x) xs k x l) (eq-eqb _ _ e)))
     (λ (l : position_or_len (λ q. q == x) xs ≤ k). l)
     (cases_lt k (position_or_len (λ q. q == x) xs))
 
 place_first : (xs : List ℕ) (x : ℕ) → Contains xs x → place xs x ≡ position_or_len (λ q. q == x) xs
 place_first xs x c =
     let l = first_le xs x c.0 c.2 in
-    ap (λ b. unwrap_or (cond b (Some (position_or_len (λ q. q == x) xs)) None) 0) (lt-ltb (position_or_len (λ q. q == x) xs) (length xs) (omega arith))
+    ap (λ b. unwrap_or (cond b (Some (position_or_len (λ q. q == x) xs)) None) 0)
+    (lt-ltb (position_or_len (λ q. q == x) xs) (length xs) (omega arith))
 
 pub position-place : (xs : List ℕ) (x : ℕ) → Contains xs x → position (λ q. q == x) xs ≡ Some (place xs x)
 position-place xs x c =
     let f = place_first xs x c in
     let l = first_le xs x c.0 c.2 in
-    ap (λ b. cond b (Some (position_or_len (λ q. q == x) xs)) None) (lt-ltb (position_or_len (λ q. q == x) xs) (length xs) (omega arith)) ∙ ap Some (sym f)
+    ap (λ b. cond b (Some (position_or_len (λ q. q == x) xs)) None)
+    (lt-ltb (position_or_len (λ q. q == x) xs) (length xs) (omega arith)) ∙ ap Some (sym f)
 
 pub place-le : (xs : List ℕ) (x k : ℕ) → k < length xs → get_or xs k x ≡ x → place xs x ≤ k
 place-le xs x k h e = let f = place_first xs x (k, h, e) in let l = first_le xs x k e in omega arith
@@ -50,8 +55,10 @@ same_place xs x y c d e = sym (get_or-place xs x 0 c) ∙ ap (λ k. get_or xs k 
 -- the place of a number is below the length of a list, also if the number is not there
 pub place-below : (xs : List ℕ) (x : ℕ) → 0 < length xs → place xs x < length xs
 place-below xs x h = ⊎_elim
-    (λ (l : position_or_len (λ q. q == x) xs < length xs). subst (λ b. unwrap_or (cond b (Some (position_or_len (λ q. q == x) xs)) None) 0 < length xs) (sym (lt-ltb _ _ l)) l)
-    (λ (l : length xs ≤ position_or_len (λ q. q == x) xs). subst (λ b. unwrap_or (cond b (Some (position_or_len (λ q. q == x) xs)) None) 0 < length xs) (sym (le-ltb _ _ l)) h)
+    (λ (l : position_or_len (λ q. q == x) xs < length xs). subst
+    (λ b. unwrap_or (cond b (Some (position_or_len (λ q. q == x) xs)) None) 0 < length xs) (sym (lt-ltb _ _ l)) l)
+    (λ (l : length xs ≤ position_or_len (λ q. q == x) xs). subst
+    (λ b. unwrap_or (cond b (Some (position_or_len (λ q. q == x) xs)) None) 0 < length xs) (sym (le-ltb _ _ l)) h)
     (cases_lt (position_or_len (λ q. q == x) xs) (length xs))
 
 pub from_before : (xs : List ℕ) (x y : ℕ) → Contains (before xs y) x → (Contains xs x) × (place xs x < place xs y)
@@ -82,11 +89,13 @@ before_contains xs x y t =
 pub comes_before_from : (xs : List ℕ) (x y : ℕ) → Contains (before xs y) x → comes_before xs x y ≡ true
 comes_before_from xs x y c = list_any_true (λ z. z == x) (before xs y) x c (eq-eqb x x refl)
 
-pub comes_before_from_places : (xs : List ℕ) (x y : ℕ) → Contains xs x → place xs x < place xs y → comes_before xs x y ≡ true
+pub comes_before_from_places : (xs : List ℕ) (x y : ℕ) → Contains xs x → place xs x < place xs y →
+    comes_before xs x y ≡ true
 comes_before_from_places xs x y c h = comes_before_from xs x y (Contains-before xs x y c h)
 
 -- one of two numbers comes before the other
-pub apart : (xs : List ℕ) (x y : ℕ) → Contains xs x → Contains xs y → x ≢ y → Contains (before xs y) x ⊎ Contains (before xs x) y
+pub apart : (xs : List ℕ) (x y : ℕ) → Contains xs x → Contains xs y → x ≢ y →
+    Contains (before xs y) x ⊎ Contains (before xs x) y
 apart xs x y c d ne = elim (cases_order (place xs x) (place xs y)) [
   | inl e ↦ absurd (ne (same_place xs x y c d e))
   | inr (inl l) ↦ inl (Contains-before xs x y c l)
@@ -98,7 +107,8 @@ pub places_rise : (xs : List ℕ) → AllPairs (λ x y. x ≢ y) xs → AllPairs
 places_rise xs apart i j d h l =
     let a = place-le xs (get_or xs i d) i (omega arith) (get_or_default xs i (get_or xs i d) d (omega arith)) in
     ⊎_elim
-    (λ (k : place xs (get_or xs j d) < j). absurd (apart (place xs (get_or xs j d)) j d k l (get_or-place xs (get_or xs j d) d (Contains-get_or xs j d l))))
+    (λ (k : place xs (get_or xs j d) < j). absurd
+    (apart (place xs (get_or xs j d)) j d k l (get_or-place xs (get_or xs j d) d (Contains-get_or xs j d l))))
     (λ (k : j ≤ place xs (get_or xs j d)). omega arith)
     (cases_lt (place xs (get_or xs j d)) j)
 
@@ -115,15 +125,20 @@ module _ (n : ℕ) (order : List ℕ) (all : IsPermutation (numbers_below n) ord
   Contains-order p h = Contains-permutation (numbers_below n) order p all (Contains-numbers n p h)
 
   pub from_order : (p : ℕ) → Contains order p → p < n
-  from_order p c = numbers-Contains n p (Contains-permutation order (numbers_below n) p (IsPermutation-sym (numbers_below n) order all) c)
+  from_order p c = numbers-Contains n p
+      (Contains-permutation order (numbers_below n) p (IsPermutation-sym (numbers_below n) order all) c)
 
 -- ---- the processes of a node up to one
 
-pub on_node_before : (g : Graph) (order : List ℕ) (p q : ℕ) → Contains (before_on_node g order p) q → Contains order q × (place order q < place order p)
-on_node_before g order p q c = from_before order q p (Contains-filter_parts (λ (r : ℕ). node_of g r == node_of g p) (before order p) q c).0
+pub on_node_before : (g : Graph) (order : List ℕ) (p q : ℕ) → Contains (before_on_node g order p) q →
+    Contains order q × (place order q < place order p)
+on_node_before g order p q c =
+    from_before order q p (Contains-filter_parts (λ (r : ℕ). node_of g r == node_of g p) (before order p) q c).0
 
-pub not_later : (g : Graph) (order : List ℕ) (p q : ℕ) → Contains (before_on_node g order p ++ p ∷ []) q → place order q ≤ place order p
+pub not_later : (g : Graph) (order : List ℕ) (p q : ℕ) → Contains (before_on_node g order p ++ p ∷ []) q →
+    place order q ≤ place order p
 not_later g order p q c = ⊎_elim
     (λ (d : Contains (before_on_node g order p) q). let b = on_node_before g order p q d in omega arith)
-    (λ (d : Contains (p ∷ []) q). ⊎_elim (λ (e : p ≡ q). let f = ap (place order) e in omega arith) (λ (n : Contains [] q). absurd (Contains-nil q n)) (Contains-cases p [] q d))
+    (λ (d : Contains (p ∷ []) q). ⊎_elim (λ (e : p ≡ q). let f = ap (place order) e in omega arith)
+    (λ (n : Contains [] q). absurd (Contains-nil q n)) (Contains-cases p [] q d))
     (Contains-append_cases (before_on_node g order p) (p ∷ []) q c)

@@ -1,5 +1,6 @@
 -- Where processes stand in an order: each at one place, and one at each place.
-use Rattle.std.proofs.Common.{ℕ, ◌+◌, ◌<◌, ◌≡◌, List, length, get_or, set, IsPermutation, arith, sym, ap, ◌∙◌, subst, get_or-set_other, get_or-set_same, length-set, inl, inr}
+use Rattle.std.proofs.Common.{ℕ, ◌+◌, ◌<◌, ◌≡◌, List, length, get_or, set, IsPermutation, arith, sym, ap, ◌∙◌, subst}
+use Rattle.std.proofs.Common.{get_or-set_other, get_or-set_same, length-set, inl, inr}
 use Rattle.std.proofs.lemmas.List.Elements.{Contains-get_or}
 use Rattle.std.proofs.lemmas.Bool.{cases_eq}
 use Rattle.cpg_base.specs.Numbers.{numbers_below}
@@ -27,17 +28,20 @@ module _ (order : List ℕ) (lawful : IsOrder order) where
   pub place_at : (k : ℕ) → k < length order → place order (get_or order k 0) ≡ k
   place_at k h =
       let p = process_within k h in
-      one_place (length order) order lawful.all (place order (get_or order k 0)) k 0 (place_within (get_or order k 0) p) h (at_place (get_or order k 0) p)
+      one_place (length order) order lawful.all (place order (get_or order k 0)) k 0
+      (place_within (get_or order k 0) p) h (at_place (get_or order k 0) p)
 
   -- ---- writing down the places of one process after another
 
-  pub written_more : (places : List ℕ) (k : ℕ) → k < length order → AreWritten order places k → AreWritten order (set places (get_or order k 0) k) (k + 1)
+  pub written_more : (places : List ℕ) (k : ℕ) → k < length order → AreWritten order places k →
+      AreWritten order (set places (get_or order k 0) k) (k + 1)
   written_more places k h w = record {
     long = length-set places (get_or order k 0) k ∙ w.long;
     there = λ j l. elim (cases_eq j k) [
       | inl e ↦ subst (λ i. get_or (set places (get_or order k 0) k) (get_or order i 0) 0 ≡ i) (sym e)
           (get_or-set_same places (get_or order k 0) k 0 (omega (arith, process_within k h, w.long)))
-      | inr n ↦ get_or-set_other places (get_or order k 0) (get_or order j 0) k 0 (λ e. n (sym (place_at j (omega arith)) ∙ ap (place order) e ∙ place_at k h)) ∙ w.there j (omega arith)
+      | inr n ↦ get_or-set_other places (get_or order k 0) (get_or order j 0) k 0
+          (λ e. n (sym (place_at j (omega arith)) ∙ ap (place order) e ∙ place_at k h)) ∙ w.there j (omega arith)
     ];
   }
 
@@ -49,7 +53,11 @@ module _ (order : List ℕ) (lawful : IsOrder order) where
   }
 
 -- all processes of a graph are an order
-pub order_of_all : (g : Graph) → IsWithinLimits g → (order : List ℕ) → IsPermutation (numbers_below (process_count g)) order → IsOrder order
+pub order_of_all : (g : Graph) → IsWithinLimits g → (order : List ℕ) →
+    IsPermutation (numbers_below (process_count g)) order → IsOrder order
 order_of_all g within order all =
     let long = length_order (process_count g) order all in
-    record { few = omega (arith, within.few_processes); all = subst (λ n. IsPermutation (numbers_below n) order) (sym long) all }
+    record {
+      few = omega (arith, within.few_processes);
+      all = subst (λ n. IsPermutation (numbers_below n) order) (sym long) all;
+    }

@@ -1,6 +1,7 @@
 -- The limits of a graph file: how much of each there may be, and in which range each number lies.
 use Rattle.std.specs.Prelude.{ℕ, ◌≢◌, ◌≤◌, ◌<◌, List, length, All, AllPairs, IfSome}
-use Rattle.cpg_base.specs.declared.limits.TheConstants.{MOST_FAULTS, MOST_NODES, MOST_PROCESSES, MOST_EDGES, MOST_CONDITIONS, MOST_PARTS, LONGEST, LARGEST}
+use Rattle.cpg_base.specs.declared.limits.TheConstants.{MOST_FAULTS, MOST_NODES, MOST_PROCESSES, MOST_EDGES}
+use Rattle.cpg_base.specs.declared.limits.TheConstants.{MOST_CONDITIONS, MOST_PARTS, LONGEST, LARGEST}
 use Rattle.cpg_base.specs.Graph.{Graph, Process, Edge, Slot, process_count, edge_count, condition_count}
 
 -- a process on one of the nodes

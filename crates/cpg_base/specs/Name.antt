@@ -3,7 +3,8 @@ use Rattle.std.specs.Prelude.{ℕ, ◌≤◌, List, length, Bool, ◌||◌, ◌&
 
 -- a byte that a name may have
 abbrev pub is_name_byte : ℕ → Bool
-is_name_byte b = (nat_le 65 b && nat_le b 90) || (nat_le 97 b && nat_le b 122) || (nat_le 48 b && nat_le b 57) || (b == 95) || (b == 45) || (b == 46)
+is_name_byte b = (nat_le 65 b && nat_le b 90) || (nat_le 97 b && nat_le b 122) || (nat_le 48 b && nat_le b 57)
+    || (b == 95) || (b == 45) || (b == 46)
 
 pub record IsName (bytes : List ℕ) : Type 0 where
   pub some : 1 ≤ length bytes

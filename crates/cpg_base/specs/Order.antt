@@ -1,5 +1,6 @@
 -- An order of processes, its places, and as the code keeps it.
-use Rattle.std.specs.Prelude.{ℕ, Bool, ◌==◌, List, filter, position, unwrap_or, take, ◌≡◌, ◌<◌, ◌≤◌, length, get_or, IsPermutation}
+use Rattle.std.specs.Prelude.{ℕ, Bool, ◌==◌, List, filter, position, unwrap_or, take, ◌≡◌, ◌<◌, ◌≤◌, length, get_or}
+use Rattle.std.specs.Prelude.{IsPermutation}
 use Rattle.std.specs.List.{list_any}
 use Rattle.cpg_base.specs.Graph.{Graph, node_of}
 use Rattle.cpg_base.specs.Numbers.{numbers_below}

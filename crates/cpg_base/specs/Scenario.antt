@@ -1,5 +1,6 @@
 -- A scenario: a value for each condition, and a count of faults for each process.
-use Rattle.std.specs.Prelude.{ℕ, ◌-◌, ◌≡◌, ◌≤◌, Bool, true, false, List, length, sum, get_or, if◌then◌else◌, nat_lt, replicate, map, [], ◌∷◌, Option, Some, None}
+use Rattle.std.specs.Prelude.{ℕ, ◌-◌, ◌≡◌, ◌≤◌, Bool, true, false, List, length, sum, get_or, if◌then◌else◌, nat_lt}
+use Rattle.std.specs.Prelude.{replicate, map, [], ◌∷◌, Option, Some, None}
 use Rattle.cpg_base.specs.Numbers.{numbers_below, is_below}
 use Rattle.cpg_base.specs.Graph.{Graph, process_count, condition_count, condition_of}
 use Rattle.cpg_base.specs.Duration.{duration}

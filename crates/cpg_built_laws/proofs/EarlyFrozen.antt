@@ -1,5 +1,6 @@
 -- Frozen times are early: each is a time of a run under the frozen times before it.
-use Rattle.std.proofs.Common.{◌≡◌, ◌∙◌, ℕ, zero, suc, ◌+◌, ◌<◌, ◌≤◌, ltb, true, List, map, get_or, Option, Some, None, arith, sym, inl, inr, cond, lt-ltb, le-ltb}
+use Rattle.std.proofs.Common.{◌≡◌, ◌∙◌, ℕ, zero, suc, ◌+◌, ◌<◌, ◌≤◌, ltb, true, List, map, get_or, Option, Some, None}
+use Rattle.std.proofs.Common.{arith, sym, inl, inr, cond, lt-ltb, le-ltb}
 use Rattle.std.proofs.lemmas.Bool.{cases_Bool, cases_lt, cond-true, cond-false}
 use Rattle.std.proofs.lemmas.Option.{none-some}
 use Rattle.cpg_base.specs.Graph.{Graph, item_count, is_frozen}
@@ -16,7 +17,8 @@ use Rattle.cpg_run.proofs.Rising.{bound, AreLow, unfrozen_low}
 use Rattle.cpg_run.proofs.RunExists.{a_run}
 use Rattle.cpg_run.proofs.RunUnique.{agree_before, unfrozen_same}
 
-module _ (g : Graph) (within : IsWithinLimits g) (order : List ℕ) (topological : IsTopological g order) (frozen : List (Option ℕ)) (are : AreFrozenTimes g order frozen) where
+module _ (g : Graph) (within : IsWithinLimits g) (order : List ℕ) (topological : IsTopological g order)
+    (frozen : List (Option ℕ)) (are : AreFrozenTimes g order frozen) where
   -- the time of an item before a moment
   abbrev cut_at : ℕ → ℕ → Option ℕ
   cut_at m x = cond (ltb (moment g order x) m) (get_or frozen x None) None
@@ -35,17 +37,25 @@ module _ (g : Graph) (within : IsWithinLimits g) (order : List ℕ) (topological
   cut_after m x l h = cut_is m x l ∙ cond-false (ltb (moment g order x) m) _ _ (le-ltb (moment g order x) m h)
 
   frozen_if : (x time : ℕ) → get_or frozen x None ≡ Some time → is_frozen g x ≡ true
-  frozen_if x time e = elim (cases_Bool (is_frozen g x)) [ inl f ↦ f | inr f ↦ absurd (none-some time (sym (are.others x f) ∙ e)) ]
+  frozen_if x time e =
+      elim (cases_Bool (is_frozen g x)) [ inl f ↦ f | inr f ↦ absurd (none-some time (sym (are.others x f) ∙ e)) ]
 
   -- a frozen time is low if those before it are
-  low_by : (m x time : ℕ) → AreLow 0 g order (cut m) → x < item_count g → moment g order x ≤ m → get_or frozen x None ≡ Some time → time ≤ bound 0 (moment g order x) + 32000000000
+  low_by : (m x time : ℕ) → AreLow 0 g order (cut m) → x < item_count g → moment g order x ≤ m →
+      get_or frozen x None ≡ Some time →
+      time ≤ bound 0 (moment g order x) + 32000000000
   low_by m x time low l h e =
       let w : WouldHave g order frozen x time = (are.each x l (frozen_if x time e)).reached time e in
       let r = a_run g order (cut m) w.scenario topological in
       let same : unfrozen_time g order w.scenario w.times x ≡ unfrozen_time g order w.scenario r.0 x =
       unfrozen_same g order topological w.scenario w.times r.0 x
-      (agree_before g order topological w.scenario w.times r.0 frozen (cut m) w.run r.1 (moment g order x) (λ y i j. sym (cut_before m y i (omega (arith, j, h))))) l in
-      omega (arith, sym same ∙ w.has, unfrozen_low 0 g order (cut m) w.scenario r.0 within topological w.lawful low r.1 x l)
+      (agree_before g order topological w.scenario w.times r.0 frozen (cut m) w.run r.1 (moment g order x)
+      (λ y i j. sym (cut_before m y i (omega (arith, j, h))))) l in
+      omega (
+        arith,
+        sym same ∙ w.has,
+        unfrozen_low 0 g order (cut m) w.scenario r.0 within topological w.lawful low r.1 x l,
+      )
 
   low_cut : (m : ℕ) → AreLow 0 g order (cut m)
   low_cut zero = record { low = λ x time l e. absurd (none-some time (sym (cut_after 0 x l (omega arith)) ∙ e)) }

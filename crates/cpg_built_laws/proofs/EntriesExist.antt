@@ -1,5 +1,6 @@
 -- An item has entries: one for each group of scenarios in which the same is carried beside its time.
-use Rattle.std.proofs.Common.{◌≡◌, ◌≢◌, ◌∙◌, ℕ, ◌<◌, ◌⊎◌, true, false, List, [], ◌∷◌, map, get_or, AllPairs, Contains, Option, Some, None, refl, sym, ap, subst, inl, inr}
+use Rattle.std.proofs.Common.{◌≡◌, ◌≢◌, ◌∙◌, ℕ, ◌<◌, ◌⊎◌, true, false, List, [], ◌∷◌, map, get_or, AllPairs, Contains}
+use Rattle.std.proofs.Common.{Option, Some, None, refl, sym, ap, subst, inl, inr}
 use Rattle.std.proofs.lemmas.Bool.{cases_Bool, both_ways}
 use Rattle.cpg_base.specs.Graph.{Graph, item_count, item_at}
 use Rattle.cpg_base.specs.Activity.{item_active}
@@ -26,9 +27,11 @@ module _ (g : Graph) (urgency order : List ℕ) (frozen : List (Option ℕ)) (ti
   -- two scenarios are one or not
   one_or_two : (s t : Scenario) → IsScenario g s → IsScenario g t → (s ≡ t) ⊎ (s ≢ t)
   one_or_two s t a b = elim (cases_Bool (is_before g urgency s t)) [
-    | inl before ↦ inr (λ e. both_ways (is_before g urgency s t) (subst (λ u. is_before g urgency s u ≡ false) e (before_irreflexive g urgency s)) before)
+    | inl before ↦ inr (λ e. both_ways (is_before g urgency s t)
+        (subst (λ u. is_before g urgency s u ≡ false) e (before_irreflexive g urgency s)) before)
     | inr no_sooner ↦ elim (cases_Bool (is_before g urgency t s)) [
-      | inl after ↦ inr (λ e. both_ways (is_before g urgency t s) (subst (λ u. is_before g urgency u s ≡ false) e (before_irreflexive g urgency s)) after)
+      | inl after ↦ inr (λ e. both_ways (is_before g urgency t s)
+          (subst (λ u. is_before g urgency u s ≡ false) e (before_irreflexive g urgency s)) after)
       | inr no_later ↦ inl (before_total g urgency timed.admitted.urgent.all s t a b no_sooner no_later)
     ]
   ]
@@ -45,12 +48,15 @@ module _ (g : Graph) (urgency order : List ℕ) (frozen : List (Option ℕ)) (ti
     abbrev pub own_cube : Scenario → List Literal
     own_cube s = cube_of g.faults (carried g order rows s x)
 
-    own_entry : (s : Scenario) → IsScenario g s → item_active g s.values (item_at g x) ≡ true → (e : Column) × IsOwn e × (lows g e.cube ≡ lows g (own_cube s))
+    own_entry : (s : Scenario) → IsScenario g s → item_active g s.values (item_at g x) ≡ true →
+        (e : Column) × IsOwn e × (lows g e.cube ≡ lows g (own_cube s))
     own_entry s law on =
         let r = a_run g order frozen s timed.admitted.topological in (
           record { time = time_in r.0 x; cube = own_cube s },
-          entry_of_least g urgency order frozen rows x timed l earlier s law on (own_cube s) (cube_there g.faults (carried g order rows s x)) (time_in r.0 x)
-              (λ t run. subst (λ (u : Times). get_or u.times x None ≡ Some (time_in r.0 x)) (run_unique g order timed.admitted.topological frozen s r.0 t r.1 run)
+          entry_of_least g urgency order frozen rows x timed l earlier s law on (own_cube s)
+              (cube_there g.faults (carried g order rows s x)) (time_in r.0 x)
+              (λ t run. subst (λ (u : Times). get_or u.times x None ≡ Some (time_in r.0 x))
+              (run_unique g order timed.admitted.topological frozen s r.0 t r.1 run)
               (has_time g order frozen s r.0 r.1 x l on)),
           refl,
         )
@@ -60,10 +66,14 @@ module _ (g : Graph) (urgency order : List ℕ) (frozen : List (Option ℕ)) (ti
         Contains (map (λ (d : Column). lows g d.cube) es) s ⊎ ((e : Column) → Contains es e → s ≢ lows g e.cube)
     there_or_not [] own s law = inr (λ e c. absurd (Contains-nil e c))
     there_or_not (e ∷ es) own s law = elim (one_or_two (lows g e.cube) s (own e (Contains-first e es)).lawful law) [
-      | inl same ↦ inl (subst (Contains (map (λ (d : Column). lows g d.cube) (e ∷ es))) same (Contains-first (lows g e.cube) (map (λ (d : Column). lows g d.cube) es)))
+      | inl same ↦ inl (subst (Contains (map (λ (d : Column). lows g d.cube) (e ∷ es))) same
+          (Contains-first (lows g e.cube) (map (λ (d : Column). lows g d.cube) es)))
       | inr other ↦ elim (there_or_not es (λ d c. own d (Contains-rest e es d c)) s law) [
         | inl c ↦ inl (Contains-rest (lows g e.cube) (map (λ (d : Column). lows g d.cube) es) s c)
-        | inr none ↦ inr (λ d c is. elim (Contains-cases e es d c) [ inl f ↦ other (ap (λ (z : Column). lows g z.cube) f ∙ sym is) | inr k ↦ none d k is ])
+        | inr none ↦ inr (λ d c is. elim (Contains-cases e es d c) [
+          | inl f ↦ other (ap (λ (z : Column). lows g z.cube) f ∙ sym is)
+          | inr k ↦ none d k is
+        ])
       ]
     ]
 
@@ -71,10 +81,19 @@ module _ (g : Graph) (urgency order : List ℕ) (frozen : List (Option ℕ)) (ti
     pub record AreOver (ss : List Scenario) (es : List Column) : Type 0 where
       pub own : (e : Column) → Contains es e → IsOwn e
       pub apart : AllPairs IsApart es
-      pub all : (s : Scenario) → Contains ss s → item_active g s.values (item_at g x) ≡ true → Contains (map (λ (d : Column). lows g d.cube) es) (lows g (own_cube s))
+      pub all : (s : Scenario) → Contains ss s → item_active g s.values (item_at g x) ≡ true →
+          Contains (map (λ (d : Column). lows g d.cube) es) (lows g (own_cube s))
 
-    entries_over : (ss : List Scenario) → ((s : Scenario) → Contains ss s → IsScenario g s) → (es : List Column) × AreOver ss es
-    entries_over [] law = ([], record { own = λ e c. absurd (Contains-nil e c); apart = AllPairs-nil IsApart; all = λ s c. absurd (Contains-nil s c) })
+    entries_over : (ss : List Scenario) → ((s : Scenario) → Contains ss s → IsScenario g s) →
+        (es : List Column) × AreOver ss es
+    entries_over [] law = (
+      [],
+      record {
+        own = λ e c. absurd (Contains-nil e c);
+        apart = AllPairs-nil IsApart;
+        all = λ s c. absurd (Contains-nil s c);
+      },
+    )
     entries_over (s ∷ ss) law =
         let rest = entries_over ss (λ t c. law t (Contains-rest s ss t c)) in
         elim (cases_Bool (item_active g s.values (item_at g x))) [
@@ -84,37 +103,46 @@ module _ (g : Graph) (urgency order : List ℕ) (frozen : List (Option ℕ)) (ti
               own = rest.1.own;
               apart = rest.1.apart;
               all = λ t c on. elim (Contains-cases s ss t c) [
-                | inl e ↦ absurd (both_ways (item_active g s.values (item_at g x)) off (subst (λ (u : Scenario). item_active g u.values (item_at g x) ≡ true) (sym e) on))
+                | inl e ↦ absurd (both_ways (item_active g s.values (item_at g x)) off
+                    (subst (λ (u : Scenario). item_active g u.values (item_at g x) ≡ true) (sym e) on))
                 | inr k ↦ rest.1.all t k on
               ];
             },
           )
-          | inl on ↦ let e = own_entry s (law s (Contains-first s ss)) on in elim (there_or_not rest.0 rest.1.own (lows g e.0.cube) e.1.lawful) [
-            | inl there ↦ (
-              rest.0,
-              record {
-                own = rest.1.own;
-                apart = rest.1.apart;
-                all = λ t c act. elim (Contains-cases s ss t c) [
-                  | inl f ↦ subst (λ (u : Scenario). Contains (map (λ (d : Column). lows g d.cube) rest.0) (lows g (own_cube u))) f
-                      (subst (Contains (map (λ (d : Column). lows g d.cube) rest.0)) e.2 there)
-                  | inr k ↦ rest.1.all t k act
-                ];
-              },
-            )
-            | inr none ↦ (
-              e.0 ∷ rest.0,
-              record {
-                own = λ d c. elim (Contains-cases e.0 rest.0 d c) [ inl f ↦ subst IsOwn f e.1 | inr k ↦ rest.1.own d k ];
-                apart = AllPairs-cons_by IsApart e.0 rest.0 none rest.1.apart;
-                all = λ t c act. elim (Contains-cases s ss t c) [
-                  | inl f ↦ subst (λ (u : Scenario). Contains (map (λ (d : Column). lows g d.cube) (e.0 ∷ rest.0)) (lows g (own_cube u))) f
-                      (subst (Contains (map (λ (d : Column). lows g d.cube) (e.0 ∷ rest.0))) e.2 (Contains-first (lows g e.0.cube) (map (λ (d : Column). lows g d.cube) rest.0)))
-                  | inr k ↦ Contains-rest (lows g e.0.cube) (map (λ (d : Column). lows g d.cube) rest.0) (lows g (own_cube t)) (rest.1.all t k act)
-                ];
-              },
-            )
-          ]
+          | inl on ↦ let e = own_entry s (law s (Contains-first s ss)) on in
+              elim (there_or_not rest.0 rest.1.own (lows g e.0.cube) e.1.lawful) [
+                | inl there ↦ (
+                  rest.0,
+                  record {
+                    own = rest.1.own;
+                    apart = rest.1.apart;
+                    all = λ t c act. elim (Contains-cases s ss t c) [
+                      | inl f ↦ subst
+                          (λ (u : Scenario).
+                          Contains (map (λ (d : Column). lows g d.cube) rest.0) (lows g (own_cube u))) f
+                          (subst (Contains (map (λ (d : Column). lows g d.cube) rest.0)) e.2 there)
+                      | inr k ↦ rest.1.all t k act
+                    ];
+                  },
+                )
+                | inr none ↦ (
+                  e.0 ∷ rest.0,
+                  record {
+                    own =
+                        λ d c.
+                        elim (Contains-cases e.0 rest.0 d c) [ inl f ↦ subst IsOwn f e.1 | inr k ↦ rest.1.own d k ];
+                    apart = AllPairs-cons_by IsApart e.0 rest.0 none rest.1.apart;
+                    all = λ t c act. elim (Contains-cases s ss t c) [
+                      | inl f ↦ subst (λ (u : Scenario).
+                          Contains (map (λ (d : Column). lows g d.cube) (e.0 ∷ rest.0)) (lows g (own_cube u))) f
+                          (subst (Contains (map (λ (d : Column). lows g d.cube) (e.0 ∷ rest.0))) e.2
+                          (Contains-first (lows g e.0.cube) (map (λ (d : Column). lows g d.cube) rest.0)))
+                      | inr k ↦ Contains-rest (lows g e.0.cube) (map (λ (d : Column). lows g d.cube) rest.0)
+                          (lows g (own_cube t)) (rest.1.all t k act)
+                    ];
+                  },
+                )
+              ]
         ]
 
     pub entries_exist : (entries : List Column) × AreEntriesOf g order frozen rows x entries
@@ -125,7 +153,8 @@ module _ (g : Graph) (urgency order : List ℕ) (frozen : List (Option ℕ)) (ti
             each = r.1.own;
             apart = r.1.apart;
             all = λ s e is least. subst (Contains (map (λ (d : Column). lows g d.cube) r.0))
-                (same_least g (carried g order rows s x) (own_cube s) e.cube (cube_there g.faults (carried g order rows s x)) is.cube ∙ least)
+                (same_least g (carried g order rows s x) (own_cube s) e.cube
+                (cube_there g.faults (carried g order rows s x)) is.cube ∙ least)
                 (r.1.all s (Contains-scenarios g s is.lawful) is.active);
           },
         )

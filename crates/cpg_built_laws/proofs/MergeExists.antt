@@ -1,5 +1,6 @@
 -- Columns that can be merged have a merge: they are sorted and joined until none is joined any more.
-use Rattle.std.proofs.Common.{◌≡◌, ◌≢◌, ◌∙◌, ℕ, zero, suc, ◌+◌, ◌<◌, ◌≤◌, ◌⊎◌, Bool, true, false, List, length, get_or, AllPairs, IsPermutation, Ordering, Less, Equal, Greater}
+use Rattle.std.proofs.Common.{◌≡◌, ◌≢◌, ◌∙◌, ℕ, zero, suc, ◌+◌, ◌<◌, ◌≤◌, ◌⊎◌, Bool, true, false, List, length, get_or}
+use Rattle.std.proofs.Common.{AllPairs, IsPermutation, Ordering, Less, Equal, Greater}
 use Rattle.std.proofs.Common.{arith, refl, sym, ap, subst, inl, inr}
 use Rattle.std.specs.Prelude.{not}
 use Rattle.std.specs.Ordering.{is_lt, ordering_reverse}
@@ -18,7 +19,8 @@ use Rattle.cpg_merging.proofs.MergingEnds.{merge_of}
 use Rattle.cpg_merging.proofs.MergingLists.{joins_through}
 use Rattle.cpg_merging.proofs.MergingOrder.{column_total}
 use Rattle.cpg_merging.proofs.MergingSettled.{pairs_apart}
-use Rattle.cpg_merging.proofs.MergingSteps.{passed_on, passed_none, passed_through, settled_same, fewer_else, shorn_columns}
+use Rattle.cpg_merging.proofs.MergingSteps.{passed_on, passed_none, passed_through, settled_same, fewer_else}
+use Rattle.cpg_merging.proofs.MergingSteps.{shorn_columns}
 
 -- ---- a sort by a test whether one element is after another
 
@@ -43,9 +45,14 @@ module _ {X : Type 0} (is_after : X → X → Bool)
   permutation_in_order xs = permutation_sorted keeps xs
 
   pub rises_in_order : (xs : List X) → AllPairs ◌≢◌ xs → AllPairs (λ x y. is_after x y ≡ false) (in_order xs)
-  rises_in_order xs apart i j d l k = not_false (is_after (get_or (in_order xs) i d) (get_or (in_order xs) j d)) (rises_sorted keeps (λ (x : X). Unit {0})
-      (λ x y a b c. elim (cases_Bool (is_after x y)) [ inl t ↦ inr (not_true (is_after y x) (one_way x y t)) | inr f ↦ inl (not_true (is_after x y) f) ])
-      (λ x y z a b c h m. not_true (is_after x z) (chain x y z (not_false (is_after x y) h) (not_false (is_after y z) m)))
+  rises_in_order xs apart i j d l k = not_false (is_after (get_or (in_order xs) i d) (get_or (in_order xs) j d))
+      (rises_sorted keeps (λ (x : X). Unit {0})
+      (λ x y a b c. elim (cases_Bool (is_after x y)) [
+        | inl t ↦ inr (not_true (is_after y x) (one_way x y t))
+        | inr f ↦ inl (not_true (is_after x y) f)
+      ])
+      (λ x y z a b c h m.
+      not_true (is_after x z) (chain x y z (not_false (is_after x y) h) (not_false (is_after y z) m)))
       xs (λ k d l. tt) apart i j d l k)
 
 -- ---- columns
@@ -87,19 +94,30 @@ module _ (g : Graph) (few : process_count g ≤ 128) where
 
   -- ---- joined at one variable, then at some, then at all
 
-  pass_on : (v : ℕ) → IsVariable g v → (xs : List Column) → IsShorn g xs → (ys : List Column) × IsPassed g (λ u. u ≡ v) xs ys
+  pass_on : (v : ℕ) → IsVariable g v → (xs : List Column) → IsShorn g xs →
+      (ys : List Column) × IsPassed g (λ u. u ≡ v) xs ys
   pass_on v known xs h =
       let ys = in_order (column_after v) (column_one_way v) (column_chain v) xs in
-      let up : AllPairs (λ c d. column_after v c d ≡ false) ys = rises_in_order (column_after v) (column_one_way v) (column_chain v) xs (columns_differ xs h) in
-      let is : IsSortedBy (λ c d. is_lt (column_cmp v c d)) ys = λ k d a b. up k (k + 1) d (omega arith) b in
-      (walked_over g.faults v ys, passed_on g few v known xs ys h (permutation_in_order (column_after v) (column_one_way v) (column_chain v) xs) is)
+      let up : AllPairs (λ c d. column_after v c d ≡ false) ys =
+      rises_in_order (column_after v) (column_one_way v) (column_chain v) xs (columns_differ xs h) in
+      let is : IsSortedBy (λ c d. is_lt (column_cmp v c d)) ys = λ k d a b. up k (k + 1) d (omega arith) b in (
+        walked_over g.faults v ys,
+        passed_on g few v known xs ys h
+            (permutation_in_order (column_after v) (column_one_way v) (column_chain v) xs) is,
+      )
 
-  pass_over : (first n : ℕ) → ((v : ℕ) → first ≤ v → v < first + n → IsVariable g v) → (xs : List Column) → IsShorn g xs → (ys : List Column) × IsPassed g (IsBetween first (first + n)) xs ys
-  pass_over first zero known xs h = (xs, passed_none g (IsBetween first (first + 0)) (λ v m. omega (arith, m.0, m.1)) xs h)
+  pass_over : (first n : ℕ) → ((v : ℕ) → first ≤ v → v < first + n → IsVariable g v) → (xs : List Column) →
+      IsShorn g xs →
+      (ys : List Column) × IsPassed g (IsBetween first (first + n)) xs ys
+  pass_over first zero known xs h =
+      (xs, passed_none g (IsBetween first (first + 0)) (λ v m. omega (arith, m.0, m.1)) xs h)
   pass_over first (suc n) known xs h =
       let a = pass_over first n (λ v l k. known v l (omega (arith, k))) xs h in
-      let b = pass_on (first + n) (known (first + n) (omega arith) (omega arith)) a.0 a.1.good in
-      (b.0, passed_through g (IsBetween first (first + n)) (λ u. u ≡ first + n) (IsBetween first (first + suc n)) (λ v m. at_end v m.0 m.1) xs a.0 b.0 a.1 b.1)
+      let b = pass_on (first + n) (known (first + n) (omega arith) (omega arith)) a.0 a.1.good in (
+        b.0,
+        passed_through g (IsBetween first (first + n)) (λ u. u ≡ first + n) (IsBetween first (first + suc n))
+            (λ v m. at_end v m.0 m.1) xs a.0 b.0 a.1 b.1,
+      )
     where
       at_end : (v : ℕ) → first ≤ v → v < first + suc n → IsBetween first (first + n) v ⊎ (v ≡ first + n)
       at_end v l k = elim (cases_eq v (first + n)) [ inl e ↦ inr e | inr ne ↦ inl (l, omega (arith, k, ne)) ]
@@ -107,8 +125,11 @@ module _ (g : Graph) (few : process_count g ≤ 128) where
   pass_all : (xs : List Column) → IsShorn g xs → (ys : List Column) × IsPassed g (IsVariable g) xs ys
   pass_all xs h =
       let a = pass_over 0 (process_count g) (λ v l k. inl (omega (arith, k))) xs h in
-      let b = pass_over 128 (condition_count g) (λ v l k. inr (l, omega (arith, k))) a.0 a.1.good in
-      (b.0, passed_through g (IsBetween 0 (0 + process_count g)) (IsBetween 128 (128 + condition_count g)) (IsVariable g) sides xs a.0 b.0 a.1 b.1)
+      let b = pass_over 128 (condition_count g) (λ v l k. inr (l, omega (arith, k))) a.0 a.1.good in (
+        b.0,
+        passed_through g (IsBetween 0 (0 + process_count g)) (IsBetween 128 (128 + condition_count g))
+            (IsVariable g) sides xs a.0 b.0 a.1 b.1,
+      )
     where
       sides : (v : ℕ) → IsVariable g v → IsBetween 0 (0 + process_count g) v ⊎ IsBetween 128 (128 + condition_count g) v
       sides v (inl l) = inl (omega arith, omega (arith, l))
@@ -131,8 +152,10 @@ module _ (g : Graph) (few : process_count g ≤ 128) where
       elim (cases_eq (length a.0) (length xs)) [
         | inl e ↦ (a.0, settled_at xs a.0 a.1 e)
         | inr ne ↦
-            let b = settle n a.0 (omega (arith, l, fewer_else g (IsVariable g) xs a.0 a.1 ne)) a.1.good in
-            (b.0, record { joins = joins_through g xs a.0 b.0 a.1.joins b.1.joins; good = b.1.good; settled = b.1.settled })
+            let b = settle n a.0 (omega (arith, l, fewer_else g (IsVariable g) xs a.0 a.1 ne)) a.1.good in (
+              b.0,
+              record { joins = joins_through g xs a.0 b.0 a.1.joins b.1.joins; good = b.1.good; settled = b.1.settled },
+            )
       ]
 
   -- ---- in order by their least scenarios
@@ -145,12 +168,18 @@ module _ (g : Graph) (few : process_count g ≤ 128) where
     lows_one_way c d h = below_one_way (lows_along g urgency (low_in d.cube)) (lows_along g urgency (low_in c.cube)) h
 
     lows_chain : (c d e : Column) → lows_after c d ≡ false → lows_after d e ≡ false → lows_after c e ≡ false
-    lows_chain c d e h k = not_below_transitive (lows_along g urgency (low_in c.cube)) (lows_along g urgency (low_in d.cube)) (lows_along g urgency (low_in e.cube)) h k
+    lows_chain c d e h k = not_below_transitive (lows_along g urgency (low_in c.cube))
+        (lows_along g urgency (low_in d.cube)) (lows_along g urgency (low_in e.cube)) h k
 
-    pub merge_exists : (entries : List Column) → AreMergeable g entries → (columns : List Column) × IsMergeOf g urgency entries columns
+    pub merge_exists : (entries : List Column) → AreMergeable g entries →
+        (columns : List Column) × IsMergeOf g urgency entries columns
     merge_exists entries mergeable =
         let shorn = shorn_columns g few entries mergeable in
         let s = settle (length (all_shorn g.faults entries)) (all_shorn g.faults entries) (omega arith) shorn in
         let ordered = in_order lows_after lows_one_way lows_chain s.0 in
-        let up : AreByLows (λ (c : Column). c.cube) g urgency ordered = rises_in_order lows_after lows_one_way lows_chain s.0 (columns_differ s.0 s.1.good) in
-        (ordered, merge_of g few urgency all entries s.0 ordered mergeable s.1 (permutation_in_order lows_after lows_one_way lows_chain s.0) up)
+        let up : AreByLows (λ (c : Column). c.cube) g urgency ordered =
+        rises_in_order lows_after lows_one_way lows_chain s.0 (columns_differ s.0 s.1.good) in (
+          ordered,
+          merge_of g few urgency all entries s.0 ordered mergeable s.1
+              (permutation_in_order lows_after lows_one_way lows_chain s.0) up,
+        )

@@ -1,5 +1,6 @@
 -- A graph has a row for each item, found from those of the processes before its own.
-use Rattle.std.proofs.Common.{◌≡◌, ◌∙◌, ℕ, zero, suc, ◌+◌, ◌<◌, ◌≤◌, List, [], ◌∷◌, ◌++◌, length, get_or, Option, arith, refl, sym, ap, subst, inl, inr, length-append}
+use Rattle.std.proofs.Common.{◌≡◌, ◌∙◌, ℕ, zero, suc, ◌+◌, ◌<◌, ◌≤◌, List, [], ◌∷◌, ◌++◌, length, get_or, Option, arith}
+use Rattle.std.proofs.Common.{refl, sym, ap, subst, inl, inr, length-append}
 use Rattle.std.proofs.lemmas.Bool.{cases_eq}
 use Rattle.std.proofs.lemmas.List.{get_or_append_left}
 use Rattle.std.proofs.Math.Seq.{get_or-append_seam}
@@ -18,7 +19,8 @@ use Rattle.cpg_built_laws.proofs.EntriesExist.{entries_exist}
 use Rattle.cpg_built_laws.proofs.MergeExists.{merge_exists}
 
 -- if each number below n has something, there is a list of such things
-chosen : {X : Type 0} (P : ℕ → X → Type 0) (d : X) (n : ℕ) → ((x : ℕ) → x < n → (c : X) × P x c) → (cs : List X) × (length cs ≡ n) × ((x : ℕ) → x < n → P x (get_or cs x d))
+chosen : {X : Type 0} (P : ℕ → X → Type 0) (d : X) (n : ℕ) → ((x : ℕ) → x < n → (c : X) × P x c) →
+    (cs : List X) × (length cs ≡ n) × ((x : ℕ) → x < n → P x (get_or cs x d))
 chosen P d zero each = ([], refl, λ x l. absurd (omega (arith, l)))
 chosen P d (suc n) each =
     let r = chosen P d n (λ x l. each x (omega (arith, l))) in
@@ -28,7 +30,8 @@ chosen P d (suc n) each =
       λ x l. elim (cases_eq x n) [
         | inl e ↦ subst (λ y. P y (get_or (r.0 ++ c.0 ∷ []) y d)) (sym e)
             (subst (P n) (sym (ap (λ k. get_or (r.0 ++ c.0 ∷ []) k d) (sym r.1) ∙ get_or-append_seam r.0 c.0 [] d)) c.1)
-        | inr ne ↦ let h : x < n = omega (arith, l, ne) in subst (P x) (sym (get_or_append_left r.0 (c.0 ∷ []) d x (omega (arith, h, r.1)))) (r.2 x h)
+        | inr ne ↦ let h : x < n = omega (arith, l, ne) in
+            subst (P x) (sym (get_or_append_left r.0 (c.0 ∷ []) d x (omega (arith, h, r.1)))) (r.2 x h)
       ],
     )
 
@@ -47,22 +50,30 @@ module _ (g : Graph) (urgency order : List ℕ) (frozen : List (Option ℕ)) (ti
       pub merge : place order (producer g x) ≡ i → IsMergeOf g urgency entries columns
 
     earlier : (bound : ℕ) → bound ≤ i → AreRowsBefore g order frozen bound rows
-    earlier bound h = rows_before g urgency order frozen timed rows bound (λ y e. are.each y e.0 (omega (arith, e.1, h)))
+    earlier bound h =
+        rows_before g urgency order frozen timed rows bound (λ y e. are.each y e.0 (omega (arith, e.1, h)))
 
     next_row : (x : ℕ) → x < item_count g → (columns : List Column) × IsNext x columns
     next_row x l = elim (cases_eq (place order (producer g x)) i) [
       | inl here ↦
           let before = earlier (place order (producer g x)) (omega (arith, here)) in
           let e = entries_exist g urgency order frozen timed rows x l before in
-          let m = merge_exists g timed.admitted.formed.few_processes urgency timed.admitted.urgent.all e.0 (entries_have_times g urgency order frozen rows x e.0 timed l before e.1).0 in
-          (m.0, record { same = λ h. absurd (omega (arith, h, here)); entries = e.0; found = λ h. e.1; merge = λ h. m.1 })
-      | inr there ↦ (row_at rows x, record { same = λ h. refl; entries = []; found = λ h. absurd (there h); merge = λ h. absurd (there h) })
+          let m = merge_exists g timed.admitted.formed.few_processes urgency timed.admitted.urgent.all e.0
+          (entries_have_times g urgency order frozen rows x e.0 timed l before e.1).0 in (
+            m.0,
+            record { same = λ h. absurd (omega (arith, h, here)); entries = e.0; found = λ h. e.1; merge = λ h. m.1 },
+          )
+      | inr there ↦ (
+        row_at rows x,
+        record { same = λ h. refl; entries = []; found = λ h. absurd (there h); merge = λ h. absurd (there h) },
+      )
     ]
 
     next_rows : (next : List (List Column)) × AreRowsTo (i + 1) next
     next_rows =
         let r = chosen IsNext [] (item_count g) next_row in
-        let same : (bound : ℕ) → bound ≤ i → SameRowsBefore g order bound rows r.0 = λ bound h y e. sym ((r.2 y e.0).same (omega (arith, e.1, h))) in (
+        let same : (bound : ℕ) → bound ≤ i → SameRowsBefore g order bound rows r.0 =
+        λ bound h y e. sym ((r.2 y e.0).same (omega (arith, e.1, h))) in (
           r.0,
           record {
             count = r.1;
@@ -71,12 +82,14 @@ module _ (g : Graph) (urgency order : List ℕ) (frozen : List (Option ℕ)) (ti
                   let is : IsNext x (row_at r.0 x) = r.2 x l in
                   record {
                     entries = is.entries;
-                    are = entries_alike g urgency order frozen timed rows r.0 x l (same (place order (producer g x)) (omega (arith, here))) is.entries (is.found here);
+                    are = entries_alike g urgency order frozen timed rows r.0 x l
+                        (same (place order (producer g x)) (omega (arith, here))) is.entries (is.found here);
                     merge = is.merge here;
                   }
               | inr there ↦
                   let before : place order (producer g x) < i = omega (arith, h, there) in
-                  row_alike g urgency order frozen timed rows r.0 x l (same (place order (producer g x)) (omega (arith, before))) (sym ((r.2 x l).same before)) (are.each x l before)
+                  row_alike g urgency order frozen timed rows r.0 x l (same (place order (producer g x))
+                  (omega (arith, before))) (sym ((r.2 x l).same before)) (are.each x l before)
             ];
           },
         )
@@ -96,6 +109,7 @@ module _ (g : Graph) (urgency order : List ℕ) (frozen : List (Option ℕ)) (ti
         r.0,
         record {
           count = r.1.count;
-          each = λ x l. r.1.each x l (place_in_order (process_count g) order timed.admitted.topological.all (producer g x) (omega (arith, producer_in_range g order timed.admitted.topological x l)));
+          each = λ x l. r.1.each x l (place_in_order (process_count g) order timed.admitted.topological.all
+              (producer g x) (omega (arith, producer_in_range g order timed.admitted.topological x l)));
         },
       )

@@ -1,5 +1,6 @@
 -- Tables exist: rows that are found can be written, node by node.
-use Rattle.std.proofs.Common.{◌≡◌, ◌∙◌, ℕ, ◌<◌, List, [], ◌∷◌, length, map, Contains, arith, refl, sym, ap, ap₂, subst, ext_get_or}
+use Rattle.std.proofs.Common.{◌≡◌, ◌∙◌, ℕ, ◌<◌, List, [], ◌∷◌, length, map, Contains, arith, refl, sym, ap, ap₂, subst}
+use Rattle.std.proofs.Common.{ext_get_or}
 use Rattle.std.proofs.lemmas.List.{length-map, get_or-map}
 use Rattle.std.proofs.lemmas.List.FromFn.{length-map-range_with_len}
 use Rattle.cpg_base.specs.Graph.{Graph}
@@ -13,7 +14,8 @@ use Rattle.cpg_table.specs.Items.{first_broadcast, own_of, starts_of, sends_of, 
 use Rattle.cpg_table.specs.Lawful.{Tables, AreRowsOf}
 use Rattle.cpg_table.specs.Shape.{items_of}
 use Rattle.cpg_table.specs.Table.{Row, NodeTable, empty_table}
-use Rattle.cpg_table.specs.Writing.{row_for, heard_row, rows_of_items, AreWritable, AreNodeTables, AreTablesWith, IsTableWith}
+use Rattle.cpg_table.specs.Writing.{row_for, heard_row, rows_of_items, AreWritable, AreNodeTables, AreTablesWith}
+use Rattle.cpg_table.specs.Writing.{IsTableWith}
 use Rattle.cpg_table.proofs.NodeRows.{are_rows, item_is, start_below, send_below}
 use Rattle.cpg_table.proofs.TablesWith.{tables_with}
 use Rattle.cpg_reach.proofs.Narrow.{none_too_wide}
@@ -30,11 +32,13 @@ use Rattle.cpg_built_laws.proofs.RowsExist.{rows_exist}
 
 items_same : (row : ℕ → Row) (xs : List ℕ) → ((x : ℕ) → Contains xs x → (row x).item ≡ x) → items_of (map row xs) ≡ xs
 items_same row [] each = refl
-items_same row (x ∷ xs) each = ap₂ ◌∷◌ (each x (Contains-first x xs)) (items_same row xs (λ y c. each y (Contains-rest x xs y c)))
+items_same row (x ∷ xs) each =
+    ap₂ ◌∷◌ (each x (Contains-first x xs)) (items_same row xs (λ y c. each y (Contains-rest x xs y c)))
 
 -- ---- tables of rows
 
-module _ (g : Graph) (within : IsWithinLimits g) (formed : WellFormed g) (rows : List Row) (w : AreWritable g rows) where
+module _ (g : Graph) (within : IsWithinLimits g) (formed : WellFormed g) (rows : List Row)
+    (w : AreWritable g rows) where
   -- the table of a node
   abbrev table_of : ℕ → NodeTable
   table_of node = record {
@@ -48,14 +52,17 @@ module _ (g : Graph) (within : IsWithinLimits g) (formed : WellFormed g) (rows :
 
   table_with : (node : ℕ) → node < length g.nodes → IsTableWith g rows node (table_of node)
   table_with node l =
-      let are : AreRowsOf (head_of g) node (rows_of_items g rows (lists_of (head_of g) node)) = are_rows g within rows w node l in
+      let are : AreRowsOf (head_of g) node (rows_of_items g rows (lists_of (head_of g) node)) =
+      are_rows g within rows w node l in
       record {
         table = record {
           faults = refl;
           first_broadcast = refl;
           own = refl;
-          starts = items_same (row_for rows) (starts_of (head_of g) node) (λ x c. item_is g rows w x (start_below g within node x c));
-          sends = items_same (row_for rows) (sends_of (head_of g) node) (λ x c. item_is g rows w x (send_below g within node x c));
+          starts = items_same (row_for rows) (starts_of (head_of g) node)
+              (λ x c. item_is g rows w x (start_below g within node x c));
+          sends = items_same (row_for rows) (sends_of (head_of g) node)
+              (λ x c. item_is g rows w x (send_below g within node x c));
           hears = items_same (heard_row g rows) (hears_of (head_of g) node) (λ x c. refl);
           lawful = are.lawful;
         };
@@ -68,7 +75,8 @@ module _ (g : Graph) (within : IsWithinLimits g) (formed : WellFormed g) (rows :
   are_nodes : AreNodeTables g rows (length g.nodes) nodes
   are_nodes = record {
     long = length-map-range_with_len table_of 0 (length g.nodes);
-    each = λ node l. subst (IsTableWith g rows node) (sym (get_or-map-below table_of (length g.nodes) node empty_table l)) (table_with node l);
+    each = λ node l. subst (IsTableWith g rows node)
+        (sym (get_or-map-below table_of (length g.nodes) node empty_table l)) (table_with node l);
   }
 
   abbrev pub written : Tables
@@ -93,26 +101,33 @@ numbered_items columns = items_same (numbered_row columns) (numbers_below (lengt
 numbered_columns : (columns : List (List Column)) → columns_of_rows (numbered columns) ≡ columns
 numbered_columns columns =
     let blank : Row = record { item = 0; columns = [] } in
-    let long : length (numbered columns) ≡ length columns = length-map-range_with_len (numbered_row columns) 0 (length columns) in
-    let count : length (columns_of_rows (numbered columns)) ≡ length (numbered columns) = length-map (numbered columns) (λ (r : Row). r.columns) in
+    let long : length (numbered columns) ≡ length columns =
+    length-map-range_with_len (numbered_row columns) 0 (length columns) in
+    let count : length (columns_of_rows (numbered columns)) ≡ length (numbered columns) =
+    length-map (numbered columns) (λ (r : Row). r.columns) in
     ext_get_or [] (columns_of_rows (numbered columns)) columns (count ∙ long)
     (λ k l. get_or-map (λ (r : Row). r.columns) (numbered columns) k blank [] (omega (arith, l, count))
-    ∙ ap (λ (r : Row). r.columns) (get_or-map-below (numbered_row columns) (length columns) k blank (omega (arith, l, count, long))))
+    ∙ ap (λ (r : Row). r.columns)
+    (get_or-map-below (numbered_row columns) (length columns) k blank (omega (arith, l, count, long))))
 
 pub tables_exist : TablesExist
 tables_exist g urgency order guards frozen admitted topological narrow times =
-    let timed : IsTimed g urgency order frozen = record { admitted = admitted_under g urgency order guards admitted topological; frozen_times = times } in
+    let timed : IsTimed g urgency order frozen =
+    record { admitted = admitted_under g urgency order guards admitted topological; frozen_times = times } in
     let r = rows_exist g urgency order frozen timed in
     let rows = numbered r.0 in
-    let are : AreRows g urgency order frozen (columns_of_rows rows) = subst (AreRows g urgency order frozen) (sym (numbered_columns r.0)) r.1 in
+    let are : AreRows g urgency order frozen (columns_of_rows rows) =
+    subst (AreRows g urgency order frozen) (sym (numbered_columns r.0)) r.1 in
     let found : AreRowsFound g urgency order frozen rows = record {
       frozen_times = times;
       early = frozen_early g admitted.limits order topological frozen times;
       items = numbered_items r.0 ∙ ap numbers_below r.1.count;
       found = listed_rows_carry g urgency order frozen (columns_of_rows rows) timed are;
     } in
-    let fit : DoRowsFit g rows = found_rows_fit g urgency order frozen rows admitted.limits timed.admitted found (none_too_wide g order narrow) in
-    let writable : AreWritable g rows = found_rows_are_writable g urgency order frozen rows admitted.limits timed.admitted found fit in
+    let fit : DoRowsFit g rows = found_rows_fit g urgency order frozen rows admitted.limits timed.admitted found
+    (none_too_wide g order narrow) in
+    let writable : AreWritable g rows =
+    found_rows_are_writable g urgency order frozen rows admitted.limits timed.admitted found fit in
     record {
       rows = rows;
       found = found;

@@ -21,5 +21,6 @@ pub record HasTables (g : Graph) (urgency order : List ℕ) (frozen : List (Opti
 
 -- there are such tables under each topological order in which no item is too wide
 abbrev pub TablesExist : Type 0
-TablesExist = (g : Graph) (urgency order : List ℕ) (guards : Guards) (frozen : List (Option ℕ)) → IsAdmitted g urgency guards → IsTopological g order →
+TablesExist = (g : Graph) (urgency order : List ℕ) (guards : Guards) (frozen : List (Option ℕ)) →
+    IsAdmitted g urgency guards → IsTopological g order →
     IsNarrow g order → AreFrozenTimes g order frozen → HasTables g urgency order frozen

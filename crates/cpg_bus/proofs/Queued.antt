@@ -1,16 +1,20 @@
 -- What a process sends, in its order: all that it makes and that goes over the bus, each once, by rising rank.
-use Rattle.std.proofs.Common.{◌≡◌, ◌∙◌, ℕ, zero, suc, ◌<◌, ◌≤◌, Bool, true, false, ltb, ◌==◌, if◌then◌else◌, List, [], ◌∷◌, length, get_or, take, map, filter, Contains, Option, Some, None, arith}
+use Rattle.std.proofs.Common.{◌≡◌, ◌∙◌, ℕ, zero, suc, ◌<◌, ◌≤◌, Bool, true, false, ltb, ◌==◌, if◌then◌else◌, List, []}
+use Rattle.std.proofs.Common.{◌∷◌, length, get_or, take, map, filter, Contains, Option, Some, None, arith}
 use Rattle.std.proofs.Common.{refl, sym, ap, inl, inr, subst, true≢false, length-take}
 use Rattle.std.proofs.lemmas.Bool.{cases_Bool, cases_order, cond-true, cond-false}
 use Rattle.std.proofs.lemmas.List.{get_or-take, get_or_default}
-use Rattle.std.proofs.lemmas.List.Elements.{Contains-append_cases, Contains-append_left, Contains-append_right, Contains-get_or}
+use Rattle.std.proofs.lemmas.List.Elements.{Contains-append_cases, Contains-append_left, Contains-append_right}
+use Rattle.std.proofs.lemmas.List.Elements.{Contains-get_or}
 use Rattle.std.proofs.lemmas.List.Kept.{AllPairs-from_increasing, IsStrictlyIncreasing-filter}
 use Rattle.cpg_base.specs.Numbers.{numbers_below}
-use Rattle.cpg_base.specs.Graph.{Graph, process_count, edge_count, condition_count, item_count, item_at, source, outputs, is_message, condition_of, process_of, message_item, broadcast_item, producer}
+use Rattle.cpg_base.specs.Graph.{Graph, process_count, edge_count, condition_count, item_count, item_at, source}
+use Rattle.cpg_base.specs.Graph.{outputs, is_message, condition_of, process_of, message_item, broadcast_item, producer}
 use Rattle.cpg_base.specs.Graph.{producer_of_item, is_sent, is_sent_item}
 use Rattle.cpg_base.proofs.Inputs.{outputs_parts, outputs-Contains}
 use Rattle.cpg_base.proofs.Items.{item_cases, item_at-message, item_at-broadcast}
-use Rattle.cpg_base.proofs.Lists.{Contains-nil, Contains-cases, Contains-first, Contains-map, Contains-map_parts, Contains-filter, Contains-filter_parts, numbers_rise}
+use Rattle.cpg_base.proofs.Lists.{Contains-nil, Contains-cases, Contains-first, Contains-map, Contains-map_parts}
+use Rattle.cpg_base.proofs.Lists.{Contains-filter, Contains-filter_parts, numbers_rise}
 use Rattle.cpg_base.proofs.Ordered.{Rises, Rises-all_pairs, Rises-append, Rises-weaker}
 use Rattle.cpg_order.specs.Queue.{rank_of_item}
 use Rattle.cpg_base.proofs.ConditionProcesses.{condition_of_below, condition_of_process_of, process_of_condition_of}
@@ -18,11 +22,14 @@ use Rattle.cpg_bus.specs.Plan.{broadcasts_of, queue_of}
 
 -- ---- lists in which each element is so to each later one
 
-Rises-map : {X Y : Type 0} (R : Y → Y → Type 0) (f : X → Y) (xs : List X) → Rises (λ a b. R (f a) (f b)) xs → Rises R (map f xs)
+Rises-map : {X Y : Type 0} (R : Y → Y → Type 0) (f : X → Y) (xs : List X) → Rises (λ a b. R (f a) (f b)) xs →
+    Rises R (map f xs)
 Rises-map R f [] h = tt
-Rises-map R f (x ∷ xs) h = (λ y k. let r = Contains-map_parts f xs y k in subst (R (f x)) r.2 (h.0 r.0 r.1), Rises-map R f xs h.1)
+Rises-map R f (x ∷ xs) h =
+    (λ y k. let r = Contains-map_parts f xs y k in subst (R (f x)) r.2 (h.0 r.0 r.1), Rises-map R f xs h.1)
 
-at_places : (R : ℕ → ℕ → Type 0) (xs : List ℕ) → Rises R xs → (i j d : ℕ) → i < j → j < length xs → R (get_or xs i d) (get_or xs j d)
+at_places : (R : ℕ → ℕ → Type 0) (xs : List ℕ) → Rises R xs → (i j d : ℕ) → i < j → j < length xs →
+    R (get_or xs i d) (get_or xs j d)
 at_places R [] h i j d l m = absurd (omega arith)
 at_places R (x ∷ xs) h zero zero d l m = absurd (omega arith)
 at_places R (x ∷ xs) h zero (suc j) d l m = h.0 (get_or xs j d) (Contains-get_or xs j d (omega arith))
@@ -60,18 +67,21 @@ module _ (g : Graph) where
 
   -- ---- what is in it
 
-  a_broadcast : (p x : ℕ) (o : Option ℕ) → condition_of g p ≡ o → Contains (broadcasts_of g o) x → (c : ℕ) × (c < condition_count g) × (x ≡ broadcast_item g c) × (process_of g c ≡ p) ×
+  a_broadcast : (p x : ℕ) (o : Option ℕ) → condition_of g p ≡ o → Contains (broadcasts_of g o) x →
+      (c : ℕ) × (c < condition_count g) × (x ≡ broadcast_item g c) × (process_of g c ≡ p) ×
       (ltb 1 (length g.nodes) ≡ true)
   a_broadcast p x None e k = absurd (Contains-nil x k)
   a_broadcast p x (Some c) e k = elim (cases_Bool (ltb 1 (length g.nodes))) [
-    | inl many ↦ elim (Contains-cases (broadcast_item g c) [] x (subst (λ xs. Contains xs x) (cond-true _ _ _ many) k)) [
-      | inl is ↦ (c, condition_of_below g p c e, sym is, process_of_condition_of g p c e, many)
-      | inr none ↦ absurd (Contains-nil x none)
-    ]
+    | inl many ↦
+        elim (Contains-cases (broadcast_item g c) [] x (subst (λ xs. Contains xs x) (cond-true _ _ _ many) k)) [
+          | inl is ↦ (c, condition_of_below g p c e, sym is, process_of_condition_of g p c e, many)
+          | inr none ↦ absurd (Contains-nil x none)
+        ]
     | inr one ↦ absurd (Contains-nil x (subst (λ xs. Contains xs x) (cond-false _ _ _ one) k))
   ]
 
-  a_message : (p x : ℕ) → Contains (map (message_item g) (filter (is_message g) (outputs g p))) x → (e : ℕ) × (e < edge_count g) × (x ≡ message_item g e) × (source g e ≡ p) × (is_message g e ≡ true)
+  a_message : (p x : ℕ) → Contains (map (message_item g) (filter (is_message g) (outputs g p))) x →
+      (e : ℕ) × (e < edge_count g) × (x ≡ message_item g e) × (source g e ≡ p) × (is_message g e ≡ true)
   a_message p x k =
       let r = Contains-map_parts (message_item g) (filter (is_message g) (outputs g p)) x k in
       let f = Contains-filter_parts (is_message g) (outputs g p) r.0 r.1 in
@@ -79,25 +89,39 @@ module _ (g : Graph) where
       (r.0, o.0, sym r.2, o.1, f.1)
 
   pub in_queue : (p x : ℕ) → Contains (queue_of g p) x → IsSentOf p x
-  in_queue p x k = elim (Contains-append_cases (broadcasts_of g (condition_of g p)) (map (message_item g) (filter (is_message g) (outputs g p))) x k) [
-    | inl b ↦ let r = a_broadcast p x (condition_of g p) refl b in
-        let is = ap (item_at g) r.2 ∙ item_at-broadcast g r.0 in
-        record { within = omega (arith, r.1, r.2); above = omega (arith, r.2); sent = ap (is_sent_item g) is ∙ r.4; by = ap (producer_of_item g) is ∙ r.3 }
-    | inr m ↦ let r = a_message p x m in
-        let is = ap (item_at g) r.2 ∙ item_at-message g r.0 r.1 in
-        record { within = omega (arith, r.1, r.2); above = omega (arith, r.2); sent = ap (is_sent_item g) is ∙ r.4; by = ap (producer_of_item g) is ∙ r.3 }
-  ]
+  in_queue p x k = elim (Contains-append_cases (broadcasts_of g (condition_of g p))
+      (map (message_item g) (filter (is_message g) (outputs g p))) x k) [
+        | inl b ↦ let r = a_broadcast p x (condition_of g p) refl b in
+            let is = ap (item_at g) r.2 ∙ item_at-broadcast g r.0 in
+            record {
+              within = omega (arith, r.1, r.2);
+              above = omega (arith, r.2);
+              sent = ap (is_sent_item g) is ∙ r.4;
+              by = ap (producer_of_item g) is ∙ r.3;
+            }
+        | inr m ↦ let r = a_message p x m in
+            let is = ap (item_at g) r.2 ∙ item_at-message g r.0 r.1 in
+            record {
+              within = omega (arith, r.1, r.2);
+              above = omega (arith, r.2);
+              sent = ap (is_sent_item g) is ∙ r.4;
+              by = ap (producer_of_item g) is ∙ r.3;
+            }
+      ]
 
   to_queue : (x : ℕ) → x < item_count g → is_sent g x ≡ true → Contains (queue_of g (producer g x)) x
   to_queue x l sent = elim (item_cases g x l) [
     | inl c ↦ absurd (true≢false (sym sent ∙ ap (is_sent_item g) c.1))
     | inr (inl c) ↦ subst (λ p. Contains (queue_of g p) x) (sym (ap (producer_of_item g) c.3))
-        (Contains-append_right (broadcasts_of g (condition_of g (source g c.0))) (map (message_item g) (filter (is_message g) (outputs g (source g c.0)))) x
+        (Contains-append_right (broadcasts_of g (condition_of g (source g c.0)))
+        (map (message_item g) (filter (is_message g) (outputs g (source g c.0)))) x
         (subst (Contains (map (message_item g) (filter (is_message g) (outputs g (source g c.0))))) (sym c.2)
         (Contains-map (message_item g) (filter (is_message g) (outputs g (source g c.0))) c.0
-        (Contains-filter (is_message g) (outputs g (source g c.0)) c.0 (sym (ap (is_sent_item g) c.3) ∙ sent) (outputs-Contains g c.0 c.1)))))
+        (Contains-filter (is_message g) (outputs g (source g c.0)) c.0 (sym (ap (is_sent_item g) c.3) ∙ sent)
+        (outputs-Contains g c.0 c.1)))))
     | inr (inr c) ↦ subst (λ p. Contains (queue_of g p) x) (sym (ap (producer_of_item g) c.3))
-        (Contains-append_left (broadcasts_of g (condition_of g (process_of g c.0))) (map (message_item g) (filter (is_message g) (outputs g (process_of g c.0)))) x
+        (Contains-append_left (broadcasts_of g (condition_of g (process_of g c.0)))
+        (map (message_item g) (filter (is_message g) (outputs g (process_of g c.0)))) x
         (subst (λ o. Contains (broadcasts_of g o) x) (sym (condition_of_process_of g c.0 c.1))
         (subst (λ xs. Contains xs x) (sym (cond-true _ _ _ (sym (ap (is_sent_item g) c.3) ∙ sent)))
         (subst (λ y. Contains (broadcast_item g c.0 ∷ []) y) (sym c.2) (Contains-first (broadcast_item g c.0) [])))))
@@ -108,19 +132,24 @@ module _ (g : Graph) where
 
   -- ---- in which order
 
-  messages_rise : (p : ℕ) → Rises (λ a b. rank_at a < rank_at b) (map (message_item g) (filter (is_message g) (outputs g p)))
+  messages_rise : (p : ℕ) →
+      Rises (λ a b. rank_at a < rank_at b) (map (message_item g) (filter (is_message g) (outputs g p)))
   messages_rise p = Rises-map (λ a b. rank_at a < rank_at b) (message_item g) (filter (is_message g) (outputs g p))
-      (Rises-weaker (λ a b. a < b) (λ a b. rank_at (message_item g a) < rank_at (message_item g b)) (filter (is_message g) (outputs g p))
+      (Rises-weaker (λ a b. a < b) (λ a b. rank_at (message_item g a) < rank_at (message_item g b))
+      (filter (is_message g) (outputs g p))
       (λ a b i j l. omega (
         arith,
         l,
-        ap rank_of_item (item_at-message g a (outputs_parts g p a (Contains-filter_parts (is_message g) (outputs g p) a i).0).0),
-        ap rank_of_item (item_at-message g b (outputs_parts g p b (Contains-filter_parts (is_message g) (outputs g p) b j).0).0),
+        ap rank_of_item
+            (item_at-message g a (outputs_parts g p a (Contains-filter_parts (is_message g) (outputs g p) a i).0).0),
+        ap rank_of_item
+            (item_at-message g b (outputs_parts g p b (Contains-filter_parts (is_message g) (outputs g p) b j).0).0),
       ))
       (Rises-all_pairs (λ a b. a < b) (filter (is_message g) (outputs g p))
       (AllPairs-from_increasing (filter (is_message g) (outputs g p))
       (IsStrictlyIncreasing-filter (is_message g) (outputs g p)
-      (IsStrictlyIncreasing-filter (λ e. source g e == p) (numbers_below (edge_count g)) (numbers_rise (edge_count g)))))))
+      (IsStrictlyIncreasing-filter (λ e. source g e == p) (numbers_below (edge_count g))
+      (numbers_rise (edge_count g)))))))
 
   broadcasts_rise : (o : Option ℕ) → Rises (λ a b. rank_at a < rank_at b) (broadcasts_of g o)
   broadcasts_rise None = tt
@@ -131,9 +160,16 @@ module _ (g : Graph) where
       go false = tt
 
   pub queue_rises : (p : ℕ) → Rises (λ a b. rank_at a < rank_at b) (queue_of g p)
-  queue_rises p = Rises-append (λ a b. rank_at a < rank_at b) (broadcasts_of g (condition_of g p)) (map (message_item g) (filter (is_message g) (outputs g p)))
+  queue_rises p = Rises-append (λ a b. rank_at a < rank_at b) (broadcasts_of g (condition_of g p))
+      (map (message_item g) (filter (is_message g) (outputs g p)))
       (broadcasts_rise (condition_of g p)) (messages_rise p)
       (λ a b i j.
       let r = a_broadcast p a (condition_of g p) refl i in
       let m = a_message p b j in
-      omega (arith, ap rank_at r.2, ap rank_of_item (item_at-broadcast g r.0), ap rank_at m.2, ap rank_of_item (item_at-message g m.0 m.1)))
+      omega (
+        arith,
+        ap rank_at r.2,
+        ap rank_of_item (item_at-broadcast g r.0),
+        ap rank_at m.2,
+        ap rank_of_item (item_at-message g m.0 m.1),
+      ))

@@ -1,5 +1,6 @@
 -- Where a node's slot lies in the round.
-use Rattle.std.proofs.Common.{ℕ, ◌+◌, ◌==◌, ◌≡◌, ◌∙◌, ap, ap₂, Option, position, unwrap_or, List, get_or, take, sum_by, arith}
+use Rattle.std.proofs.Common.{ℕ, ◌+◌, ◌==◌, ◌≡◌, ◌∙◌, ap, ap₂, Option, position, unwrap_or, List, get_or, take, sum_by}
+use Rattle.std.proofs.Common.{arith}
 use Rattle.std.proofs.lemmas.List.Sums.{sum_by-take-le, sum_by_more}
 use Rattle.cpg_base.specs.declared.process.Slot.{Slot}
 use Rattle.cpg_base.specs.Graph.{Graph}
@@ -23,7 +24,8 @@ is_share g node within has =
     }
 
 -- where a node's slot lies in the round, as code finds it
-module _ (g : Graph) (node place : ℕ) (found : Option ℕ) (slots : List Slot) (same : slots ≡ g.slots) (is : found ≡ position (λ (s : Slot). s.node == node) slots)
+module _ (g : Graph) (node place : ℕ) (found : Option ℕ) (slots : List Slot) (same : slots ≡ g.slots)
+    (is : found ≡ position (λ (s : Slot). s.node == node) slots)
     (at : place ≡ unwrap_or found 0) where
   place_is : place ≡ slot_place g node
   place_is = at ∙ ap (λ o. unwrap_or o 0) (is ∙ ap (position (λ (s : Slot). s.node == node)) same)
@@ -32,7 +34,10 @@ module _ (g : Graph) (node place : ℕ) (found : Option ℕ) (slots : List Slot)
   offset_is = ap₂ (λ k xs. sum_by (λ (s : Slot). s.length) (take k xs)) place_is same
 
   pub length_is : (get_or slots place (record { node = 0; length = 0; bytes = 0 })).length ≡ slot_length g node
-  length_is = ap₂ (λ k xs. (get_or xs k (let s : Slot = record { node = 0; length = 0; bytes = 0 } in s)).length) place_is same
+  length_is =
+      ap₂ (λ k xs. (get_or xs k (let s : Slot = record { node = 0; length = 0; bytes = 0 } in s)).length) place_is same
 
-pub is_share_of : (s t : ShareState) → s.offset ≡ t.offset → s.length ≡ t.length → s.round ≡ t.round → IsShare t → IsShare s
-is_share_of s t a b c is = record { lasts = omega (arith, is.lasts); inside = omega (arith, is.inside); short = omega (arith, is.short) }
+pub is_share_of : (s t : ShareState) → s.offset ≡ t.offset → s.length ≡ t.length → s.round ≡ t.round → IsShare t →
+    IsShare s
+is_share_of s t a b c is =
+    record { lasts = omega (arith, is.lasts); inside = omega (arith, is.inside); short = omega (arith, is.short) }

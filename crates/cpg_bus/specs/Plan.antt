@@ -1,6 +1,7 @@
--- What is found once for a graph: the edges of each process, what a process sends, in the order of its node's queue, and the
--- nodes' shares of the bus.
-use Rattle.std.specs.Prelude.{ℕ, ◌==◌, if◌then◌else◌, nat_lt, List, [], ◌∷◌, ◌++◌, Option, Some, None, map, filter, length}
+-- What is found once for a graph: the edges of each process, what a process sends, in the order of its node's queue,
+-- and the nodes' shares of the bus.
+use Rattle.std.specs.Prelude.{ℕ, ◌==◌, if◌then◌else◌, nat_lt, List, [], ◌∷◌, ◌++◌, Option, Some, None, map, filter}
+use Rattle.std.specs.Prelude.{length}
 use Rattle.std.specs.List.{list_any}
 use Rattle.cpg_base.specs.Numbers.{numbers_below}
 use Rattle.cpg_base.specs.Bus.{round}

@@ -1,5 +1,6 @@
 -- What is first is one: the differing part of a head, the violation of tables.
-use Rattle.std.proofs.Common.{ℕ, zero, suc, ◌≡◌, ◌<◌, ◌∙◌, Bool, true, false, ◌&&◌, ◌||◌, List, [], ◌∷◌, Option, Some, None, IfSome, IsPermutation, length, take, drop, refl, sym, ap, subst, inl, inr}
+use Rattle.std.proofs.Common.{ℕ, zero, suc, ◌≡◌, ◌<◌, ◌∙◌, Bool, true, false, ◌&&◌, ◌||◌, List, [], ◌∷◌, Option, Some}
+use Rattle.std.proofs.Common.{None, IfSome, IsPermutation, length, take, drop, refl, sym, ap, subst, inl, inr}
 use Rattle.std.proofs.Common.{arith}
 use Rattle.std.specs.Prelude.{slice_get, IsSomeAnd, IsTrue}
 use Rattle.std.specs.List.{list_any}
@@ -77,13 +78,17 @@ module _ (g : Graph) (tables : List NodeTable) where
   off false r e = e
 
   -- V3 speaks of no column
-  present_never : (s : Scenario) (x : ℕ) (earlier cs : List Column) → list_any (breaks_at Rule.Present g tables s x earlier) cs ≡ false
+  present_never : (s : Scenario) (x : ℕ) (earlier cs : List Column) →
+      list_any (breaks_at Rule.Present g tables s x earlier) cs ≡ false
   present_never s x earlier [] = refl
-  present_never s x earlier (c ∷ cs) = off (matches c.cube s) (list_any (breaks_at Rule.Present g tables s x earlier) cs) (present_never s x earlier cs)
+  present_never s x earlier (c ∷ cs) =
+      off (matches c.cube s) (list_any (breaks_at Rule.Present g tables s x earlier) cs) (present_never s x earlier cs)
 
   -- a rule is broken at columns alone, or at no column alone
-  none_or_some : (rule : Rule) (s t : Scenario) (x i : ℕ) → breaks rule g tables s x None ≡ true → breaks rule g tables t x (Some i) ≡ true → ⊥
-  none_or_some Rule.Present s t x i e k = both_ways (breaks Rule.Present g tables t x (Some i)) (present_never t x (take i (columns_of tables x)) (take 1 (drop i (columns_of tables x)))) k
+  none_or_some : (rule : Rule) (s t : Scenario) (x i : ℕ) → breaks rule g tables s x None ≡ true →
+      breaks rule g tables t x (Some i) ≡ true → ⊥
+  none_or_some Rule.Present s t x i e k = both_ways (breaks Rule.Present g tables t x (Some i))
+      (present_never t x (take i (columns_of tables x)) (take 1 (drop i (columns_of tables x)))) k
   none_or_some Rule.Activity s t x i e k = true≢false (sym e)
   none_or_some Rule.Single s t x i e k = true≢false (sym e)
   none_or_some Rule.Heard s t x i e k = true≢false (sym e)
@@ -96,9 +101,11 @@ module _ (g : Graph) (tables : List NodeTable) where
 
   module _ (rule : Rule) (x : ℕ) where
     abbrev Before : Option ℕ → Type 0
-    Before column = IfSome column (λ j. (i : ℕ) (s : Scenario) → i < j → IsScenario g s → breaks rule g tables s x (Some i) ≡ false)
+    Before column =
+        IfSome column (λ j. (i : ℕ) (s : Scenario) → i < j → IsScenario g s → breaks rule g tables s x (Some i) ≡ false)
 
-    one_column : (c d : Option ℕ) (s t : Scenario) → IsScenario g s → IsScenario g t → breaks rule g tables s x c ≡ true → breaks rule g tables t x d ≡ true → Before c → Before d → c ≡ d
+    one_column : (c d : Option ℕ) (s t : Scenario) → IsScenario g s → IsScenario g t →
+        breaks rule g tables s x c ≡ true → breaks rule g tables t x d ≡ true → Before c → Before d → c ≡ d
     one_column None None s t is it h k before earlier = refl
     one_column None (Some j) s t is it h k before earlier = absurd (none_or_some rule s t x j h k)
     one_column (Some i) None s t is it h k before earlier = absurd (none_or_some rule t s x i k h)
@@ -110,26 +117,35 @@ module _ (g : Graph) (tables : List NodeTable) where
     abbrev LeastAt : Rule → ℕ → Option ℕ → Scenario → Type 0
     LeastAt rule x column s = IsLeast g order (λ t. IsTrue (breaks rule g tables t x column)) s
 
-    one_violation : (rule : Rule) (e f : Fault) → IsFirstViolation g order tables rule e → IsFirstViolation g order tables rule f → e ≡ f
+    one_violation : (rule : Rule) (e f : Fault) → IsFirstViolation g order tables rule e →
+        IsFirstViolation g order tables rule f → e ≡ f
     one_violation rule e f a b =
         let item : e.item ≡ f.item = same_number e.item f.item
-        (λ l. both_ways (breaks rule g tables e.scenario e.item e.column) (b.items e.item e.column e.scenario l a.least.lawful) a.least.holds)
-        (λ l. both_ways (breaks rule g tables f.scenario f.item f.column) (a.items f.item f.column f.scenario l b.least.lawful) b.least.holds) in
-        let moved : LeastAt rule f.item e.column e.scenario = subst (λ x. LeastAt rule x e.column e.scenario) item a.least in
-        let column : e.column ≡ f.column = one_column rule f.item e.column f.column e.scenario f.scenario a.least.lawful b.least.lawful moved.holds b.least.holds
+        (λ l. both_ways (breaks rule g tables e.scenario e.item e.column)
+        (b.items e.item e.column e.scenario l a.least.lawful) a.least.holds)
+        (λ l. both_ways (breaks rule g tables f.scenario f.item f.column)
+        (a.items f.item f.column f.scenario l b.least.lawful) b.least.holds) in
+        let moved : LeastAt rule f.item e.column e.scenario =
+        subst (λ x. LeastAt rule x e.column e.scenario) item a.least in
+        let column : e.column ≡ f.column = one_column rule f.item e.column f.column e.scenario f.scenario a.least.lawful
+        b.least.lawful moved.holds b.least.holds
         (subst (λ x. Before rule x e.column) item a.columns) b.columns in
-        let here : LeastAt rule f.item f.column e.scenario = subst (λ c. LeastAt rule f.item c e.scenario) column moved in
-        same_fault e f (a.number ∙ sym b.number) item column (one_least g order all (λ t. IsTrue (breaks rule g tables t f.item f.column)) e.scenario f.scenario here b.least)
+        let here : LeastAt rule f.item f.column e.scenario =
+        subst (λ c. LeastAt rule f.item c e.scenario) column moved in
+        same_fault e f (a.number ∙ sym b.number) item column (one_least g order all
+        (λ t. IsTrue (breaks rule g tables t f.item f.column)) e.scenario f.scenario here b.least)
 
     broken : (rule : Rule) (e : Fault) → IsFirstViolation g order tables rule e → Holds g tables rule → ⊥
-    broken rule e a holds = both_ways (breaks rule g tables e.scenario e.item e.column) (holds e.item e.column e.scenario a.least.lawful a.item) a.least.holds
+    broken rule e a holds = both_ways (breaks rule g tables e.scenario e.item e.column)
+        (holds e.item e.column e.scenario a.least.lawful a.item) a.least.holds
 
     some_broken : (rules : List Rule) (e : Fault) → IsFirstOf g order tables rules e → AllHold g tables rules → ⊥
     some_broken [] e h all = h
     some_broken (rule ∷ rules) e (inl a) all = broken rule e a all.0
     some_broken (rule ∷ rules) e (inr a) all = some_broken rules e a.1 all.1
 
-    one_of : (rules : List Rule) (e f : Fault) → IsFirstOf g order tables rules e → IsFirstOf g order tables rules f → e ≡ f
+    one_of : (rules : List Rule) (e f : Fault) → IsFirstOf g order tables rules e → IsFirstOf g order tables rules f →
+        e ≡ f
     one_of [] e f a b = absurd a
     one_of (rule ∷ rules) e f (inl a) (inl b) = one_violation rule e f a b
     one_of (rule ∷ rules) e f (inl a) (inr b) = absurd (broken rule e a b.0)
@@ -139,7 +155,8 @@ module _ (g : Graph) (tables : List NodeTable) where
 -- ---- V10
 
 -- columns that differ aren't the same
-differ : (columns : List Column) (place : ℕ) (r : Option (List Column)) → IfSome r (λ cs. cs ≡ columns) → IsSomeAnd r (λ cs. DifferFirstAt cs columns place) → ⊥
+differ : (columns : List Column) (place : ℕ) (r : Option (List Column)) → IfSome r (λ cs. cs ≡ columns) →
+    IsSomeAnd r (λ cs. DifferFirstAt cs columns place) → ⊥
 differ columns place None e d = d
 differ columns place (Some cs) e d = d.here (ap (λ xs. slice_get xs place) e)
 
@@ -152,9 +169,11 @@ slice_get-take (x ∷ xs) (suc i) (suc j) l = slice_get-take xs i j (omega arith
 taken : (xs ys : List Column) (i j : ℕ) → i < j → take j xs ≡ take j ys → slice_get xs i ≡ slice_get ys i
 taken xs ys i j l e = sym (slice_get-take xs i j l) ∙ ap (λ zs. slice_get zs i) e ∙ slice_get-take ys i j l
 
-one_place : (columns : List Column) (i j : ℕ) (r : Option (List Column)) → IsSomeAnd r (λ cs. DifferFirstAt cs columns i) → IsSomeAnd r (λ cs. DifferFirstAt cs columns j) → i ≡ j
+one_place : (columns : List Column) (i j : ℕ) (r : Option (List Column)) →
+    IsSomeAnd r (λ cs. DifferFirstAt cs columns i) → IsSomeAnd r (λ cs. DifferFirstAt cs columns j) → i ≡ j
 one_place columns i j None d e = absurd d
-one_place columns i j (Some cs) d e = same_number i j (λ l. d.here (taken cs columns i j l e.before)) (λ l. e.here (taken cs columns j i l d.before))
+one_place columns i j (Some cs) d e =
+    same_number i j (λ l. d.here (taken cs columns i j l e.before)) (λ l. e.here (taken cs columns j i l d.before))
 
 module _ (g : Graph) (tables : List NodeTable) where
   abbrev FirstAt : ℕ → Option ℕ → Type 0
@@ -162,7 +181,8 @@ module _ (g : Graph) (tables : List NodeTable) where
 
   heard_badly : (x : ℕ) (o : Option ℕ) → FirstAt x o → IsHeardWell g tables x → ⊥
   heard_badly x None h well = h
-  heard_badly x (Some place) h well = differ (due_columns g tables x) place (row_columns (table_at tables h.node).hears x) (well h.node h.within) h.differ
+  heard_badly x (Some place) h well = differ (due_columns g tables x) place
+      (row_columns (table_at tables h.node).hears x) (well h.node h.within) h.differ
 
   one_hear_place : (x : ℕ) (o p : Option ℕ) → FirstAt x o → FirstAt x p → o ≡ p
   one_hear_place x None p h k = absurd h
@@ -173,7 +193,8 @@ module _ (g : Graph) (tables : List NodeTable) where
       (λ l. differ columns i (row_columns (table_at tables h.node).hears x) (k.earlier h.node l) h.differ)
       (λ l. differ columns j (row_columns (table_at tables k.node).hears x) (h.earlier k.node l) k.differ) in
       ap Some (one_place columns i j (row_columns (table_at tables k.node).hears x)
-      (subst (λ n. IsSomeAnd (row_columns (table_at tables n).hears x) (λ cs. DifferFirstAt cs columns i)) node h.differ) k.differ)
+      (subst (λ n. IsSomeAnd (row_columns (table_at tables n).hears x) (λ cs. DifferFirstAt cs columns i)) node
+      h.differ) k.differ)
 
   one_hear : (e f : Fault) → IsFirstHearFault g tables e → IsFirstHearFault g tables f → e ≡ f
   one_hear e f a b =
@@ -181,9 +202,11 @@ module _ (g : Graph) (tables : List NodeTable) where
       (λ l. heard_badly e.item e.column a.column (b.items e.item l))
       (λ l. heard_badly f.item f.column b.column (a.items f.item l)) in
       same_fault e f (a.number ∙ sym b.number) item
-      (one_hear_place f.item e.column f.column (subst (λ x. FirstAt x e.column) item a.column) b.column) (a.scenario ∙ sym b.scenario)
+      (one_hear_place f.item e.column f.column (subst (λ x. FirstAt x e.column) item a.column) b.column)
+      (a.scenario ∙ sym b.scenario)
 
-  one_fault : (order : List ℕ) (e f : Fault) → IsTopological g order → IsFirstFault g order tables e → IsFirstFault g order tables f → e ≡ f
+  one_fault : (order : List ℕ) (e f : Fault) → IsTopological g order → IsFirstFault g order tables e →
+      IsFirstFault g order tables f → e ≡ f
   one_fault order e f along (inl a) (inl b) = one_of g tables order along.all column_rules e f a b
   one_fault order e f along (inl a) (inr b) = absurd (some_broken g tables order along.all column_rules e a b.0)
   one_fault order e f along (inr a) (inl b) = absurd (some_broken g tables order along.all column_rules f b a.0)
@@ -191,7 +214,8 @@ module _ (g : Graph) (tables : List NodeTable) where
 
 -- ---- verdicts
 
-one_verdict : (g : Graph) (order : List ℕ) (t : Tables) (v w : Verdict) → IsTopological g order → length t.nodes ≡ length g.nodes → ShowsVerdict g order t v → ShowsVerdict g order t w → v ≡ w
+one_verdict : (g : Graph) (order : List ℕ) (t : Tables) (v w : Verdict) → IsTopological g order →
+    length t.nodes ≡ length g.nodes → ShowsVerdict g order t v → ShowsVerdict g order t w → v ≡ w
 one_verdict g order t Yes Yes along count a b = refl
 one_verdict g order t Yes (Other q) along count a b = absurd (other_head g t.head q b a.0)
 one_verdict g order t Yes (No f) along count a b = absurd (faulty_tables g t.nodes order f count b.1 a.1)

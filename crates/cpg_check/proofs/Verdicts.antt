@@ -1,5 +1,6 @@
 -- A verdict that shows something shows that the tables are not the graph's, or not valid.
-use Rattle.std.proofs.Common.{ℕ, ◌≡◌, ◌<◌, ◌∙◌, ◌==◌, List, [], ◌∷◌, Option, Some, None, length, map, refl, sym, ap, inl, inr, arith, eqb-true}
+use Rattle.std.proofs.Common.{ℕ, ◌≡◌, ◌<◌, ◌∙◌, ◌==◌, List, [], ◌∷◌, Option, Some, None, length, map, refl, sym, ap}
+use Rattle.std.proofs.Common.{inl, inr, arith, eqb-true}
 use Rattle.std.specs.Prelude.{slice_get, IsSomeAnd}
 use Rattle.std.proofs.lemmas.Bool.{both_ways, cases_Bool, cond-true, cond-false}
 use Rattle.std.proofs.lemmas.Option.{slice_get-get_or, none-some, same_Some}
@@ -26,26 +27,32 @@ other_head g h HeadPart.Edges d k = d.edges k.edges
 
 module _ (g : Graph) (tables : List NodeTable) where
   -- a hear row of V10 has the columns that are due
-  heard_due : (x : ℕ) (items : List ℕ) (cs : List Column) → row_columns (map (hear_row g tables) items) x ≡ Some cs → cs ≡ due_columns g tables x
+  heard_due : (x : ℕ) (items : List ℕ) (cs : List Column) → row_columns (map (hear_row g tables) items) x ≡ Some cs →
+      cs ≡ due_columns g tables x
   heard_due x [] cs e = absurd (none-some cs e)
   heard_due x (y ∷ items) cs e = elim (cases_Bool (y == x)) [
-    | inl here ↦ sym (same_Some (due_columns g tables y) cs (sym (cond-true (y == x) _ _ here) ∙ e)) ∙ ap (due_columns g tables) (eqb-true y x here)
+    | inl here ↦ sym (same_Some (due_columns g tables y) cs (sym (cond-true (y == x) _ _ here) ∙ e))
+        ∙ ap (due_columns g tables) (eqb-true y x here)
     | inr there ↦ heard_due x items cs (sym (cond-false (y == x) _ _ there) ∙ e)
   ]
 
-  not_heard : IsValid g tables → (x place node : ℕ) → node < length tables → (o : Option (List Column)) → row_columns (table_at tables node).hears x ≡ o →
+  not_heard : IsValid g tables → (x place node : ℕ) → node < length tables → (o : Option (List Column)) →
+      row_columns (table_at tables node).hears x ≡ o →
       IsSomeAnd o (λ cs. DifferFirstAt cs (due_columns g tables x) place) → ⊥
   not_heard valid x place node l None e differ = differ
   not_heard valid x place node l (Some cs) e differ =
       let hears = valid.hears node (table_at tables node) (slice_get-get_or tables node empty_table l) in
       differ.here (ap (λ ds. slice_get ds place) (heard_due x _ cs (sym (ap (λ rows. row_columns rows x) hears) ∙ e)))
 
-  first_hear : IsValid g tables → length tables ≡ length g.nodes → (x : ℕ) (o : Option ℕ) → IsSomeAnd o (IsFirstHear tables (length g.nodes) x (due_columns g tables x)) → ⊥
+  first_hear : IsValid g tables → length tables ≡ length g.nodes → (x : ℕ) (o : Option ℕ) →
+      IsSomeAnd o (IsFirstHear tables (length g.nodes) x (due_columns g tables x)) → ⊥
   first_hear valid count x None shown = shown
-  first_hear valid count x (Some place) shown = not_heard valid x place shown.node (omega (arith, count, shown.within)) (row_columns (table_at tables shown.node).hears x) refl shown.differ
+  first_hear valid count x (Some place) shown = not_heard valid x place shown.node (omega (arith, count, shown.within))
+      (row_columns (table_at tables shown.node).hears x) refl shown.differ
 
   -- tables with a fault aren't valid
-  pub faulty_tables : (order : List ℕ) (f : Fault) → length tables ≡ length g.nodes → IsFirstFault g order tables f → IsValid g tables → ⊥
+  pub faulty_tables : (order : List ℕ) (f : Fault) → length tables ≡ length g.nodes → IsFirstFault g order tables f →
+      IsValid g tables → ⊥
   faulty_tables order f count (inl broken) valid =
       let shown = first_broken g order tables f column_rules broken in
       let first : IsFirstViolation g order tables shown.0 f = shown.1 in

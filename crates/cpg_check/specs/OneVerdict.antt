@@ -19,5 +19,6 @@ pub record HaveOneVerdict : Type 0 where
   pub faults : (g : Graph) (order : List ℕ) (tables : List NodeTable) (e f : Fault) → IsTopological g order →
       IsFirstFault g order tables e → IsFirstFault g order tables f → e ≡ f
   -- tables have one verdict
-  pub verdicts : (g : Graph) (order : List ℕ) (t : Tables) (v w : Verdict) → IsTopological g order → length t.nodes ≡ length g.nodes →
+  pub verdicts : (g : Graph) (order : List ℕ) (t : Tables) (v w : Verdict) → IsTopological g order →
+      length t.nodes ≡ length g.nodes →
       ShowsVerdict g order t v → ShowsVerdict g order t w → v ≡ w

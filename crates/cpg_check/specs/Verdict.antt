@@ -13,7 +13,8 @@ use Rattle.cpg_check.specs.declared.verdict.Verdict.TheVariants.{Yes, Other, No}
 
 -- the first violation of V1 to V9; or, if these hold, of V10
 abbrev pub IsFirstFault : Graph → List ℕ → List NodeTable → Fault → Type 0
-IsFirstFault g order tables f = IsFirstOf g order tables column_rules f ⊎ (AllHold g tables column_rules × IsFirstHearFault g tables f)
+IsFirstFault g order tables f =
+    IsFirstOf g order tables column_rules f ⊎ (AllHold g tables column_rules × IsFirstHearFault g tables f)
 
 -- None if the tables are valid
 abbrev pub ShowsFault : Graph → List ℕ → List NodeTable → Option Fault → Type 0

@@ -1,5 +1,6 @@
 -- Columns that a node hears: what one tells, and one more.
-use Rattle.std.proofs.Common.{ℕ, zero, suc, ◌+◌, ◌<◌, ◌≤◌, ◌≡◌, Bool, true, false, ◌&&◌, ◌||◌, List, [], ◌∷◌, ◌++◌, get_or, length, All, Option, arith, refl, sym, ap, ◌∙◌, subst, lt-ltb}
+use Rattle.std.proofs.Common.{ℕ, zero, suc, ◌+◌, ◌<◌, ◌≤◌, ◌≡◌, Bool, true, false, ◌&&◌, ◌||◌, List, [], ◌∷◌, ◌++◌}
+use Rattle.std.proofs.Common.{get_or, length, All, Option, arith, refl, sym, ap, ◌∙◌, subst, lt-ltb}
 use Rattle.std.specs.Prelude.{nat_le}
 use Rattle.std.specs.List.{list_any}
 use Rattle.std.proofs.Math.Bool.{or-false}
@@ -23,38 +24,49 @@ use Rattle.cpg_check_heard.specs.Tellings.{column_tells, is_telling, is_telling_
 
 module _ (g : Graph) (time : ℕ) (b : LiteralBound) (s : Scenario) where
   -- a frame that comes later tells nothing
-  pub late_frame : (delay : ℕ) (o : Option ℕ) (c : Column) → time < c.time + delay → is_telling g (Frame delay o) time b s c ≡ false
-  late_frame delay o c l = and_right (matches c.cube s) (column_tells g (Frame delay o) time b s c) (ap (λ t. t && list_any (tells b) (c.cube ++ value_fact s o)) (lt-leb (c.time + delay) time l))
+  pub late_frame : (delay : ℕ) (o : Option ℕ) (c : Column) → time < c.time + delay →
+      is_telling g (Frame delay o) time b s c ≡ false
+  late_frame delay o c l = and_right (matches c.cube s) (column_tells g (Frame delay o) time b s c)
+      (ap (λ t. t && list_any (tells b) (c.cube ++ value_fact s o)) (lt-leb (c.time + delay) time l))
 
   -- an end that comes later tells nothing
   pub late_end : (p : ℕ) (c : Column) → time < c.time → is_telling g (End p) time b s c ≡ false
   late_end p c l = and_right (matches c.cube s) (column_tells g (End p) time b s c)
-      (ap (λ t. t && list_any (tells b) (exactly p (number_of s p) ∷ value_fact s (condition_of g p))) (lt-leb (c.time + duration g p (number_of s p)) time (omega (arith, l))))
+      (ap (λ t. t && list_any (tells b) (exactly p (number_of s p) ∷ value_fact s (condition_of g p)))
+      (lt-leb (c.time + duration g p (number_of s p)) time (omega (arith, l))))
 
   -- one that has come tells what its column's literals do
-  pub whole_frame : (delay : ℕ) (o : Option ℕ) (c : Column) → nat_le (c.time + delay) time ≡ true → list_any (tells b) c.cube ≡ true → matches c.cube s ≡ true →
+  pub whole_frame : (delay : ℕ) (o : Option ℕ) (c : Column) → nat_le (c.time + delay) time ≡ true →
+      list_any (tells b) c.cube ≡ true →
+      matches c.cube s ≡ true →
       is_telling g (Frame delay o) time b s c ≡ true
   whole_frame delay o c come told m = and_from (matches c.cube s) (column_tells g (Frame delay o) time b s c) m
       (and_from (nat_le (c.time + delay) time) (list_any (tells b) (c.cube ++ value_fact s o)) come
       (list_any-append (tells b) c.cube (value_fact s o) ∙ ap (λ t. t || list_any (tells b) (value_fact s o)) told))
 
-  pub tell_push : (xs : List Arrival) (a : Arrival) (at : Bool) → is_telling g a.telling time b s a.column.now ≡ at → do_tell g time b (xs ++ a ∷ []) s ≡ (do_tell g time b xs s || at)
+  pub tell_push : (xs : List Arrival) (a : Arrival) (at : Bool) → is_telling g a.telling time b s a.column.now ≡ at →
+      do_tell g time b (xs ++ a ∷ []) s ≡ (do_tell g time b xs s || at)
   tell_push xs a at e = list_any-append (λ (x : Arrival). is_telling g x.telling time b s x.column.now) xs (a ∷ [])
       ∙ ap (λ t. do_tell g time b xs s || t) (or-false (is_telling g a.telling time b s a.column.now) ∙ e)
 
 module _ (g : Graph) where
-  pub each_push : (xs : List Arrival) (a : Arrival) → All (IsArrival g) xs → IsArrival g a → All (IsArrival g) (xs ++ a ∷ [])
+  pub each_push : (xs : List Arrival) (a : Arrival) → All (IsArrival g) xs → IsArrival g a →
+      All (IsArrival g) (xs ++ a ∷ [])
   each_push xs a h is = All-append (IsArrival g) xs (a ∷ []) h one
     where
       one : (j : ℕ) (d : Arrival) → j < 1 → IsArrival g (get_or (a ∷ []) j d)
       one zero d l = is
       one (suc j) d l = absurd (omega arith)
 
-  pub known_column : (columns : List Column) (i : ℕ) (c : Column) → i < length columns → ((d : Column) → c ≡ get_or columns i d) → All (λ (d : Column). IsKnown g d.cube) columns → IsKnown g c.cube
+  pub known_column : (columns : List Column) (i : ℕ) (c : Column) → i < length columns →
+      ((d : Column) → c ≡ get_or columns i d) → All (λ (d : Column). IsKnown g d.cube) columns →
+      IsKnown g c.cube
   known_column columns i c l e all = subst (λ (d : Column). IsKnown g d.cube) (sym (e c)) (all i c l)
 
 -- the column that is found at a place
-pub telling_at : (g : Graph) (time : ℕ) (b : LiteralBound) (s : Scenario) (telling : Telling) (columns : List Column) (i : ℕ) (c : Column) → i < length columns →
+pub telling_at : (g : Graph) (time : ℕ) (b : LiteralBound) (s : Scenario) (telling : Telling) (columns : List Column)
+    (i : ℕ) (c : Column) →
+    i < length columns →
     ((d : Column) → c ≡ get_or columns i d)
     → is_telling_at g telling time b columns s i ≡ is_telling g telling time b s c
 telling_at g time b s telling columns i c l e =
@@ -62,6 +74,9 @@ telling_at g time b s telling columns i c l e =
     ∙ ap (is_telling g telling time b s) (sym (e _))
 
 -- no column of a row that begins late passes a test that no late column passes
-pub late_row : (test : Column → Bool) (columns : List Column) (first : ℕ) → All (λ c. first ≤ c.time) columns → ((c : Column) → first ≤ c.time → test c ≡ false) → list_any test columns ≡ false
+pub late_row : (test : Column → Bool) (columns : List Column) (first : ℕ) → All (λ c. first ≤ c.time) columns →
+    ((c : Column) → first ≤ c.time → test c ≡ false) →
+    list_any test columns ≡ false
 late_row test [] first all none = refl
-late_row test (c ∷ cs) first all none = rw (none c (all 0 c (omega arith))) (late_row test cs first (λ k d l. all (suc k) d (omega arith)) none)
+late_row test (c ∷ cs) first all none =
+    rw (none c (all 0 c (omega arith))) (late_row test cs first (λ k d l. all (suc k) d (omega arith)) none)

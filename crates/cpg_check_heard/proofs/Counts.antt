@@ -7,12 +7,16 @@ use Rattle.cpg_base.specs.Duration.{duration}
 use Rattle.cpg_violation.proofs.Durations.{duration_grows}
 
 module _ (g : Graph) (p start time : ℕ) (come : start ≤ time) where
-  pub counts_here : (count : ℕ) → ((n : ℕ) → n < count → duration g p n ≤ time - start) → time - start < duration g p count
+  pub counts_here : (count : ℕ) → ((n : ℕ) → n < count → duration g p n ≤ time - start) →
+      time - start < duration g p count
       → (n : ℕ) → n ≤ g.faults → nat_le (start + duration g p n) time ≡ nat_lt n count
   counts_here count before here n below = elim (cases_lt n count) [
     | inl l ↦ le-leb (start + duration g p n) time (omega (arith, before n l)) ∙ sym (lt-ltb n count l)
-    | inr l ↦ let r = duration_grows g p count n l in lt-leb (start + duration g p n) time (omega (arith, r)) ∙ sym (le-ltb n count l)
+    | inr l ↦ let r = duration_grows g p count n l in
+        lt-leb (start + duration g p n) time (omega (arith, r)) ∙ sym (le-ltb n count l)
   ]
 
-  pub counts_all : ((n : ℕ) → n < g.faults + 1 → duration g p n ≤ time - start) → (n : ℕ) → n ≤ g.faults → nat_le (start + duration g p n) time ≡ nat_lt n (g.faults + 1)
-  counts_all before n l = le-leb (start + duration g p n) time (omega (arith, before n (omega arith))) ∙ sym (lt-ltb n (g.faults + 1) (omega arith))
+  pub counts_all : ((n : ℕ) → n < g.faults + 1 → duration g p n ≤ time - start) → (n : ℕ) → n ≤ g.faults →
+      nat_le (start + duration g p n) time ≡ nat_lt n (g.faults + 1)
+  counts_all before n l = le-leb (start + duration g p n) time (omega (arith, before n (omega arith)))
+      ∙ sym (lt-ltb n (g.faults + 1) (omega arith))

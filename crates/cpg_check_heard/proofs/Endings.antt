@@ -1,6 +1,7 @@
 -- If a column matches, a literal is heard whose process has ended: the process is active, so it has a column that
 -- matches, and its end tells the count and the value.
-use Rattle.std.proofs.Common.{ℕ, ◌+◌, ◌<◌, ◌≤◌, ◌≡◌, Bool, All, true, false, not, List, arith, refl, sym, ap, ◌∙◌, eq-eqb, le-leb}
+use Rattle.std.proofs.Common.{ℕ, ◌+◌, ◌<◌, ◌≤◌, ◌≡◌, Bool, All, true, false, not, List, arith, refl, sym, ap, ◌∙◌}
+use Rattle.std.proofs.Common.{eq-eqb, le-leb}
 use Rattle.std.specs.List.{list_any}
 use Rattle.std.specs.Bool.{OnTrue}
 use Rattle.std.specs.Prelude.{nat_le}
@@ -33,40 +34,55 @@ use Rattle.cpg_check_heard.proofs.Facts.{facts_told}
 use Rattle.cpg_check_heard.proofs.Sides.{count_within, end_side, side, variable_within}
 use Rattle.cpg_check_heard.proofs.Untolds.{own_told}
 
-module _ (g : Graph) (tables : List NodeTable) (few : process_count g ≤ 128) (rules : AllHold g tables row_rules) (s : Scenario) (law : IsScenario g s) (node time : ℕ) where
+module _ (g : Graph) (tables : List NodeTable) (few : process_count g ≤ 128) (rules : AllHold g tables row_rules)
+    (s : Scenario) (law : IsScenario g s) (node time : ℕ) where
   -- the end tells a bound that the number is within
-  own_bound : (b : LiteralBound) → IsVariable g (variable_of b) → HasEnded g tables node (variable_of b) time → active g s.values (process_of_variable g (variable_of b)) ≡ true
+  own_bound : (b : LiteralBound) → IsVariable g (variable_of b) → HasEnded g tables node (variable_of b) time →
+      active g s.values (process_of_variable g (variable_of b)) ≡ true
       → side b (number_of s (variable_of b)) ≡ true → own_tells g tables node time b s ≡ true
   own_bound b known ended on within =
       let p : ℕ = process_of_variable g (variable_of b) in
       let l : p < process_count g = variable_within g (variable_of b) few known in
-      let d = match_where g tables s law p (omega arith) rules (ap (item_active g s.values) (item_at-start g p l) ∙ on) in
+      let d =
+      match_where g tables s law p (omega arith) rules (ap (item_active g s.values) (item_at-start g p l) ∙ on) in
       let told : is_telling g (End p) time b s d.0 ≡ true = and_from _ _ d.2 (and_from _ _
-      (le-leb (d.0.time + duration g p (number_of s p)) time (ended.ends d.0 (number_of s p) d.1 (count_within g few s law p l)))
+      (le-leb (d.0.time + duration g p (number_of s p)) time
+      (ended.ends d.0 (number_of s p) d.1 (count_within g few s law p l)))
       (end_side g few s law b p known l refl ∙ within)) in
       and_from _ _ (eq-eqb (node_of g p) node ended.home)
-      (ap (λ i. row_tells g (item_telling g p i) time b (columns_of tables p) s) (item_at-start g p l) ∙ list_any_true (is_telling g (End p) time b s) (columns_of tables p) d.0 d.1 told)
+      (ap (λ i. row_tells g (item_telling g p i) time b (columns_of tables p) s) (item_at-start g p l)
+      ∙ list_any_true (is_telling g (End p) time b s) (columns_of tables p) d.0 d.1 told)
 
-  told_bound : (b : LiteralBound) → IsVariable g (variable_of b) → HasEnded g tables node (variable_of b) time → active g s.values (process_of_variable g (variable_of b)) ≡ true
+  told_bound : (b : LiteralBound) → IsVariable g (variable_of b) → HasEnded g tables node (variable_of b) time →
+      active g s.values (process_of_variable g (variable_of b)) ≡ true
       → side b (number_of s (variable_of b)) ≡ true → is_told g tables node time b s ≡ true
-  told_bound b known ended on within = own_told (is_free g.faults b) (own_tells g tables node time b s) (own_tells g tables node time b s) (are_told_by g tables time b (heard_by g node) s)
+  told_bound b known ended on within = own_told (is_free g.faults b) (own_tells g tables node time b s)
+      (own_tells g tables node time b s) (are_told_by g tables time b (heard_by g node) s)
       (list_any (tells b) (facts g tables node s time))
-      refl (facts_told g tables time b s few (variable_within g (variable_of b) few known) node) (own_bound b known ended on within)
+      refl (facts_told g tables time b s few (variable_within g (variable_of b) few known) node)
+      (own_bound b known ended on within)
 
-  pub ended_heard : (l : Literal) → IsVariable g l.variable → HasEnded g tables node l.variable time → active g s.values (process_of_variable g l.variable) ≡ true
+  pub ended_heard : (l : Literal) → IsVariable g l.variable → HasEnded g tables node l.variable time →
+      active g s.values (process_of_variable g l.variable) ≡ true
       → holds s l ≡ true → is_literal_unheard g tables node time s l ≡ false
   ended_heard l known ended on h =
       let parts = and_parts _ _ h in
-      ap not (heard_is g.faults (facts g tables node s time) l ∙ and_from _ _ (told_bound (low_of l) known ended on parts.0) (told_bound (high_of l) known ended on parts.1))
+      ap not (heard_is g.faults (facts g tables node s time) l
+      ∙ and_from _ _ (told_bound (low_of l) known ended on parts.0) (told_bound (high_of l) known ended on parts.1))
 
 -- an execution that starts last, and is the longest, has ended by the time
-pub ended_by : (g : Graph) (tables : List NodeTable) (node v time last longest : ℕ) (result : Bool) → result ≡ nat_le (last + longest) time → node_of g (process_of_variable g v) ≡ node
-    → longest ≡ duration g (process_of_variable g v) g.faults → All (λ (d : Column). d.time ≤ last) (columns_of tables (process_of_variable g v)) → OnTrue result (HasEnded g tables node v time)
+pub ended_by : (g : Graph) (tables : List NodeTable) (node v time last longest : ℕ) (result : Bool) →
+    result ≡ nat_le (last + longest) time →
+    node_of g (process_of_variable g v) ≡ node
+    → longest ≡ duration g (process_of_variable g v) g.faults →
+    All (λ (d : Column). d.time ≤ last) (columns_of tables (process_of_variable g v)) →
+    OnTrue result (HasEnded g tables node v time)
 ended_by g tables node v time last longest false is home most before = tt
 ended_by g tables node v time last longest true is home most before =
     let come = leb-true (last + longest) time (sym is) in
     record {
       home = home;
-      ends = λ c n k l. let start = All-contains (λ (d : Column). d.time ≤ last) (columns_of tables (process_of_variable g v)) c before k in
+      ends = λ c n k l. let start =
+          All-contains (λ (d : Column). d.time ≤ last) (columns_of tables (process_of_variable g v)) c before k in
           let more = duration_grows g (process_of_variable g v) n g.faults l in omega (arith, come, start, more, most);
     }

@@ -1,15 +1,20 @@
 -- What a node is told altogether, row by row.
-use Rattle.std.proofs.Common.{ℕ, ◌+◌, ◌-◌, ◌<◌, ◌≤◌, ◌≡◌, ◌≢◌, ◌==◌, Bool, true, false, cond, ◌&&◌, ◌||◌, List, [], ◌∷◌, ◌++◌, filter, flat_map, Contains, Option, Some, None, arith, refl, sym, ap}
+use Rattle.std.proofs.Common.{ℕ, ◌+◌, ◌-◌, ◌<◌, ◌≤◌, ◌≡◌, ◌≢◌, ◌==◌, Bool, true, false, cond, ◌&&◌, ◌||◌, List, [], ◌∷◌}
+use Rattle.std.proofs.Common.{◌++◌, filter, flat_map, Contains, Option, Some, None, arith, refl, sym, ap}
 use Rattle.std.proofs.Common.{◌∙◌, subst, inl, inr, lt-ltb, le-ltb, true≢false}
 use Rattle.std.specs.Prelude.{nat_le}
 use Rattle.std.specs.List.{list_any}
-use Rattle.std.proofs.lemmas.Bool.{and_from, and_parts, and_right, both_ways, cases_order, ne_eqb, cond-true, cond-false}
+use Rattle.std.proofs.lemmas.Bool.{and_from, and_parts, and_right, both_ways, cases_order, ne_eqb, cond-true}
+use Rattle.std.proofs.lemmas.Bool.{cond-false}
 use Rattle.std.proofs.lemmas.List.Folds.{list_any-append}
-use Rattle.cpg_base.proofs.Lists.{Contains-first, Contains-rest, list_any_false, list_any_true, list_any_parts, Contains-filter, Contains-filter_parts, Contains-numbers, numbers-Contains, same_truth}
+use Rattle.cpg_base.proofs.Lists.{Contains-first, Contains-rest, list_any_false, list_any_true, list_any_parts}
+use Rattle.cpg_base.proofs.Lists.{Contains-filter, Contains-filter_parts, Contains-numbers, numbers-Contains}
+use Rattle.cpg_base.proofs.Lists.{same_truth}
 use Rattle.cpg_base.proofs.Items.{item_at-start}
 use Rattle.cpg_base.specs.Bus.{slot_length}
 use Rattle.cpg_base.specs.Duration.{duration}
-use Rattle.cpg_base.specs.Graph.{Graph, process_count, item_count, item_at, condition_of, process_of, process_of_variable, value_variable, node_of, home, is_heard_by}
+use Rattle.cpg_base.specs.Graph.{Graph, process_count, item_count, item_at, condition_of, process_of}
+use Rattle.cpg_base.specs.Graph.{process_of_variable, value_variable, node_of, home, is_heard_by}
 use Rattle.cpg_base.specs.declared.item.Item.{Item}
 use Rattle.cpg_base.specs.declared.item.Item.TheVariants.{Start, Message, Broadcast}
 use Rattle.cpg_base.specs.Numbers.{numbers_below}
@@ -24,17 +29,21 @@ use Rattle.cpg_violation.proofs.Columnwise.{any_filter}
 use Rattle.cpg_check_heard.specs.declared.bound.LiteralBound.{LiteralBound}
 use Rattle.cpg_check_heard.specs.declared.tellers.Telling.TheVariants.{End, Frame}
 use Rattle.cpg_check_heard.specs.Bounds.{tells, variable_of}
-use Rattle.cpg_check_heard.specs.Tellings.{column_tells, is_telling, row_tells, telling_of, item_telling, carried, is_value, CanTell}
+use Rattle.cpg_check_heard.specs.Tellings.{column_tells, is_telling, row_tells, telling_of, item_telling, carried}
+use Rattle.cpg_check_heard.specs.Tellings.{is_value, CanTell}
 use Rattle.cpg_check_heard.specs.Untold.{item_tells, are_told_by, own_tells}
 use Rattle.cpg_check_heard.proofs.Sides.{side, tells_exactly, value_side}
 
 -- ---- tests of lists that are made of others
 
-any_flat_map : {X Y : Type 0} (test : Y → Bool) (f : X → List Y) (xs : List X) → list_any test (flat_map f xs) ≡ list_any (λ x. list_any test (f x)) xs
+any_flat_map : {X Y : Type 0} (test : Y → Bool) (f : X → List Y) (xs : List X) →
+    list_any test (flat_map f xs) ≡ list_any (λ x. list_any test (f x)) xs
 any_flat_map test f [] = refl
-any_flat_map test f (x ∷ xs) = list_any-append test (f x) (flat_map f xs) ∙ ap (λ t. list_any test (f x) || t) (any_flat_map test f xs)
+any_flat_map test f (x ∷ xs) =
+    list_any-append test (f x) (flat_map f xs) ∙ ap (λ t. list_any test (f x) || t) (any_flat_map test f xs)
 
-any_cond : {X : Type 0} (test : X → Bool) (b : Bool) (xs : List X) → list_any test (cond b xs []) ≡ (b && list_any test xs)
+any_cond : {X : Type 0} (test : X → Bool) (b : Bool) (xs : List X) →
+    list_any test (cond b xs []) ≡ (b && list_any test xs)
 any_cond test true xs = refl
 any_cond test false xs = refl
 
@@ -42,12 +51,15 @@ any_ext : {X : Type 0} (p q : X → Bool) (xs : List X) → ((x : X) → p x ≡
 any_ext p q [] h = refl
 any_ext p q (x ∷ xs) h = ap (λ t. t || list_any p xs) (h x) ∙ ap (λ t. q x || t) (any_ext p q xs h)
 
-any_within : {X : Type 0} (p q : X → Bool) (xs : List X) → ((x : X) → Contains xs x → p x ≡ q x) → list_any p xs ≡ list_any q xs
+any_within : {X : Type 0} (p q : X → Bool) (xs : List X) → ((x : X) → Contains xs x → p x ≡ q x) →
+    list_any p xs ≡ list_any q xs
 any_within p q [] h = refl
-any_within p q (x ∷ xs) h = ap (λ t. t || list_any p xs) (h x (Contains-first x xs)) ∙ ap (λ t. q x || t) (any_within p q xs (λ y c. h y (Contains-rest x xs y c)))
+any_within p q (x ∷ xs) h = ap (λ t. t || list_any p xs) (h x (Contains-first x xs))
+    ∙ ap (λ t. q x || t) (any_within p q xs (λ y c. h y (Contains-rest x xs y c)))
 
 -- where one number alone may pass
-any_one : (f t : ℕ → Bool) (n one : ℕ) → one < n → ((q : ℕ) → q < n → q ≢ one → f q ≡ false) → list_any f (filter t (numbers_below n)) ≡ (t one && f one)
+any_one : (f t : ℕ → Bool) (n one : ℕ) → one < n → ((q : ℕ) → q < n → q ≢ one → f q ≡ false) →
+    list_any f (filter t (numbers_below n)) ≡ (t one && f one)
 any_one f t n one l off = same_truth (list_any f (filter t (numbers_below n))) (t one && f one)
     (λ e. let found = list_any_parts f (filter t (numbers_below n)) e in
     let parts = Contains-filter_parts t (numbers_below n) found.0 found.1 in
@@ -58,7 +70,8 @@ any_one f t n one l off = same_truth (list_any f (filter t (numbers_below n))) (
       | inr (inr above) ↦ absurd (both_ways (f found.0) (off found.0 within (λ e. omega (arith, e, above))) found.2)
     ])
     (λ e. let parts = and_parts (t one) (f one) e in
-    list_any_true f (filter t (numbers_below n)) one (Contains-filter t (numbers_below n) one parts.0 (Contains-numbers n one l)) parts.1)
+    list_any_true f (filter t (numbers_below n)) one
+    (Contains-filter t (numbers_below n) one parts.0 (Contains-numbers n one l)) parts.1)
 
 frame_carried : (s : Scenario) (i : Item) → frame_value s i ≡ value_fact s (carried i)
 frame_carried s (Start p) = refl
@@ -68,19 +81,28 @@ frame_carried s (Broadcast c) = refl
 module _ (g : Graph) (tables : List NodeTable) (time : ℕ) (b : LiteralBound) (s : Scenario) where
   -- ---- a process
 
-  end_row : (p : ℕ) → list_any (tells b) (facts_of_end g tables s time p) ≡ row_tells g (End p) time b (columns_of tables p) s
-  end_row p = any_flat_map (tells b) (λ (c : Column). cond (nat_le (c.time + duration g p (number_of s p)) time) (exactly p (number_of s p) ∷ value_fact s (condition_of g p)) []) (matching tables s p)
-      ∙ any_filter (λ (c : Column). list_any (tells b) (cond (nat_le (c.time + duration g p (number_of s p)) time) (exactly p (number_of s p) ∷ value_fact s (condition_of g p)) []))
+  end_row : (p : ℕ) →
+      list_any (tells b) (facts_of_end g tables s time p) ≡ row_tells g (End p) time b (columns_of tables p) s
+  end_row p = any_flat_map (tells b) (λ (c : Column). cond (nat_le (c.time + duration g p (number_of s p)) time)
+      (exactly p (number_of s p) ∷ value_fact s (condition_of g p)) []) (matching tables s p)
+      ∙ any_filter (λ (c : Column). list_any (tells b) (cond (nat_le (c.time + duration g p (number_of s p)) time)
+      (exactly p (number_of s p) ∷ value_fact s (condition_of g p)) []))
       (λ (c : Column). matches c.cube s) (columns_of tables p)
-      ∙ any_ext (λ (c : Column). matches c.cube s && list_any (tells b) (cond (nat_le (c.time + duration g p (number_of s p)) time) (exactly p (number_of s p) ∷ value_fact s (condition_of g p)) []))
+      ∙ any_ext (λ (c : Column). matches c.cube s && list_any (tells b) (cond (nat_le (c.time
+      + duration g p (number_of s p)) time) (exactly p (number_of s p) ∷ value_fact s (condition_of g p)) []))
       (is_telling g (End p) time b s) (columns_of tables p)
-      (λ (c : Column). ap (λ t. matches c.cube s && t) (any_cond (tells b) (nat_le (c.time + duration g p (number_of s p)) time) (exactly p (number_of s p) ∷ value_fact s (condition_of g p))))
+      (λ (c : Column).
+      ap (λ t. matches c.cube s && t) (any_cond (tells b) (nat_le (c.time + duration g p (number_of s p)) time)
+      (exactly p (number_of s p) ∷ value_fact s (condition_of g p))))
 
-  start_row : (p : ℕ) → p < process_count g → list_any (tells b) (facts_of_end g tables s time p) ≡ item_tells g tables time b s p
-  start_row p l = end_row p ∙ ap (λ i. row_tells g (item_telling g p i) time b (columns_of tables p) s) (sym (item_at-start g p l))
+  start_row : (p : ℕ) → p < process_count g →
+      list_any (tells b) (facts_of_end g tables s time p) ≡ item_tells g tables time b s p
+  start_row p l =
+      end_row p ∙ ap (λ i. row_tells g (item_telling g p i) time b (columns_of tables p) s) (sym (item_at-start g p l))
 
   -- another process tells nothing of the variable
-  other_value : (o : Option ℕ) → ((c : ℕ) → o ≡ Some c → value_variable c ≢ variable_of b) → is_value o (variable_of b) ≡ false
+  other_value : (o : Option ℕ) → ((c : ℕ) → o ≡ Some c → value_variable c ≢ variable_of b) →
+      is_value o (variable_of b) ≡ false
   other_value None h = refl
   other_value (Some c) h = ne_eqb (value_variable c) (variable_of b) (h c refl)
 
@@ -89,20 +111,25 @@ module _ (g : Graph) (tables : List NodeTable) (time : ℕ) (b : LiteralBound) (
   other_end few q l n =
       let v : ℕ = variable_of b in
       ap (λ t. t || list_any (tells b) (value_fact s (condition_of g q))) (tells_exactly b q (number_of s q)
-      ∙ ap (λ t. t && side b (number_of s q)) (ne_eqb q v (λ e. n (e ∙ sym (cond-true _ _ _ (lt-ltb v 128 (omega (arith, e, l, few))))))))
+      ∙ ap (λ t. t && side b (number_of s q))
+      (ne_eqb q v (λ e. n (e ∙ sym (cond-true _ _ _ (lt-ltb v 128 (omega (arith, e, l, few))))))))
       ∙ value_side s b (condition_of g q)
       ∙ ap (λ t. t && side b (number_of s v)) (other_value (condition_of g q)
       (λ c has e. let back : v - 128 ≡ c = omega (arith, e) in
-      n (sym (cond-false _ _ _ (le-ltb v 128 (omega (arith, e))) ∙ ap (process_of g) back ∙ process_of_condition_of g q c has))))
+      n (sym (cond-false _ _ _ (le-ltb v 128 (omega (arith, e))) ∙ ap (process_of g) back
+      ∙ process_of_condition_of g q c has))))
 
-  other_row : process_count g ≤ 128 → (q : ℕ) → q < process_count g → q ≢ process_of_variable g (variable_of b) → list_any (tells b) (facts_of_end g tables s time q) ≡ false
+  other_row : process_count g ≤ 128 → (q : ℕ) → q < process_count g → q ≢ process_of_variable g (variable_of b) →
+      list_any (tells b) (facts_of_end g tables s time q) ≡ false
   other_row few q l n = end_row q ∙ list_any_false (is_telling g (End q) time b s) (columns_of tables q)
       (λ c _. and_right (matches c.cube s) (column_tells g (End q) time b s c)
-      (and_right (nat_le (c.time + duration g q (number_of s q)) time) (list_any (tells b) (exactly q (number_of s q) ∷ value_fact s (condition_of g q))) (other_end few q l n)))
+      (and_right (nat_le (c.time + duration g q (number_of s q)) time)
+      (list_any (tells b) (exactly q (number_of s q) ∷ value_fact s (condition_of g q))) (other_end few q l n)))
 
   -- ---- what a node hears
 
-  framed : (x node : ℕ) → is_heard_by g node (item_at g x) ≡ true → telling_of g x ≡ Frame (slot_length g (home g x)) (carried (item_at g x))
+  framed : (x node : ℕ) → is_heard_by g node (item_at g x) ≡ true →
+      telling_of g x ≡ Frame (slot_length g (home g x)) (carried (item_at g x))
   framed x node h = go (item_at g x) h
     where
       go : (i : Item) → is_heard_by g node i ≡ true → item_telling g x i ≡ Frame (slot_length g (home g x)) (carried i)
@@ -110,32 +137,43 @@ module _ (g : Graph) (tables : List NodeTable) (time : ℕ) (b : LiteralBound) (
       go (Message e) h = refl
       go (Broadcast c) h = refl
 
-  frame_row : (x node : ℕ) → is_heard_by g node (item_at g x) ≡ true → list_any (tells b) (facts_of_frame g tables s time x) ≡ item_tells g tables time b s x
-  frame_row x node h = any_flat_map (tells b) (λ (c : Column). cond (nat_le (c.time + slot_length g (home g x)) time) (c.cube ++ frame_value s (item_at g x)) []) (matching tables s x)
-      ∙ any_filter (λ (c : Column). list_any (tells b) (cond (nat_le (c.time + slot_length g (home g x)) time) (c.cube ++ frame_value s (item_at g x)) [])) (λ (c : Column). matches c.cube s)
+  frame_row : (x node : ℕ) → is_heard_by g node (item_at g x) ≡ true →
+      list_any (tells b) (facts_of_frame g tables s time x) ≡ item_tells g tables time b s x
+  frame_row x node h = any_flat_map (tells b) (λ (c : Column). cond (nat_le (c.time + slot_length g (home g x)) time)
+      (c.cube ++ frame_value s (item_at g x)) []) (matching tables s x)
+      ∙ any_filter (λ (c : Column). list_any (tells b) (cond (nat_le (c.time + slot_length g (home g x)) time)
+      (c.cube ++ frame_value s (item_at g x)) [])) (λ (c : Column). matches c.cube s)
       (columns_of tables x)
-      ∙ any_ext (λ (c : Column). matches c.cube s && list_any (tells b) (cond (nat_le (c.time + slot_length g (home g x)) time) (c.cube ++ frame_value s (item_at g x)) []))
+      ∙ any_ext (λ (c : Column). matches c.cube s && list_any (tells b)
+      (cond (nat_le (c.time + slot_length g (home g x)) time) (c.cube ++ frame_value s (item_at g x)) []))
       (is_telling g (Frame (slot_length g (home g x)) (carried (item_at g x))) time b s) (columns_of tables x)
-      (λ (c : Column). ap (λ t. matches c.cube s && t) (any_cond (tells b) (nat_le (c.time + slot_length g (home g x)) time) (c.cube ++ frame_value s (item_at g x))
-      ∙ ap (λ v. nat_le (c.time + slot_length g (home g x)) time && list_any (tells b) (c.cube ++ v)) (frame_carried s (item_at g x))))
+      (λ (c : Column). ap (λ t. matches c.cube s && t)
+      (any_cond (tells b) (nat_le (c.time + slot_length g (home g x)) time) (c.cube ++ frame_value s (item_at g x))
+      ∙ ap (λ v. nat_le (c.time + slot_length g (home g x)) time && list_any (tells b) (c.cube ++ v))
+      (frame_carried s (item_at g x))))
       ∙ ap (λ t. row_tells g t time b (columns_of tables x) s) (sym (framed x node h))
 
   -- ---- altogether
 
   pub facts_told : process_count g ≤ 128 → process_of_variable g (variable_of b) < process_count g → (node : ℕ)
-      → list_any (tells b) (facts g tables node s time) ≡ (own_tells g tables node time b s || are_told_by g tables time b (heard_by g node) s)
+      → list_any (tells b) (facts g tables node s time)
+      ≡ (own_tells g tables node time b s || are_told_by g tables time b (heard_by g node) s)
   facts_told few within node =
       let one : ℕ = process_of_variable g (variable_of b) in
       let own : List ℕ = filter (λ p. node_of g p == node) (numbers_below (process_count g)) in
-      list_any-append (tells b) (flat_map (facts_of_end g tables s time) own) (flat_map (facts_of_frame g tables s time) (heard_by g node))
+      list_any-append (tells b) (flat_map (facts_of_end g tables s time) own)
+      (flat_map (facts_of_frame g tables s time) (heard_by g node))
       ∙ ap (λ t. t || list_any (tells b) (flat_map (facts_of_frame g tables s time) (heard_by g node)))
       (any_flat_map (tells b) (facts_of_end g tables s time) own
-      ∙ any_one (λ p. list_any (tells b) (facts_of_end g tables s time p)) (λ p. node_of g p == node) (process_count g) one within (λ q l n. other_row few q l n)
+      ∙ any_one (λ p. list_any (tells b) (facts_of_end g tables s time p)) (λ p. node_of g p == node)
+      (process_count g) one within (λ q l n. other_row few q l n)
       ∙ ap (λ t. (node_of g one == node) && t) (start_row one within))
       ∙ ap (λ t. own_tells g tables node time b s || t)
       (any_flat_map (tells b) (facts_of_frame g tables s time) (heard_by g node)
-      ∙ any_within (λ x. list_any (tells b) (facts_of_frame g tables s time x)) (item_tells g tables time b s) (heard_by g node)
-      (λ x c. frame_row x node (Contains-filter_parts (λ x. is_heard_by g node (item_at g x)) (numbers_below (item_count g)) x c).1))
+      ∙ any_within (λ x. list_any (tells b) (facts_of_frame g tables s time x)) (item_tells g tables time b s)
+      (heard_by g node)
+      (λ x c. frame_row x node
+      (Contains-filter_parts (λ x. is_heard_by g node (item_at g x)) (numbers_below (item_count g)) x c).1))
 
   -- what is heard can tell
   pub heard_can : (x node : ℕ) → is_heard_by g node (item_at g x) ≡ true → CanTell g b (telling_of g x)

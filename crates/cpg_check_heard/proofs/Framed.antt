@@ -1,5 +1,6 @@
 -- Bounds that the frames of a row tell are told.
-use Rattle.std.proofs.Common.{ℕ, ◌+◌, ◌<◌, ◌≤◌, ◌≡◌, Bool, true, false, not, ◌||◌, List, [], ◌∷◌, ◌++◌, get_or, length, take, Contains, sym, ap, ◌∙◌}
+use Rattle.std.proofs.Common.{ℕ, ◌+◌, ◌<◌, ◌≤◌, ◌≡◌, Bool, true, false, not, ◌||◌, List, [], ◌∷◌, ◌++◌, get_or, length}
+use Rattle.std.proofs.Common.{take, Contains, sym, ap, ◌∙◌}
 use Rattle.std.specs.List.{list_any}
 use Rattle.std.proofs.Math.Bool.{or-false}
 use Rattle.std.proofs.lemmas.Bool.{or_right}
@@ -19,24 +20,34 @@ use Rattle.cpg_check_heard.proofs.Untolds.{told_heard}
 
 -- what a node hears is an item
 pub heard_below : (g : Graph) (node x : ℕ) → Contains (heard_by g node) x → x < item_count g
-heard_below g node x among = numbers-Contains (item_count g) x (Contains-filter_parts (λ y. is_heard_by g node (item_at g y)) (numbers_below (item_count g)) x among).0
+heard_below g node x among = numbers-Contains (item_count g) x
+    (Contains-filter_parts (λ y. is_heard_by g node (item_at g y)) (numbers_below (item_count g)) x among).0
 
 -- what one row that a node hears tells is told
-pub frame_told : (g : Graph) (tables : List NodeTable) (time : ℕ) (b : LiteralBound) (s : Scenario) → process_count g ≤ 128 → process_of_variable g (variable_of b) < process_count g
-    → (node x : ℕ) → Contains (heard_by g node) x → are_told_by g tables time b (x ∷ []) s ≡ true → not (is_told g tables node time b s) ≡ false
+pub frame_told : (g : Graph) (tables : List NodeTable) (time : ℕ) (b : LiteralBound) (s : Scenario) →
+    process_count g ≤ 128 →
+    process_of_variable g (variable_of b) < process_count g
+    → (node x : ℕ) → Contains (heard_by g node) x → are_told_by g tables time b (x ∷ []) s ≡ true →
+    not (is_told g tables node time b s) ≡ false
 frame_told g tables time b s few within node x among told =
     let one : item_tells g tables time b s x ≡ true = sym (or-false (item_tells g tables time b s x)) ∙ told in
-    let all : are_told_by g tables time b (heard_by g node) s ≡ true = list_any_true (item_tells g tables time b s) (heard_by g node) x among one in
+    let all : are_told_by g tables time b (heard_by g node) s ≡ true =
+    list_any_true (item_tells g tables time b s) (heard_by g node) x among one in
     ap not (or_right (is_free g.faults b) (list_any (tells b) (facts g tables node s time))
-    (told_heard (own_tells g tables node time b s) (are_told_by g tables time b (heard_by g node) s) (list_any (tells b) (facts g tables node s time))
+    (told_heard (own_tells g tables node time b s) (are_told_by g tables time b (heard_by g node) s)
+    (list_any (tells b) (facts g tables node s time))
     (facts_told g tables time b s few within node) all))
 
-module _ {X : Type 0} (test : X → Bool) (xs : List X) (i : ℕ) (d : X) (l : i < length xs) (ys : List X) (is : list_any test ys ≡ list_any test (take i xs)) where
+module _ {X : Type 0} (test : X → Bool) (xs : List X) (i : ℕ) (d : X) (l : i < length xs) (ys : List X)
+    (is : list_any test ys ≡ list_any test (take i xs)) where
   -- one element more that is kept
-  pub kept_more : (more : List X) → more ≡ ys ++ get_or xs i d ∷ [] → list_any test more ≡ list_any test (take (i + 1) xs)
-  kept_more more e = ap (list_any test) e ∙ list_any-append test ys (get_or xs i d ∷ []) ∙ ap (λ t. list_any test ys || t) (or-false (test (get_or xs i d))) ∙ ap (λ t. t || test (get_or xs i d)) is ∙
+  pub kept_more : (more : List X) → more ≡ ys ++ get_or xs i d ∷ [] →
+      list_any test more ≡ list_any test (take (i + 1) xs)
+  kept_more more e = ap (list_any test) e ∙ list_any-append test ys (get_or xs i d ∷ [])
+      ∙ ap (λ t. list_any test ys || t) (or-false (test (get_or xs i d))) ∙ ap (λ t. t || test (get_or xs i d)) is ∙
       sym (list_any_more test xs i d l)
 
   -- one that is left out, since it fails
   pub left_more : test (get_or xs i d) ≡ false → list_any test ys ≡ list_any test (take (i + 1) xs)
-  left_more off = is ∙ sym (or-false (list_any test (take i xs))) ∙ ap (λ t. list_any test (take i xs) || t) (sym off) ∙ sym (list_any_more test xs i d l)
+  left_more off = is ∙ sym (or-false (list_any test (take i xs))) ∙ ap (λ t. list_any test (take i xs) || t) (sym off)
+      ∙ sym (list_any_more test xs i d l)

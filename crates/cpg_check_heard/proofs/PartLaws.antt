@@ -1,5 +1,6 @@
 -- The parts of cubes in which an end or a frame tells a bound.
-use Rattle.std.proofs.Common.{ℕ, zero, suc, ◌+◌, ◌-◌, ◌<◌, ◌≤◌, ◌≡◌, Bool, true, false, true≢false, ◌&&◌, ◌||◌, List, [], ◌∷◌, ◌++◌, get_or, length, take, Contains, All, Option, Some, None, arith}
+use Rattle.std.proofs.Common.{ℕ, zero, suc, ◌+◌, ◌-◌, ◌<◌, ◌≤◌, ◌≡◌, Bool, true, false, true≢false, ◌&&◌, ◌||◌, List}
+use Rattle.std.proofs.Common.{[], ◌∷◌, ◌++◌, get_or, length, take, Contains, All, Option, Some, None, arith}
 use Rattle.std.proofs.Common.{refl, sym, ap, ◌∙◌, subst, le-ltb}
 use Rattle.std.specs.Prelude.{nat_le, nat_lt, IfSome, IfNone, option_to_list}
 use Rattle.std.specs.List.{list_any}
@@ -25,22 +26,27 @@ use Rattle.cpg_check_heard.specs.declared.bound.LiteralBound.TheVariants.{Low, H
 use Rattle.cpg_check_heard.specs.declared.tellers.Telling.{Telling}
 use Rattle.cpg_check_heard.specs.declared.tellers.Telling.TheVariants.{End, Frame}
 use Rattle.cpg_check_heard.specs.Bounds.{tells, range_of, variable_of}
-use Rattle.cpg_check_heard.specs.Tellings.{CanTell, IsPart, is_telling, is_telling_at, is_value, column_tells, row_tells}
+use Rattle.cpg_check_heard.specs.Tellings.{CanTell, IsPart, is_telling, is_telling_at, is_value, column_tells}
+use Rattle.cpg_check_heard.specs.Tellings.{row_tells}
 use Rattle.cpg_check_heard.proofs.Sides.{side, range_holds, end_side, value_side, count_within, come_holds}
 
 -- ---- parts
 
-pub part_same : (g : Graph) (p q : Scenario → Bool) (o : Option (List Literal)) → ((s : Scenario) → IsScenario g s → p s ≡ q s) → IsPart g p o → IsPart g q o
+pub part_same : (g : Graph) (p q : Scenario → Bool) (o : Option (List Literal)) →
+    ((s : Scenario) → IsScenario g s → p s ≡ q s) → IsPart g p o → IsPart g q o
 part_same g p q None h f = λ s i. sym (h s i) ∙ f s i
 part_same g p q (Some cube) h f = λ s i. f s i ∙ h s i
 
 pub part_with : (g : Graph) (l : Literal) (base : List Literal) (o : Option (List Literal))
-    → IfSome o (λ cube. (s : Scenario) → matches cube s ≡ (holds s l && matches base s)) → IfNone o ((s : Scenario) → (holds s l && matches base s) ≡ false) →
+    → IfSome o (λ cube. (s : Scenario) → matches cube s ≡ (holds s l && matches base s)) →
+    IfNone o ((s : Scenario) → (holds s l && matches base s) ≡ false) →
     IsPart g (λ s. holds s l && matches base s) o
 part_with g l base None some none = λ s i. none s
 part_with g l base (Some cube) some none = λ s i. some s
 
-pub known_with : (g : Graph) (l : Literal) (base : List Literal) (o : Option (List Literal)) → o ≡ with_literal l base → IsVariable g l.variable → IsKnown g base → IfSome o (IsKnown g)
+pub known_with : (g : Graph) (l : Literal) (base : List Literal) (o : Option (List Literal)) → o ≡ with_literal l base →
+    IsVariable g l.variable → IsKnown g base →
+    IfSome o (IsKnown g)
 known_with g l base None e v k = tt
 known_with g l base (Some cube) e v k = subst (IsKnown g) (with-is l base cube (sym e)) (known-narrowed g l base v k)
 
@@ -61,68 +67,100 @@ off_both true true r e = absurd (true≢false e)
 off_both true false r e = refl
 off_both false h r e = refl
 
-module _ (g : Graph) (few : process_count g ≤ 128) (p : ℕ) (c : Column) (time : ℕ) (b : LiteralBound) (can : CanTell g b (End p)) (known : IsVariable g (variable_of b))
+module _ (g : Graph) (few : process_count g ≤ 128) (p : ℕ) (c : Column) (time : ℕ) (b : LiteralBound)
+    (can : CanTell g b (End p)) (known : IsVariable g (variable_of b))
     (counts : ℕ) (come : (n : ℕ) → n ≤ g.faults → nat_le (c.time + duration g p n) time ≡ nat_lt n counts) where
   -- an end tells if the count is below a number and the variable is within the bound
-  end_is : (s : Scenario) → IsScenario g s → column_tells g (End p) time b s c ≡ (nat_lt (number_of s p) counts && holds s (range_of g.faults b))
-  end_is s i = ap (λ t. t && list_any (tells b) (exactly p (number_of s p) ∷ value_fact s (condition_of g p))) (come (number_of s p) (count_within g few s i p can.0))
-      ∙ ap (λ t. nat_lt (number_of s p) counts && t) (end_side g few s i b p known can.0 can.1 ∙ sym (range_holds g few s i b known))
+  end_is : (s : Scenario) → IsScenario g s →
+      column_tells g (End p) time b s c ≡ (nat_lt (number_of s p) counts && holds s (range_of g.faults b))
+  end_is s i = ap (λ t. t && list_any (tells b) (exactly p (number_of s p) ∷ value_fact s (condition_of g p)))
+      (come (number_of s p) (count_within g few s i p can.0))
+      ∙ ap (λ t. nat_lt (number_of s p) counts && t)
+      (end_side g few s i b p known can.0 can.1 ∙ sym (range_holds g few s i b known))
 
   pub end_none : counts ≡ 0 → (s : Scenario) → IsScenario g s → is_telling g (End p) time b s c ≡ false
   end_none e s i = and_right (matches c.cube s) (column_tells g (End p) time b s c)
-      (end_is s i ∙ ap (λ n. nat_lt (number_of s p) n && holds s (range_of g.faults b)) e ∙ ap (λ t. t && holds s (range_of g.faults b)) (le-ltb (number_of s p) 0 (omega arith)))
+      (end_is s i ∙ ap (λ n. nat_lt (number_of s p) n && holds s (range_of g.faults b)) e
+      ∙ ap (λ t. t && holds s (range_of g.faults b)) (le-ltb (number_of s p) 0 (omega arith)))
 
   module _ (some : 0 < counts) where
-    come_is : (s : Scenario) → holds s (record { variable = p; low = 0; high = counts - 1 }) ≡ nat_lt (number_of s p) counts
+    come_is : (s : Scenario) →
+        holds s (record { variable = p; low = 0; high = counts - 1 }) ≡ nat_lt (number_of s p) counts
     come_is s = come_holds (number_of s p) counts some
 
-    pub end_apart : ((s : Scenario) → (holds s (record { variable = p; low = 0; high = counts - 1 }) && matches c.cube s) ≡ false) → (s : Scenario) → IsScenario g s →
+    pub end_apart : ((s : Scenario) →
+        (holds s (record { variable = p; low = 0; high = counts - 1 }) && matches c.cube s) ≡ false) → (s : Scenario) →
+        IsScenario g s →
         is_telling g (End p) time b s c ≡ false
     end_apart off s i = ap (λ t. matches c.cube s && t) (end_is s i)
-        ∙ off_both (matches c.cube s) (nat_lt (number_of s p) counts) (holds s (range_of g.faults b)) (ap (λ t. t && matches c.cube s) (sym (come_is s)) ∙ off s)
+        ∙ off_both (matches c.cube s) (nat_lt (number_of s p) counts) (holds s (range_of g.faults b))
+        (ap (λ t. t && matches c.cube s) (sym (come_is s)) ∙ off s)
 
-    pub end_told : (part : List Literal) (o : Option (List Literal)) → ((s : Scenario) → matches part s ≡ (holds s (record { variable = p; low = 0; high = counts - 1 }) && matches c.cube s))
-        → IsPart g (λ s. holds s (range_of g.faults b) && matches part s) o → IsPart g (λ s. is_telling g (End p) time b s c) o
-    end_told part o is f = part_same g (λ s. holds s (range_of g.faults b) && matches part s) (λ s. is_telling g (End p) time b s c) o
+    pub end_told : (part : List Literal) (o : Option (List Literal)) →
+        ((s : Scenario) →
+        matches part s ≡ (holds s (record { variable = p; low = 0; high = counts - 1 }) && matches c.cube s))
+        → IsPart g (λ s. holds s (range_of g.faults b) && matches part s) o →
+        IsPart g (λ s. is_telling g (End p) time b s c) o
+    end_told part o is f =
+        part_same g (λ s. holds s (range_of g.faults b) && matches part s) (λ s. is_telling g (End p) time b s c) o
         (λ s i. ap (λ t. holds s (range_of g.faults b) && t) (is s ∙ ap (λ h. h && matches c.cube s) (come_is s))
         ∙ turned (nat_lt (number_of s p) counts) (holds s (range_of g.faults b)) (matches c.cube s)
         ∙ ap (λ t. matches c.cube s && t) (sym (end_is s i))) f
 
 -- ---- of frames
 
-module _ (g : Graph) (few : process_count g ≤ 128) (delay : ℕ) (o : Option ℕ) (c : Column) (time : ℕ) (b : LiteralBound) (known : IsVariable g (variable_of b)) where
+module _ (g : Graph) (few : process_count g ≤ 128) (delay : ℕ) (o : Option ℕ) (c : Column) (time : ℕ) (b : LiteralBound)
+    (known : IsVariable g (variable_of b)) where
   frame_is : (s : Scenario) → nat_le (c.time + delay) time ≡ true → column_tells g (Frame delay o) time b s c ≡
       (list_any (tells b) c.cube || (is_value o (variable_of b) && side b (number_of s (variable_of b))))
-  frame_is s e = ap (λ t. t && list_any (tells b) (c.cube ++ value_fact s o)) e ∙ list_any-append (tells b) c.cube (value_fact s o) ∙ ap (λ t. list_any (tells b) c.cube || t) (value_side s b o)
+  frame_is s e = ap (λ t. t && list_any (tells b) (c.cube ++ value_fact s o)) e
+      ∙ list_any-append (tells b) c.cube (value_fact s o) ∙ ap (λ t. list_any (tells b) c.cube || t) (value_side s b o)
 
-  pub frame_late : nat_le (c.time + delay) time ≡ false → (s : Scenario) → IsScenario g s → is_telling g (Frame delay o) time b s c ≡ false
-  frame_late e s i = and_right (matches c.cube s) (column_tells g (Frame delay o) time b s c) (ap (λ t. t && list_any (tells b) (c.cube ++ value_fact s o)) e)
+  pub frame_late : nat_le (c.time + delay) time ≡ false → (s : Scenario) → IsScenario g s →
+      is_telling g (Frame delay o) time b s c ≡ false
+  frame_late e s i = and_right (matches c.cube s) (column_tells g (Frame delay o) time b s c)
+      (ap (λ t. t && list_any (tells b) (c.cube ++ value_fact s o)) e)
 
   module _ (come : nat_le (c.time + delay) time ≡ true) where
-    pub frame_whole : list_any (tells b) c.cube ≡ true → (cube : List Literal) → cube ≡ c.cube → IsPart g (λ s. is_telling g (Frame delay o) time b s c) (Some cube)
+    pub frame_whole : list_any (tells b) c.cube ≡ true → (cube : List Literal) → cube ≡ c.cube →
+        IsPart g (λ s. is_telling g (Frame delay o) time b s c) (Some cube)
     frame_whole told cube e = λ s i. ap (λ (d : List Literal). matches d s) e ∙ with_true (matches c.cube s) true refl
-        ∙ ap (λ t. matches c.cube s && t) (sym (frame_is s come ∙ ap (λ t. t || (is_value o (variable_of b) && side b (number_of s (variable_of b)))) told))
+        ∙ ap (λ t. matches c.cube s && t) (sym (frame_is s come
+        ∙ ap (λ t. t || (is_value o (variable_of b) && side b (number_of s (variable_of b)))) told))
 
-    pub frame_none : list_any (tells b) c.cube ≡ false → is_value o (variable_of b) ≡ false → (s : Scenario) → IsScenario g s → is_telling g (Frame delay o) time b s c ≡ false
+    pub frame_none : list_any (tells b) c.cube ≡ false → is_value o (variable_of b) ≡ false → (s : Scenario) →
+        IsScenario g s →
+        is_telling g (Frame delay o) time b s c ≡ false
     frame_none off none s i = and_right (matches c.cube s) (column_tells g (Frame delay o) time b s c)
-        (frame_is s come ∙ ap (λ t. t || (is_value o (variable_of b) && side b (number_of s (variable_of b)))) off ∙ ap (λ t. t && side b (number_of s (variable_of b))) none)
+        (frame_is s come ∙ ap (λ t. t || (is_value o (variable_of b) && side b (number_of s (variable_of b)))) off
+        ∙ ap (λ t. t && side b (number_of s (variable_of b))) none)
 
-    pub frame_value : list_any (tells b) c.cube ≡ false → is_value o (variable_of b) ≡ true → (r : Option (List Literal)) → IsPart g (λ s. holds s (range_of g.faults b) && matches c.cube s) r
+    pub frame_value : list_any (tells b) c.cube ≡ false → is_value o (variable_of b) ≡ true →
+        (r : Option (List Literal)) →
+        IsPart g (λ s. holds s (range_of g.faults b) && matches c.cube s) r
         → IsPart g (λ s. is_telling g (Frame delay o) time b s c) r
-    frame_value off value r f = part_same g (λ s. holds s (range_of g.faults b) && matches c.cube s) (λ s. is_telling g (Frame delay o) time b s c) r
-        (λ s i. ap (λ t. t && matches c.cube s) (range_holds g few s i b known) ∙ and_comm (side b (number_of s (variable_of b))) (matches c.cube s)
-        ∙ ap (λ t. matches c.cube s && t) (sym (frame_is s come ∙ ap (λ t. t || (is_value o (variable_of b) && side b (number_of s (variable_of b)))) off ∙
+    frame_value off value r f = part_same g (λ s. holds s (range_of g.faults b) && matches c.cube s)
+        (λ s. is_telling g (Frame delay o) time b s c) r
+        (λ s i. ap (λ t. t && matches c.cube s) (range_holds g few s i b known)
+        ∙ and_comm (side b (number_of s (variable_of b))) (matches c.cube s)
+        ∙ ap (λ t. matches c.cube s && t) (sym (frame_is s come
+        ∙ ap (λ t. t || (is_value o (variable_of b) && side b (number_of s (variable_of b)))) off ∙
         ap (λ t. t && side b (number_of s (variable_of b))) value))) f
 
 -- ---- what is told by a list of parts
 
 module _ (g : Graph) (test : Scenario → Bool) where
-  pub told_add : (told : List (List Literal)) (o : Option (List Literal)) → IsPart g test o → (s : Scenario) → IsScenario g s
+  pub told_add : (told : List (List Literal)) (o : Option (List Literal)) → IsPart g test o → (s : Scenario) →
+      IsScenario g s
       → list_any (λ b. matches b s) (told ++ option_to_list o) ≡ (list_any (λ b. matches b s) told || test s)
-  told_add told None f s i = list_any-append (λ b. matches b s) told [] ∙ ap (λ t. list_any (λ b. matches b s) told || t) (sym (f s i))
-  told_add told (Some cube) f s i = list_any-append (λ b. matches b s) told (cube ∷ []) ∙ ap (λ t. list_any (λ b. matches b s) told || t) (or-false (matches cube s) ∙ f s i)
+  told_add told None f s i =
+      list_any-append (λ b. matches b s) told [] ∙ ap (λ t. list_any (λ b. matches b s) told || t) (sym (f s i))
+  told_add told (Some cube) f s i = list_any-append (λ b. matches b s) told (cube ∷ [])
+      ∙ ap (λ t. list_any (λ b. matches b s) told || t) (or-false (matches cube s) ∙ f s i)
 
-pub known_add : (g : Graph) (told : List (List Literal)) (o : Option (List Literal)) → All (IsKnown g) told → IfSome o (IsKnown g) → All (IsKnown g) (told ++ option_to_list o)
+pub known_add : (g : Graph) (told : List (List Literal)) (o : Option (List Literal)) → All (IsKnown g) told →
+    IfSome o (IsKnown g) →
+    All (IsKnown g) (told ++ option_to_list o)
 known_add g told None h k = All-append (IsKnown g) told [] h (λ j d l. absurd (omega arith))
 known_add g told (Some cube) h k = All-append (IsKnown g) told (cube ∷ []) h (λ j d l. one j d l)
   where
@@ -131,14 +169,19 @@ known_add g told (Some cube) h k = All-append (IsKnown g) told (cube ∷ []) h (
     one (suc j) d l = absurd (omega arith)
 
 -- one place more of a row, one item or one column
-pub row_more : {X : Type 0} (test : X → Bool) (places : List X) (i : ℕ) (d : X) → i < length places → (a r n : Bool) → r ≡ (a || list_any test (take i places)) → n ≡ (r || test (get_or places i d)) →
+pub row_more : {X : Type 0} (test : X → Bool) (places : List X) (i : ℕ) (d : X) → i < length places → (a r n : Bool) →
+    r ≡ (a || list_any test (take i places)) →
+    n ≡ (r || test (get_or places i d)) →
     n ≡ (a || list_any test (take (i + 1) places))
-row_more test places i d h a r n e f = f ∙ ap (λ t. t || test (get_or places i d)) e ∙ or_assoc a (list_any test (take i places)) (test (get_or places i d)) ∙
+row_more test places i d h a r n e f = f ∙ ap (λ t. t || test (get_or places i d)) e
+    ∙ or_assoc a (list_any test (take i places)) (test (get_or places i d)) ∙
     ap (λ t. a || t) (sym (list_any_more test places i d h))
 
 -- a row's places among which each column is that matches together with a cube tell what the row does
-pub row_all : (g : Graph) (telling : Telling) (time : ℕ) (b : LiteralBound) (columns : List Column) (places : List ℕ) (s : Scenario)
+pub row_all : (g : Graph) (telling : Telling) (time : ℕ) (b : LiteralBound) (columns : List Column)
+    (places : List ℕ) (s : Scenario)
     → ((i : ℕ) → i < length columns → matches (column_at columns i).cube s ≡ true → Contains places i)
     → list_any (is_telling_at g telling time b columns s) places ≡ row_tells g telling time b columns s
 row_all g telling time b columns places s among = sym (any_at (is_telling g telling time b s) columns places
-    (λ i l t. among i l (and_parts (matches (column_at columns i).cube s) (column_tells g telling time b s (column_at columns i)) t).0))
+    (λ i l t. among i l
+    (and_parts (matches (column_at columns i).cube s) (column_tells g telling time b s (column_at columns i)) t).0))

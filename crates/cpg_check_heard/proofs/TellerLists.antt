@@ -1,5 +1,6 @@
 -- The rows of all items, one after another.
-use Rattle.std.proofs.Common.{ℕ, zero, suc, ◌+◌, ◌<◌, ◌≡◌, List, [], ◌∷◌, ◌++◌, get_or, length, Some, arith, refl, sym, ap, ◌∙◌, subst, inl, inr, length-append}
+use Rattle.std.proofs.Common.{ℕ, zero, suc, ◌+◌, ◌<◌, ◌≡◌, List, [], ◌∷◌, ◌++◌, get_or, length, Some, arith, refl, sym}
+use Rattle.std.proofs.Common.{ap, ◌∙◌, subst, inl, inr, length-append}
 use Rattle.std.specs.Prelude.{slice_get}
 use Rattle.std.proofs.lemmas.Bool.{cases_lt}
 use Rattle.std.proofs.lemmas.Option.{same_Some, slice_get-get_or, slice_get_within}
@@ -21,7 +22,9 @@ module _ (g : Graph) (tables : List NodeTable) where
   pub tellers_none : AreTellers g tables 0 []
   tellers_none = record { count = refl; each = λ x t e. absurd (omega (arith, slice_get_within [] x t e)) }
 
-  tellers_push : (items : ℕ) (ts : List Teller) (t : Teller) → AreTellers g tables items ts → IsTeller g tables items t → AreTellers g tables (items + 1) (ts ++ t ∷ [])
+  tellers_push : (items : ℕ) (ts : List Teller) (t : Teller) → AreTellers g tables items ts →
+      IsTeller g tables items t →
+      AreTellers g tables (items + 1) (ts ++ t ∷ [])
   tellers_push items ts t are is = record {
     count = omega (arith, are.count, length-append ts (t ∷ []));
     each = λ x u e. elim (cases_lt x (length ts)) [
@@ -29,13 +32,21 @@ module _ (g : Graph) (tables : List NodeTable) where
       | inr l ↦
           let within = slice_get_within (ts ++ t ∷ []) x u e in
           let last : length ts ≡ x = omega (arith, within, length-append ts (t ∷ [])) in
-          let same : t ≡ u = same_Some t u (sym (get_last ts t) ∙ subst (λ i. slice_get (ts ++ t ∷ []) i ≡ Some u) (sym last) e) in
-          subst (IsTeller g tables x) same (subst (λ y. IsTeller g tables y t) (let n : items ≡ x = omega (arith, are.count, last) in n) is)
+          let same : t ≡ u =
+          same_Some t u (sym (get_last ts t) ∙ subst (λ i. slice_get (ts ++ t ∷ []) i ≡ Some u) (sym last) e) in
+          subst (IsTeller g tables x) same
+          (subst (λ y. IsTeller g tables y t) (let n : items ≡ x = omega (arith, are.count, last) in n) is)
     ];
   }
 
-  pub tellers_more : (items : ℕ) (ts more : List Teller) (t : Teller) → more ≡ ts ++ t ∷ [] → AreTellers g tables items ts → IsTeller g tables items t → AreTellers g tables (items + 1) more
-  tellers_more items ts more t e are is = subst (AreTellers g tables (items + 1)) (sym e) (tellers_push items ts t are is)
+  pub tellers_more : (items : ℕ) (ts more : List Teller) (t : Teller) → more ≡ ts ++ t ∷ [] →
+      AreTellers g tables items ts → IsTeller g tables items t →
+      AreTellers g tables (items + 1) more
+  tellers_more items ts more t e are is =
+      subst (AreTellers g tables (items + 1)) (sym e) (tellers_push items ts t are is)
 
-  pub teller_at : (items : ℕ) (ts : List Teller) (x : ℕ) (t : Teller) → AreTellers g tables items ts → x < items → t ≡ get_or ts x t → IsTeller g tables x t
-  teller_at items ts x t are l is = are.each x t (slice_get-get_or ts x t (omega (arith, l, are.count)) ∙ ap Some (sym is))
+  pub teller_at : (items : ℕ) (ts : List Teller) (x : ℕ) (t : Teller) → AreTellers g tables items ts → x < items →
+      t ≡ get_or ts x t →
+      IsTeller g tables x t
+  teller_at items ts x t are l is =
+      are.each x t (slice_get-get_or ts x t (omega (arith, l, are.count)) ∙ ap Some (sym is))

@@ -15,34 +15,45 @@ use Rattle.cpg_violation.proofs.Tests.{off_where, same_where}
 
 module _ (g : Graph) (order : List ℕ) (cube : List Literal) (told : List (List Literal)) where
   -- what covers answers is what is left first
-  pub first_left : (o : Option Scenario) → IfNone o ((s : Scenario) → IsScenario g s → matches cube s ≡ true → list_any (λ b. matches b s) told ≡ true)
-      → IfSome o (IsLeast g order (λ s. IsTrue (matches cube s && not (list_any (λ b. matches b s) told)))) → IsFirst g order (is_left told cube) o
-  first_left None none some = λ s i. off_where (matches cube s) (not (list_any (λ b. matches b s) told)) (λ m. ap not (none s i m))
+  pub first_left : (o : Option Scenario) →
+      IfNone o ((s : Scenario) → IsScenario g s → matches cube s ≡ true → list_any (λ b. matches b s) told ≡ true)
+      → IfSome o (IsLeast g order (λ s. IsTrue (matches cube s && not (list_any (λ b. matches b s) told)))) →
+      IsFirst g order (is_left told cube) o
+  first_left None none some =
+      λ s i. off_where (matches cube s) (not (list_any (λ b. matches b s) told)) (λ m. ap not (none s i m))
   first_left (Some s) none some = some
 
   module _ (facts : Scenario → Bool) where
     -- what is told is what is not left
-    pub untold_first : (free : Bool) (o : Option Scenario) → free ≡ false → ((s : Scenario) → IsScenario g s → matches cube s ≡ true → list_any (λ b. matches b s) told ≡ facts s)
+    pub untold_first : (free : Bool) (o : Option Scenario) → free ≡ false →
+        ((s : Scenario) → IsScenario g s → matches cube s ≡ true → list_any (λ b. matches b s) told ≡ facts s)
         → IsFirst g order (is_left told cube) o → IsFirst g order (λ s. matches cube s && not (free || facts s)) o
     untold_first free o e is f = first_same g order (is_left told cube) (λ s. matches cube s && not (free || facts s)) o
-        (λ s i. same_where (matches cube s) (not (list_any (λ b. matches b s) told)) (not (free || facts s)) (λ m. ap not (is s i m ∙ sym (ap (λ t. t || facts s) e)))) f
+        (λ s i. same_where (matches cube s) (not (list_any (λ b. matches b s) told)) (not (free || facts s))
+        (λ m. ap not (is s i m ∙ sym (ap (λ t. t || facts s) e)))) f
 
 -- what a node's own ends tell, and then all that it hears, from nothing
 module _ (start : List (List Literal)) (s : Scenario) where
-  pub told_all : (first last own heard all : Bool) → start ≡ [] → first ≡ (list_any (λ b. matches b s) start || own) → last ≡ (first || heard) → all ≡ (own || heard) → last ≡ all
-  told_all first last own heard all none e f is = f ∙ ap (λ x. x || heard) (e ∙ ap (λ xs. list_any (λ b. matches b s) xs || own) none) ∙ sym is
+  pub told_all : (first last own heard all : Bool) → start ≡ [] → first ≡ (list_any (λ b. matches b s) start || own) →
+      last ≡ (first || heard) → all ≡ (own || heard) → last ≡ all
+  told_all first last own heard all none e f is =
+      f ∙ ap (λ x. x || heard) (e ∙ ap (λ xs. list_any (λ b. matches b s) xs || own) none) ∙ sym is
 
 -- what is heard is told
 pub told_heard : (own heard all : Bool) → all ≡ (own || heard) → heard ≡ true → all ≡ true
 told_heard own heard all is t = is ∙ or_right own heard t
 
 -- if a bound is told all over a cube, it isn't open there
-pub untold_nowhere : (g : Graph) (cube : List Literal) (facts : Scenario → Bool) (free : Bool) → ((s : Scenario) → IsScenario g s → matches cube s ≡ true → facts s ≡ true) → (s : Scenario) →
+pub untold_nowhere : (g : Graph) (cube : List Literal) (facts : Scenario → Bool) (free : Bool) →
+    ((s : Scenario) → IsScenario g s → matches cube s ≡ true → facts s ≡ true) →
+    (s : Scenario) →
     IsScenario g s → (matches cube s && not (free || facts s)) ≡ false
-untold_nowhere g cube facts free h s i = off_where (matches cube s) (not (free || facts s)) (λ m. ap not (or_right free (facts s) (h s i m)))
+untold_nowhere g cube facts free h s i =
+    off_where (matches cube s) (not (free || facts s)) (λ m. ap not (or_right free (facts s) (h s i m)))
 
 -- what a node's own ends tell is told
-pub own_told : (free first own heard all : Bool) → first ≡ own → all ≡ (own || heard) → first ≡ true → (free || all) ≡ true
+pub own_told : (free first own heard all : Bool) → first ≡ own → all ≡ (own || heard) → first ≡ true →
+    (free || all) ≡ true
 own_told free first own heard all f is t = or_right free all (is ∙ ap (λ x. x || heard) (sym f ∙ t))
 
 -- what isn't so if nothing is left follows from what is less
@@ -51,8 +62,12 @@ fewer_left false f a = f a
 fewer_left true f a = tt
 
 -- if nothing is left of a cube, all of it is told
-pub left_nowhere : (g : Graph) (order : List ℕ) (cube : List Literal) (told : List (List Literal)) (o : Option Scenario) (facts : Scenario → Bool)
-    → ((s : Scenario) → IsScenario g s → matches cube s ≡ true → list_any (λ b. matches b s) told ≡ true → facts s ≡ true)
-    → IsFirst g order (is_left told cube) o → OnFalse (is_some o) ((s : Scenario) → IsScenario g s → matches cube s ≡ true → facts s ≡ true)
-left_nowhere g order cube told None facts h f = λ s i m. h s i m (not-false (list_any (λ b. matches b s) told) (sym (ap (λ t. t && not (list_any (λ b. matches b s) told)) m) ∙ f s i))
+pub left_nowhere : (g : Graph) (order : List ℕ) (cube : List Literal) (told : List (List Literal)) (o : Option Scenario)
+    (facts : Scenario → Bool)
+    → ((s : Scenario) → IsScenario g s → matches cube s ≡ true →
+    list_any (λ b. matches b s) told ≡ true → facts s ≡ true)
+    → IsFirst g order (is_left told cube) o →
+    OnFalse (is_some o) ((s : Scenario) → IsScenario g s → matches cube s ≡ true → facts s ≡ true)
+left_nowhere g order cube told None facts h f = λ s i m. h s i m (not-false (list_any (λ b. matches b s) told)
+    (sym (ap (λ t. t && not (list_any (λ b. matches b s) told)) m) ∙ f s i))
 left_nowhere g order cube told (Some least) facts h f = tt

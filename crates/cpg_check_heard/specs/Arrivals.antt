@@ -22,6 +22,8 @@ pub record IsArrival (g : Graph) (a : Arrival) : Type 0 where
   pub can : (b : LiteralBound) → CanTell g b a.telling
 
 -- columns of known variables tell what the rows of these items do, in scenarios that a cube matches
-pub record AreArrivals (g : Graph) (tables : List NodeTable) (time : ℕ) (cube : List Literal) (items : List ℕ) (arrivals : List Arrival) : Type 0 where
+pub record AreArrivals (g : Graph) (tables : List NodeTable) (time : ℕ) (cube : List Literal) (items : List ℕ)
+    (arrivals : List Arrival) : Type 0 where
   pub each : All (IsArrival g) arrivals
-  pub told : (b : LiteralBound) (s : Scenario) → matches cube s ≡ true → do_tell g time b arrivals s ≡ are_told_by g tables time b items s
+  pub told : (b : LiteralBound) (s : Scenario) → matches cube s ≡ true →
+      do_tell g time b arrivals s ≡ are_told_by g tables time b items s

@@ -1,4 +1,5 @@
--- Literals that are heard by the ends of a node's own processes: what V1 says of columns, and which processes have ended.
+-- Literals that are heard by the ends of a node's own processes: what V1 says of columns, and which processes have
+-- ended.
 use Rattle.std.specs.Prelude.{ℕ, ◌+◌, ◌≡◌, ◌≤◌, true, List, Contains}
 use Rattle.cpg_base.specs.Activity.{active}
 use Rattle.cpg_base.specs.Duration.{duration}

@@ -1,5 +1,6 @@
 -- What a row tells a node: by the ends of a process of its own, or by frames.
-use Rattle.std.specs.Prelude.{ℕ, ◌+◌, ◌≡◌, ◌<◌, Bool, ◌&&◌, ◌==◌, nat_le, nat_lt, List, ◌∷◌, ◌++◌, Option, None, Some, slice_get, false, length}
+use Rattle.std.specs.Prelude.{ℕ, ◌+◌, ◌≡◌, ◌<◌, Bool, ◌&&◌, ◌==◌, nat_le, nat_lt, List, ◌∷◌, ◌++◌, Option, None, Some}
+use Rattle.std.specs.Prelude.{slice_get, false, length}
 use Rattle.std.specs.List.{list_any}
 use Rattle.cpg_base.specs.Graph.{Graph, process_count, item_at, home, condition_of, process_of_variable, value_variable}
 use Rattle.cpg_base.specs.declared.item.Item.{Item}
@@ -23,7 +24,8 @@ use Rattle.cpg_check_heard.specs.Bounds.{tells, variable_of}
 abbrev pub column_tells : Graph → Telling → ℕ → LiteralBound → Scenario → Column → Bool
 column_tells g (End p) time b s c = nat_le (c.time + duration g p (number_of s p)) time
     && list_any (tells b) (exactly p (number_of s p) ∷ value_fact s (condition_of g p))
-column_tells g (Frame delay condition) time b s c = nat_le (c.time + delay) time && list_any (tells b) (c.cube ++ value_fact s condition)
+column_tells g (Frame delay condition) time b s c =
+    nat_le (c.time + delay) time && list_any (tells b) (c.cube ++ value_fact s condition)
 
 -- whether a column matches, and its end or frame tells a bound by a time
 abbrev pub is_telling : Graph → Telling → ℕ → LiteralBound → Scenario → Column → Bool
@@ -31,7 +33,8 @@ is_telling g telling time b s c = matches c.cube s && column_tells g telling tim
 
 -- whether there is a column at a place that matches, and whose end or frame tells a bound by a time
 abbrev pub is_telling_at : Graph → Telling → ℕ → LiteralBound → List Column → Scenario → ℕ → Bool
-is_telling_at g telling time b columns s i = nat_lt i (length columns) && is_telling g telling time b s (column_at columns i)
+is_telling_at g telling time b columns s i =
+    nat_lt i (length columns) && is_telling g telling time b s (column_at columns i)
 
 -- whether a column of a row does
 abbrev pub row_tells : Graph → Telling → ℕ → LiteralBound → List Column → Scenario → Bool

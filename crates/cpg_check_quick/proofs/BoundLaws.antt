@@ -1,11 +1,13 @@
 -- Literals are heard if their bounds are.
-use Rattle.std.proofs.Common.{ℕ, ◌≡◌, ◌==◌, Bool, true, false, cond, List, [], ◌∷◌, filter, flat_map, get_or, map, Contains, refl, sym, subst, arith, inl, inr, le-leb, ne_eqb, max}
+use Rattle.std.proofs.Common.{ℕ, ◌≡◌, ◌==◌, Bool, true, false, cond, List, [], ◌∷◌, filter, flat_map, get_or, map}
+use Rattle.std.proofs.Common.{Contains, refl, sym, subst, arith, inl, inr, le-leb, ne_eqb, max}
 use Rattle.std.specs.Prelude.{nat_le}
 use Rattle.std.proofs.lemmas.Bool.{and_from, and_parts, cases_eq, cases_lt, cond-false, lt-leb}
 use Rattle.std.proofs.lemmas.List.Elements.{Contains-append_cases, Contains-append_left, Contains-append_right}
 use Rattle.cpg_base.specs.Graph.{Graph}
 use Rattle.cpg_base.specs.Variable.{top}
-use Rattle.cpg_base.proofs.Lists.{Contains-cases, Contains-first, Contains-flat_map, Contains-flat_map_parts, Contains-nil, least_bound}
+use Rattle.cpg_base.proofs.Lists.{Contains-cases, Contains-first, Contains-flat_map, Contains-flat_map_parts}
+use Rattle.cpg_base.proofs.Lists.{Contains-nil, least_bound}
 use Rattle.cpg_cube.specs.declared.literal.Literal.{Literal}
 use Rattle.cpg_table.specs.Heard.{facts, is_heard, kept_high, kept_low}
 use Rattle.cpg_table.specs.Table.{NodeTable}
@@ -23,11 +25,14 @@ one_there : {X : Type 0} (b : Bool) (x : X) → b ≡ false → Contains (cond b
 one_there b x e = subst (λ xs. Contains xs x) (sym (cond-false b [] (x ∷ []) e)) (Contains-first x [])
 
 -- a bound is as wide as its literal
-bound_wider : (k : ℕ) (literals : List Literal) (l w : Literal) → Contains literals l → Contains (bounds_of k l) w → IsToldIn literals w
+bound_wider : (k : ℕ) (literals : List Literal) (l w : Literal) → Contains literals l → Contains (bounds_of k l) w →
+    IsToldIn literals w
 bound_wider k literals l w there h = elim (Contains-append_cases (low_of k l) (high_of k l) w h) [
-  | inl low ↦ subst (IsToldIn literals) (one_of (l.low == 0) (record { variable = l.variable; low = l.low; high = max l.high (top k l.variable) }) w low)
+  | inl low ↦ subst (IsToldIn literals)
+      (one_of (l.low == 0) (record { variable = l.variable; low = l.low; high = max l.high (top k l.variable) }) w low)
       (record { by = l; there = there; variable = refl; low = omega arith; high = omega arith })
-  | inr high ↦ subst (IsToldIn literals) (one_of (nat_le (top k l.variable) l.high) (record { variable = l.variable; low = 0; high = l.high }) w high)
+  | inr high ↦ subst (IsToldIn literals)
+      (one_of (nat_le (top k l.variable) l.high) (record { variable = l.variable; low = 0; high = l.high }) w high)
       (record { by = l; there = there; variable = refl; low = omega arith; high = omega arith })
 ]
 
@@ -39,27 +44,37 @@ unknown_parts : {X : Type 0} (b : Bool) (xs : List X) (x : X) → Contains (cond
 unknown_parts true xs x h = absurd (Contains-nil x h)
 unknown_parts false xs x h = h
 
-bounds_wider : (k : ℕ) (known : List Bool) (literals : List Literal) (w : Literal) → Contains (flat_map (unknown_bounds k known) literals) w → IsToldIn literals w
+bounds_wider : (k : ℕ) (known : List Bool) (literals : List Literal) (w : Literal) →
+    Contains (flat_map (unknown_bounds k known) literals) w →
+    IsToldIn literals w
 bounds_wider k known literals w h =
     let p = Contains-flat_map_parts (unknown_bounds k known) literals w h in
     bound_wider k literals p.0 w p.1 (unknown_parts (get_or known p.0.variable false) (bounds_of k p.0) w p.2)
 
-module _ (k : ℕ) (known : List Literal) (l : Literal) (heard : (w : Literal) → Contains (bounds_of k l) w → is_heard k known w ≡ true) where
+module _ (k : ℕ) (known : List Literal) (l : Literal)
+    (heard : (w : Literal) → Contains (bounds_of k l) w → is_heard k known w ≡ true) where
   low_heard : nat_le l.low (kept_low known l.variable) ≡ true
   low_heard = elim (cases_eq l.low 0) [
     | inl none ↦ le-leb l.low (kept_low known l.variable) (omega (arith, none))
     | inr some ↦
         let w : Literal = record { variable = l.variable; low = l.low; high = max l.high (top k l.variable) } in
-        (and_parts _ _ (heard w (Contains-append_left (low_of k l) (high_of k l) w (one_there (l.low == 0) w (ne_eqb l.low 0 some))))).0
+        (and_parts _ _ (heard w
+        (Contains-append_left (low_of k l) (high_of k l) w (one_there (l.low == 0) w (ne_eqb l.low 0 some))))).0
   ]
 
   high_heard : nat_le (kept_high k known l.variable) l.high ≡ true
   high_heard = elim (cases_lt l.high (top k l.variable)) [
     | inl below ↦
         let w : Literal = record { variable = l.variable; low = 0; high = l.high } in
-        (and_parts _ _ (heard w (Contains-append_right (low_of k l) (high_of k l) w (one_there (nat_le (top k l.variable) l.high) w (lt-leb (top k l.variable) l.high below))))).1
+        (and_parts _ _ (heard w (Contains-append_right (low_of k l) (high_of k l) w
+        (one_there (nat_le (top k l.variable) l.high) w (lt-leb (top k l.variable) l.high below))))).1
     | inr free ↦ le-leb (kept_high k known l.variable) l.high
-        (omega (arith, free, least_bound (top k l.variable) (map (λ (l : Literal). l.high) (filter (λ (m : Literal). m.variable == l.variable) known))))
+        (omega (
+          arith,
+          free,
+          least_bound (top k l.variable)
+              (map (λ (l : Literal). l.high) (filter (λ (m : Literal). m.variable == l.variable) known)),
+        ))
   ]
 
   -- what is kept implies a literal if it implies its bounds
@@ -67,15 +82,20 @@ module _ (k : ℕ) (known : List Literal) (l : Literal) (heard : (w : Literal) �
   bound_heard = and_from _ _ low_heard high_heard
 
 -- all literals of a column are implied if those on known variables are, and all bounds of the others
-module _ (g : Graph) (tables : List NodeTable) (node : ℕ) (c : Column) (known : List Bool) (wanted : List Literal) (is : wanted ≡ flat_map (unknown_bounds g.faults known) c.cube) where
+module _ (g : Graph) (tables : List NodeTable) (node : ℕ) (c : Column) (known : List Bool) (wanted : List Literal)
+    (is : wanted ≡ flat_map (unknown_bounds g.faults known) c.cube) where
   pub all_wider : AreToldIn c.cube wanted
   all_wider w h = bounds_wider g.faults known c.cube w (subst (λ ws. Contains ws w) is h)
 
-  pub column_heard : ((l : Literal) → Contains c.cube l → get_or known l.variable false ≡ true → IsHeardIn g tables node c l) → ((l : Literal) → Contains wanted l → IsHeardIn g tables node c l) →
+  pub column_heard :
+      ((l : Literal) → Contains c.cube l → get_or known l.variable false ≡ true → IsHeardIn g tables node c l) →
+      ((l : Literal) → Contains wanted l → IsHeardIn g tables node c l) →
       IsAllHeard g tables node c
   column_heard own heard l h s law m = go (get_or known l.variable false) refl
     where
       go : (b : Bool) → get_or known l.variable false ≡ b → is_heard g.faults (facts g tables node s c.time) l ≡ true
       go true e = own l h e s law m
-      go false e = bound_heard g.faults (facts g tables node s c.time) l (λ w k. heard w (subst (λ ws. Contains ws w) (sym is)
-          (Contains-flat_map (unknown_bounds g.faults known) c.cube l w h (unknown_there (get_or known l.variable false) (bounds_of g.faults l) w e k))) s law m)
+      go false e =
+          bound_heard g.faults (facts g tables node s c.time) l (λ w k. heard w (subst (λ ws. Contains ws w) (sym is)
+          (Contains-flat_map (unknown_bounds g.faults known) c.cube l w h
+          (unknown_there (get_or known l.variable false) (bounds_of g.faults l) w e k))) s law m)

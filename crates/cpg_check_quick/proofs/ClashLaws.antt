@@ -1,5 +1,6 @@
 -- V6 and V7, if items of a node are apart.
-use Rattle.std.proofs.Common.{ℕ, ◌+◌, ◌≤◌, ◌≡◌, ◌⊎◌, true, false, not, ◌&&◌, ◌||◌, ◌==◌, Bool, List, All, Contains, filter, arith, refl, sym, ap, ◌∙◌, subst, inl, inr, le-ltb, ne_eqb, eq-eqb}
+use Rattle.std.proofs.Common.{ℕ, ◌+◌, ◌≤◌, ◌≡◌, ◌⊎◌, true, false, not, ◌&&◌, ◌||◌, ◌==◌, Bool, List, All, Contains}
+use Rattle.std.proofs.Common.{filter, arith, refl, sym, ap, ◌∙◌, subst, inl, inr, le-ltb, ne_eqb, eq-eqb}
 use Rattle.std.specs.Prelude.{nat_lt}
 use Rattle.std.specs.List.{list_any}
 use Rattle.std.proofs.lemmas.Bool.{and_left, and_right}
@@ -21,16 +22,20 @@ use Rattle.cpg_check_quick.specs.Order.{IsApart, execution, sending}
 use Rattle.cpg_violation.proofs.SureLaws.{sure_of}
 
 -- a time at which an item acts is that of a column that matches
-at_parts : (tables : List NodeTable) (x : ℕ) (s : Scenario) (time : ℕ) → Contains (at tables x s) time → (d : Column) × Contains (columns_of tables x) d × (matches d.cube s ≡ true) × (d.time ≡ time)
+at_parts : (tables : List NodeTable) (x : ℕ) (s : Scenario) (time : ℕ) → Contains (at tables x s) time →
+    (d : Column) × Contains (columns_of tables x) d × (matches d.cube s ≡ true) × (d.time ≡ time)
 at_parts tables x s time h =
-    let r = Contains-map_parts (λ (c : Column). c.time) (filter (λ (c : Column). matches c.cube s) (columns_of tables x)) time h in
+    let r = Contains-map_parts (λ (c : Column). c.time)
+    (filter (λ (c : Column). matches c.cube s) (columns_of tables x)) time h in
     let q = Contains-filter_parts (λ (c : Column). matches c.cube s) (columns_of tables x) r.0 r.1 in
     (r.0, q.0, q.1, r.2)
 
 -- what passes if an item acts passes at its columns that match
-none_at : (tables : List NodeTable) (x : ℕ) (s : Scenario) (test : ℕ → Bool) → ((d : Column) → Contains (columns_of tables x) d → matches d.cube s ≡ true → test d.time ≡ false) →
+none_at : (tables : List NodeTable) (x : ℕ) (s : Scenario) (test : ℕ → Bool) →
+    ((d : Column) → Contains (columns_of tables x) d → matches d.cube s ≡ true → test d.time ≡ false) →
     list_any test (at tables x s) ≡ false
-none_at tables x s test none = list_any_false test (at tables x s) (λ time h. let it = at_parts tables x s time h in sym (ap test it.3) ∙ none it.0 it.1 it.2)
+none_at tables x s test none = list_any_false test (at tables x s)
+    (λ time h. let it = at_parts tables x s time h in sym (ap test it.3) ∙ none it.0 it.1 it.2)
 
 -- ---- V6
 
@@ -41,23 +46,35 @@ no_overlap a b c d (inr h) = and_right (nat_lt a (c + d)) (nat_lt c (a + b)) (le
 module _ (g : Graph) (tables : List NodeTable) (p : ℕ) where
   -- what is no process
   pub sure_no_process : process_count g ≤ p → IsSure g tables Rule.Processor p
-  sure_no_process l = sure_of g tables Rule.Processor p refl (λ s c earlier law there m. and_left (nat_lt p (process_count g)) _ (le-ltb p (process_count g) l))
+  sure_no_process l = sure_of g tables Rule.Processor p refl
+      (λ s c earlier law there m. and_left (nat_lt p (process_count g)) _ (le-ltb p (process_count g) l))
 
   -- no process of its node with a lower number
-  lower_alone : All (λ q. IsApart (execution g) g tables q p) (filter (λ q. node_of g q == node_of g p) (numbers_below p)) → IsSure g tables Rule.Processor p
-  lower_alone apart = sure_of g tables Rule.Processor p refl (λ s c earlier law there m. and_right (nat_lt p (process_count g)) _ (list_any_false
-      (λ q. list_any (λ start. overlap c.time (c.time + duration g p (fault_of s p)) start (start + duration g q (fault_of s q))) (at tables q s))
+  lower_alone : All (λ q. IsApart (execution g) g tables q p)
+      (filter (λ q. node_of g q == node_of g p) (numbers_below p)) →
+      IsSure g tables Rule.Processor p
+  lower_alone apart = sure_of g tables Rule.Processor p refl
+      (λ s c earlier law there m. and_right (nat_lt p (process_count g)) _ (list_any_false
+      (λ q. list_any
+      (λ start. overlap c.time (c.time + duration g p (fault_of s p)) start (start + duration g q (fault_of s q)))
+      (at tables q s))
       (filter (λ q. node_of g q == node_of g p) (numbers_below p))
-      (λ q k. none_at tables q s (λ start. overlap c.time (c.time + duration g p (fault_of s p)) start (start + duration g q (fault_of s q))) (λ d at n.
+      (λ q k. none_at tables q s (λ start.
+      overlap c.time (c.time + duration g p (fault_of s p)) start (start + duration g q (fault_of s q))) (λ d at n.
       no_overlap c.time (duration g p (fault_of s p)) d.time (duration g q (fault_of s q))
-      (All-contains (λ q. IsApart (execution g) g tables q p) (filter (λ q. node_of g q == node_of g p) (numbers_below p)) q apart k s c law there m d at n)))))
+      (All-contains (λ q. IsApart (execution g) g tables q p)
+      (filter (λ q. node_of g q == node_of g p) (numbers_below p)) q apart k s c law there m d at n)))))
 
-  pub sure_alone : (lower : List ℕ) → lower ≡ filter (λ q. node_of g q == node_of g p) (numbers_below p) → All (λ q. IsApart (execution g) g tables q p) lower → IsSure g tables Rule.Processor p
-  sure_alone lower is apart = lower_alone (subst (λ (ys : List ℕ). All (λ q. IsApart (execution g) g tables q p) ys) is apart)
+  pub sure_alone : (lower : List ℕ) → lower ≡ filter (λ q. node_of g q == node_of g p) (numbers_below p) →
+      All (λ q. IsApart (execution g) g tables q p) lower →
+      IsSure g tables Rule.Processor p
+  sure_alone lower is apart =
+      lower_alone (subst (λ (ys : List ℕ). All (λ q. IsApart (execution g) g tables q p) ys) is apart)
 
   -- what is no process has no execution
   pub sure_none : process_count g ≤ p → IsSure g tables Rule.Processor p
-  sure_none none = sure_of g tables Rule.Processor p refl (λ s c earlier law there m. and_left (nat_lt p (process_count g)) _ (le-ltb p (process_count g) none))
+  sure_none none = sure_of g tables Rule.Processor p refl
+      (λ s c earlier law there m. and_left (nat_lt p (process_count g)) _ (le-ltb p (process_count g) none))
 
 -- ---- V7
 
@@ -70,20 +87,29 @@ module _ (g : Graph) (tables : List NodeTable) (x : ℕ) where
   other_time a c (inl h) = ne_eqb a c (λ e. omega (arith, h, e))
   other_time a c (inr h) = ne_eqb a c (λ e. omega (arith, h, e))
 
-  lower_apart : All (λ (c : Column). (s : Scenario) → IsScenario g s → matches c.cube s ≡ true → next_slot g (home g x) c.time ≡ c.time) (columns_of tables x)
-      → All (λ y. IsApart sending g tables y x) (filter (λ y. is_sent g y && (home g y == home g x)) (numbers_below x)) → IsSure g tables Rule.Slot x
+  lower_apart : All (λ (c : Column). (s : Scenario) → IsScenario g s → matches c.cube s ≡ true →
+      next_slot g (home g x) c.time ≡ c.time) (columns_of tables x)
+      → All (λ y. IsApart sending g tables y x)
+      (filter (λ y. is_sent g y && (home g y == home g x)) (numbers_below x)) → IsSure g tables Rule.Slot x
   lower_apart starts apart = sure_of g tables Rule.Slot x refl (λ s c earlier law there m.
-      let start : next_slot g (home g x) c.time ≡ c.time = All-contains (λ (c : Column). (s : Scenario) → IsScenario g s → matches c.cube s ≡ true → next_slot g (home g x) c.time ≡ c.time)
+      let start : next_slot g (home g x) c.time ≡ c.time = All-contains (λ (c : Column). (s : Scenario) →
+      IsScenario g s → matches c.cube s ≡ true → next_slot g (home g x) c.time ≡ c.time)
       (columns_of tables x) c starts there s law m in
-      and_right (is_sent g x) _ (ap (λ b. not b || list_any (λ y. is_sent g y && (home g y == home g x) && list_any (λ t. t == c.time) (at tables y s)) (numbers_below x))
+      and_right (is_sent g x) _ (ap (λ b. not b || list_any
+      (λ y. is_sent g y && (home g y == home g x) && list_any (λ t. t == c.time) (at tables y s)) (numbers_below x))
       (eq-eqb (next_slot g (home g x) c.time) c.time start)
-      ∙ list_any_false (λ y. is_sent g y && (home g y == home g x) && list_any (λ t. t == c.time) (at tables y s)) (numbers_below x) (λ y k.
+      ∙ list_any_false (λ y. is_sent g y && (home g y == home g x) && list_any (λ t. t == c.time) (at tables y s))
+      (numbers_below x) (λ y k.
       off_where (is_sent g y && (home g y == home g x)) (list_any (λ t. t == c.time) (at tables y s)) (λ e.
       none_at tables y s (λ t. t == c.time) (λ d at n. other_time d.time c.time
-      (All-contains (λ y. IsApart sending g tables y x) (filter (λ y. is_sent g y && (home g y == home g x)) (numbers_below x)) y apart
-      (Contains-filter (λ y. is_sent g y && (home g y == home g x)) (numbers_below x) y e k) s c law there m d at n))))))
+      (All-contains (λ y. IsApart sending g tables y x)
+      (filter (λ y. is_sent g y && (home g y == home g x)) (numbers_below x)) y apart
+      (Contains-filter (λ y. is_sent g y && (home g y == home g x)) (numbers_below x) y e k) s c law
+      there m d at n))))))
 
   pub sure_own_slots : (lower : List ℕ) → lower ≡ filter (λ y. is_sent g y && (home g y == home g x)) (numbers_below x)
-      → All (λ (c : Column). (s : Scenario) → IsScenario g s → matches c.cube s ≡ true → next_slot g (home g x) c.time ≡ c.time) (columns_of tables x) →
+      → All (λ (c : Column). (s : Scenario) → IsScenario g s → matches c.cube s ≡ true →
+      next_slot g (home g x) c.time ≡ c.time) (columns_of tables x) →
       All (λ y. IsApart sending g tables y x) lower → IsSure g tables Rule.Slot x
-  sure_own_slots lower is starts apart = lower_apart starts (subst (λ (ys : List ℕ). All (λ y. IsApart sending g tables y x) ys) is apart)
+  sure_own_slots lower is starts apart =
+      lower_apart starts (subst (λ (ys : List ℕ). All (λ y. IsApart sending g tables y x) ys) is apart)

@@ -20,26 +20,36 @@ use Rattle.cpg_check_quick.specs.Order.{IsOverBy, execution}
 
 -- what begins with the columns of an item and is done later
 module _ (tables : List NodeTable) (x : ℕ) (s : Scenario) (done : ℕ → ℕ) (time : ℕ) where
-  pub come_by : (d : Column) → Contains (columns_of tables x) d → matches d.cube s ≡ true → done d.time ≤ time → is_by time (map done (at tables x s)) ≡ true
-  come_by d k m l = list_any_true (λ m. nat_le m time) (map done (at tables x s)) (done d.time) (Contains-map done (at tables x s) d.time (in_at tables x s d k m)) (le-leb (done d.time) time l)
+  pub come_by : (d : Column) → Contains (columns_of tables x) d → matches d.cube s ≡ true → done d.time ≤ time →
+      is_by time (map done (at tables x s)) ≡ true
+  come_by d k m l = list_any_true (λ m. nat_le m time) (map done (at tables x s)) (done d.time)
+      (Contains-map done (at tables x s) d.time (in_at tables x s d k m)) (le-leb (done d.time) time l)
 
-  pub by_parts : is_by time (map done (at tables x s)) ≡ true → (d : Column) × Contains (columns_of tables x) d × (matches d.cube s ≡ true) × (done d.time ≤ time)
+  pub by_parts : is_by time (map done (at tables x s)) ≡ true →
+      (d : Column) × Contains (columns_of tables x) d × (matches d.cube s ≡ true) × (done d.time ≤ time)
   by_parts t =
       let m = list_any_parts (λ m. nat_le m time) (map done (at tables x s)) t in
       let r = Contains-map_parts done (at tables x s) m.0 m.1 in
       let e = at_parts tables x s r.0 r.1 in
       (e.0, e.1, e.2, omega (arith, leb-true m.0 time m.2, ap done e.3, r.2))
 
-module _ (g : Graph) (tables : List NodeTable) (rules : AllHold g tables row_rules) (s : Scenario) (law : IsScenario g s) (time : ℕ) where
+module _ (g : Graph) (tables : List NodeTable) (rules : AllHold g tables row_rules) (s : Scenario)
+    (law : IsScenario g s) (time : ℕ) where
   -- an active process that is over has ended
-  pub over_ended : (q : ℕ) → q < process_count g → active g s.values q ≡ true → IsOverBy tables (execution g q s) q time s → is_by time (ends_of g tables s q) ≡ true
+  pub over_ended : (q : ℕ) → q < process_count g → active g s.values q ≡ true →
+      IsOverBy tables (execution g q s) q time s →
+      is_by time (ends_of g tables s q) ≡ true
   over_ended q l a over =
-      let d = match_where g tables s law q (omega arith) rules (ap (item_active g s.values) (item_at-start g q l) ∙ a) in
+      let d =
+      match_where g tables s law q (omega arith) rules (ap (item_active g s.values) (item_at-start g q l) ∙ a) in
       come_by tables q s (λ start. start + duration g q (fault_of s q)) time d.0 d.1 d.2 (over d.0 d.1 d.2)
 
   -- a message on a live edge that is over has arrived
-  pub over_arrived : (e : ℕ) → e < edge_count g → is_message g e ≡ true → live g s.values e ≡ true → IsOverBy tables (slot_length g (home g (message_item g e))) (message_item g e) time s
+  pub over_arrived : (e : ℕ) → e < edge_count g → is_message g e ≡ true → live g s.values e ≡ true →
+      IsOverBy tables (slot_length g (home g (message_item g e))) (message_item g e) time s
       → is_by time (arrivals_of g tables s (message_item g e)) ≡ true
   over_arrived e l m a over =
-      let d = match_where g tables s law (message_item g e) (omega arith) rules (ap (item_active g s.values) (item_at-message g e l) ∙ and_from _ _ m a) in
-      come_by tables (message_item g e) s (λ start. start + slot_length g (home g (message_item g e))) time d.0 d.1 d.2 (over d.0 d.1 d.2)
+      let d = match_where g tables s law (message_item g e) (omega arith) rules
+      (ap (item_active g s.values) (item_at-message g e l) ∙ and_from _ _ m a) in
+      come_by tables (message_item g e) s (λ start. start + slot_length g (home g (message_item g e))) time d.0 d.1 d.2
+      (over d.0 d.1 d.2)

@@ -1,12 +1,15 @@
 -- V5 at an item, by its columns.
-use Rattle.std.proofs.Common.{ℕ, ◌+◌, ◌<◌, ◌≤◌, ◌≡◌, ◌⊎◌, Bool, true, false, cond, not, ◌||◌, List, [], ◌∷◌, ◌++◌, All, filter, get_or, length, take, Contains, refl, ap, ap₂, ◌∙◌, subst, arith, inl}
+use Rattle.std.proofs.Common.{ℕ, ◌+◌, ◌<◌, ◌≤◌, ◌≡◌, ◌⊎◌, Bool, true, false, cond, not, ◌||◌, List, [], ◌∷◌, ◌++◌, All}
+use Rattle.std.proofs.Common.{filter, get_or, length, take, Contains, refl, ap, ap₂, ◌∙◌, subst, arith, inl}
 use Rattle.std.proofs.Common.{inr, le-ltb}
 use Rattle.std.proofs.lemmas.Bool.{and_parts}
 use Rattle.std.proofs.lemmas.List.{take_more}
-use Rattle.std.proofs.lemmas.List.Elements.{All-contains, All-contains_itself, All-weaker, Contains-append_left, Contains-get_or, Contains-push, Contains-push_cases}
+use Rattle.std.proofs.lemmas.List.Elements.{All-contains, All-contains_itself, All-weaker, Contains-append_left}
+use Rattle.std.proofs.lemmas.List.Elements.{Contains-get_or, Contains-push, Contains-push_cases}
 use Rattle.cpg_base.specs.Activity.{active, live}
 use Rattle.cpg_base.specs.Bus.{slot_length}
-use Rattle.cpg_base.specs.Graph.{Graph, edge_count, home, inputs, is_message, item_count, message_item, process_at, process_count, producer, source}
+use Rattle.cpg_base.specs.Graph.{Graph, edge_count, home, inputs, is_message, item_count, message_item, process_at}
+use Rattle.cpg_base.specs.Graph.{process_count, producer, source}
 use Rattle.cpg_base.specs.WellFormed.{WellFormed}
 use Rattle.cpg_base.proofs.Inputs.{inputs_parts}
 use Rattle.cpg_base.proofs.Items.{item_at-start, producer_within}
@@ -28,39 +31,54 @@ use Rattle.cpg_check_quick.proofs.Ends.{over_arrived, over_ended}
 
 module _ (g : Graph) (tables : List NodeTable) where
   -- a start after its release and its live inputs
-  pub start_sure : (p : ℕ) → p < process_count g → ((c : Column) → Contains (columns_of tables p) c → (process_at g p).release ≤ c.time)
-      → ((c : Column) (e : ℕ) → Contains (columns_of tables p) c → Contains (inputs g p) e → IsInputThere g tables c e) → IsSure g tables Rule.Inputs p
+  pub start_sure : (p : ℕ) → p < process_count g →
+      ((c : Column) → Contains (columns_of tables p) c → (process_at g p).release ≤ c.time)
+      → ((c : Column) (e : ℕ) → Contains (columns_of tables p) c → Contains (inputs g p) e →
+      IsInputThere g tables c e) → IsSure g tables Rule.Inputs p
   start_sure p l released there = sure_of g tables Rule.Inputs p refl (λ s c earlier law k m.
       ap (breaks_inputs_of g tables s c.time) (item_at-start g p l)
       ∙ ap₂ (λ a b. a || b) (le-ltb c.time (process_at g p).release (released c k))
       (list_any_false (λ e. not (input_is_there g tables s c.time e)) (filter (live g s.values) (inputs g p))
-      (λ e h. let in_it = Contains-filter_parts (live g s.values) (inputs g p) e h in ap not (there c e k in_it.0 s law m in_it.1))))
+      (λ e h. let in_it = Contains-filter_parts (live g s.values) (inputs g p) e h in
+      ap not (there c e k in_it.0 s law m in_it.1))))
 
   module _ (rules : AllHold g tables row_rules) where
     -- a send after its producer
-    pub send_sure : WellFormed g → (x : ℕ) → x < item_count g → process_count g ≤ x → IsBefore g tables (producer g x) x → IsSure g tables Rule.Inputs x
+    pub send_sure : WellFormed g → (x : ℕ) → x < item_count g → process_count g ≤ x →
+        IsBefore g tables (producer g x) x →
+        IsSure g tables Rule.Inputs x
     send_sure formed x l send before = sure_of g tables Rule.Inputs x refl (λ s c earlier law k m.
         waits g s x l send tables c.time
-        ∙ ap not (over_ended g tables rules s law c.time (producer g x) (producer_within g formed x l) (made g s x l send (active_where g tables s law x l rules c k m)) (before s c law k m)))
+        ∙ ap not (over_ended g tables rules s law c.time (producer g x) (producer_within g formed x l)
+        (made g s x l send (active_where g tables s law x l rules c k m)) (before s c law k m)))
 
     module _ (c : Column) (e : ℕ) where
-      there_if : (s : Scenario) (b : Bool) → is_message g e ≡ b → is_by c.time (cond b (arrivals_of g tables s (message_item g e)) (ends_of g tables s (source g e))) ≡ true →
+      there_if : (s : Scenario) (b : Bool) → is_message g e ≡ b →
+          is_by c.time (cond b (arrivals_of g tables s (message_item g e)) (ends_of g tables s (source g e))) ≡ true →
           input_is_there g tables s c.time e ≡ true
-      there_if s b m h = ap (λ b. is_by c.time (cond b (arrivals_of g tables s (message_item g e)) (ends_of g tables s (source g e)))) m ∙ h
+      there_if s b m h =
+          ap (λ b. is_by c.time (cond b (arrivals_of g tables s (message_item g e)) (ends_of g tables s (source g e))))
+          m ∙ h
 
       -- a message whose frame is over
       pub message_there : e < edge_count g → is_message g e ≡ true
-          → ((s : Scenario) → IsScenario g s → matches c.cube s ≡ true → live g s.values e ≡ true → IsOverBy tables (slot_length g (home g (message_item g e))) (message_item g e) c.time s) →
+          → ((s : Scenario) → IsScenario g s → matches c.cube s ≡ true → live g s.values e ≡ true →
+          IsOverBy tables (slot_length g (home g (message_item g e))) (message_item g e) c.time s) →
           IsInputThere g tables c e
-      message_there l sent over s law m a = there_if s true sent (over_arrived g tables rules s law c.time e l sent a (over s law m a))
+      message_there l sent over s law m a =
+          there_if s true sent (over_arrived g tables rules s law c.time e l sent a (over s law m a))
 
       -- a source on the node that is over
       pub source_there : is_message g e ≡ false → source g e < process_count g
-          → ((s : Scenario) → IsScenario g s → matches c.cube s ≡ true → live g s.values e ≡ true → IsOverBy tables (execution g (source g e) s) (source g e) c.time s) → IsInputThere g tables c e
-      source_there near l over s law m a = there_if s false near (over_ended g tables rules s law c.time (source g e) l (and_parts (active g s.values (source g e)) _ a).0 (over s law m a))
+          → ((s : Scenario) → IsScenario g s → matches c.cube s ≡ true → live g s.values e ≡ true →
+          IsOverBy tables (execution g (source g e) s) (source g e) c.time s) → IsInputThere g tables c e
+      source_there near l over s law m a = there_if s false near (over_ended g tables rules s law c.time (source g e) l
+          (and_parts (active g s.values (source g e)) _ a).0 (over s law m a))
 
       -- an input of either kind
-      input_there : e < edge_count g → source g e < process_count g → ((s : Scenario) → IsScenario g s → matches c.cube s ≡ true → live g s.values e ≡ true → IsInputOver g tables e c.time s) →
+      input_there : e < edge_count g → source g e < process_count g →
+          ((s : Scenario) → IsScenario g s → matches c.cube s ≡ true → live g s.values e ≡ true →
+          IsInputOver g tables e c.time s) →
           IsInputThere g tables c e
       input_there l from over = go (is_message g e) refl
         where
@@ -69,44 +87,63 @@ module _ (g : Graph) (tables : List NodeTable) where
           go false m = source_there m from (λ s law h a. (over s law h a).source m)
 
       -- one from a process that is always over before
-      pub before_there : (p : ℕ) → source g e < process_count g → Contains (columns_of tables p) c → IsFromBefore g tables e p → IsInputThere g tables c e
+      pub before_there : (p : ℕ) → source g e < process_count g → Contains (columns_of tables p) c →
+          IsFromBefore g tables e p →
+          IsInputThere g tables c e
       before_there p from k near = source_there near.near from (λ s law m a. near.before s c law k m)
 
     -- inputs one after another
     pub inputs_there : WellFormed g → (c : Column) (edges : List ℕ) → All (λ e. e < edge_count g) edges
-        → ((s : Scenario) → IsScenario g s → matches c.cube s ≡ true → All (λ e. live g s.values e ≡ true → IsInputOver g tables e c.time s) edges) → All (IsInputThere g tables c) edges
-    inputs_there formed c edges known over i d h = input_there c (get_or edges i d) (known i d h) (formed.sources (get_or edges i d) (known i d h)) (λ s law m a. over s law m i d h a)
+        → ((s : Scenario) → IsScenario g s → matches c.cube s ≡ true →
+        All (λ e. live g s.values e ≡ true → IsInputOver g tables e c.time s) edges) →
+        All (IsInputThere g tables c) edges
+    inputs_there formed c edges known over i d h = input_there c (get_or edges i d) (known i d h)
+        (formed.sources (get_or edges i d) (known i d h)) (λ s law m a. over s law m i d h a)
 
     -- a start by its columns, and inputs that aren't known to be before
-    pub start_late : WellFormed g → (p : ℕ) → p < process_count g → (release : ℕ) → release ≡ (process_at g p).release → (others : List ℕ)
-        → ((e : ℕ) → Contains (inputs g p) e → Contains others e ⊎ IsFromBefore g tables e p) → All (IsLateEnough g tables others release) (columns_of tables p) → IsSure g tables Rule.Inputs p
+    pub start_late : WellFormed g → (p : ℕ) → p < process_count g → (release : ℕ) → release ≡ (process_at g p).release →
+        (others : List ℕ)
+        → ((e : ℕ) → Contains (inputs g p) e → Contains others e ⊎ IsFromBefore g tables e p) →
+        All (IsLateEnough g tables others release) (columns_of tables p) → IsSure g tables Rule.Inputs p
     start_late formed p l release is others known late = start_sure p l
-        (λ c k. let at = All-contains (IsLateEnough g tables others release) (columns_of tables p) c late k in omega (arith, is, at.released))
+        (λ c k. let at = All-contains (IsLateEnough g tables others release) (columns_of tables p) c late k in
+        omega (arith, is, at.released))
         (λ c e k h. elim (known e h) [
-          | inl other ↦ (All-contains (IsLateEnough g tables others release) (columns_of tables p) c late k).there e other
+          | inl other ↦
+              (All-contains (IsLateEnough g tables others release) (columns_of tables p) c late k).there e other
           | inr near ↦ before_there c e p (formed.sources e (inputs_parts g p e h).0) k near
         ])
 
 -- elements of which something is known, or that are kept
 module _ {T : Type 0} (fact : T → Type 0) (edges kept : List T) (k : ℕ) (any : T) (within : k < length edges) where
   one_of : (d : T) → Contains (take (k + 1) edges) d → Contains (take k edges) d ⊎ (get_or edges k any ≡ d)
-  one_of d c = Contains-push_cases (take k edges) (get_or edges k any) d (subst (λ xs. Contains xs d) (take_more edges k any within) c)
+  one_of d c = Contains-push_cases (take k edges) (get_or edges k any) d
+      (subst (λ xs. Contains xs d) (take_more edges k any within) c)
 
-  pub others_push : ((d : T) → Contains (take k edges) d → Contains kept d ⊎ fact d) → (d : T) → Contains (take (k + 1) edges) d → Contains (kept ++ get_or edges k any ∷ []) d ⊎ fact d
+  pub others_push : ((d : T) → Contains (take k edges) d → Contains kept d ⊎ fact d) → (d : T) →
+      Contains (take (k + 1) edges) d →
+      Contains (kept ++ get_or edges k any ∷ []) d ⊎ fact d
   others_push before d c = elim (one_of d c) [
-    | inl b ↦ elim (before d b) [ inl h ↦ inl (Contains-append_left kept (get_or edges k any ∷ []) d h) | inr f ↦ inr f ]
-    | inr q ↦ inl (subst (λ z. Contains (kept ++ get_or edges k any ∷ []) z) q (Contains-push kept (get_or edges k any)))
+    | inl b ↦
+        elim (before d b) [ inl h ↦ inl (Contains-append_left kept (get_or edges k any ∷ []) d h) | inr f ↦ inr f ]
+    | inr q ↦
+        inl (subst (λ z. Contains (kept ++ get_or edges k any ∷ []) z) q (Contains-push kept (get_or edges k any)))
   ]
 
-  pub others_among : ((d : T) → Contains kept d → Contains edges d) → (d : T) → Contains (kept ++ get_or edges k any ∷ []) d → Contains edges d
+  pub others_among : ((d : T) → Contains kept d → Contains edges d) → (d : T) →
+      Contains (kept ++ get_or edges k any ∷ []) d →
+      Contains edges d
   others_among before d c = elim (Contains-push_cases kept (get_or edges k any) d c) [
     | inl b ↦ before d b
     | inr q ↦ subst (Contains edges) q (Contains-get_or edges k any within)
   ]
 
-  pub others_skip : fact (get_or edges k any) → ((d : T) → Contains (take k edges) d → Contains kept d ⊎ fact d) → (d : T) → Contains (take (k + 1) edges) d → Contains kept d ⊎ fact d
+  pub others_skip : fact (get_or edges k any) → ((d : T) → Contains (take k edges) d → Contains kept d ⊎ fact d) →
+      (d : T) → Contains (take (k + 1) edges) d →
+      Contains kept d ⊎ fact d
   others_skip f before d c = elim (one_of d c) [ inl b ↦ before d b | inr q ↦ inr (subst fact q f) ]
 
 -- the inputs of a process are edges
 pub inputs_below : (g : Graph) (p : ℕ) → All (λ e. e < edge_count g) (inputs g p)
-inputs_below g p = All-weaker (Contains (inputs g p)) (λ e. e < edge_count g) (λ e k. (inputs_parts g p e k).0) (inputs g p) (All-contains_itself (inputs g p))
+inputs_below g p = All-weaker (Contains (inputs g p)) (λ e. e < edge_count g) (λ e k. (inputs_parts g p e k).0)
+    (inputs g p) (All-contains_itself (inputs g p))

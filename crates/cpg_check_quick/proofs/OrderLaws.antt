@@ -1,10 +1,14 @@
--- Items that are over before others begin: by the trees of their rows, by columns one after another, and by items between.
-use Rattle.std.proofs.Common.{ℕ, ◌+◌, ◌-◌, ◌<◌, ◌≤◌, ◌≡◌, ◌⊎◌, true, false, not, ◌&&◌, Bool, cond, List, [], ◌∷◌, ◌++◌, Option, None, Some, All, Contains, IfSome, length, get_or, take, drop, min}
+-- Items that are over before others begin: by the trees of their rows, by columns one after another, and by items
+-- between.
+use Rattle.std.proofs.Common.{ℕ, ◌+◌, ◌-◌, ◌<◌, ◌≤◌, ◌≡◌, ◌⊎◌, true, false, not, ◌&&◌, Bool, cond, List, [], ◌∷◌, ◌++◌}
+use Rattle.std.proofs.Common.{Option, None, Some, All, Contains, IfSome, length, get_or, take, drop, min}
 use Rattle.std.proofs.Common.{arith, refl, sym, ap, ◌∙◌, subst, inl, inr, Global, Vec}
 use Rattle.std.specs.List.{list_any}
 use Rattle.std.proofs.lemmas.Bool.{cases_lt, both_ways}
-use Rattle.std.proofs.lemmas.List.{get_or_default, get_or-drop, get_or-take, get_or_append_left, get_or_push, length-append, length-take, length-drop}
-use Rattle.std.proofs.lemmas.List.Elements.{All-contains, All-more, All-push, All-weaker, Contains-append_left, Contains-push}
+use Rattle.std.proofs.lemmas.List.{get_or_default, get_or-drop, get_or-take, get_or_append_left, get_or_push}
+use Rattle.std.proofs.lemmas.List.{length-append, length-take, length-drop}
+use Rattle.std.proofs.lemmas.List.Elements.{All-contains, All-more, All-push, All-weaker, Contains-append_left}
+use Rattle.std.proofs.lemmas.List.Elements.{Contains-push}
 use Rattle.cpg_base.specs.Activity.{item_active}
 use Rattle.cpg_base.specs.Graph.{Graph, item_at, item_count, process_count}
 use Rattle.cpg_base.proofs.Lists.{list_any_parts}
@@ -32,11 +36,14 @@ use Rattle.cpg_check_quick.specs.Order.{execution, IsApart, IsApartAt, IsInTurn,
 -- ---- spans
 
 -- an execution is as long as its faults make it, and they are no more than there may be
-pub span_of : (g : Graph) → process_count g ≤ 128 → (p : ℕ) → p < process_count g → (span : ItemSpan) → span.variable ≡ p
-    → ((n : ℕ) → n ≤ MOST_FAULTS → get_or span.lengths n 0 ≡ duration g p (min g.faults n)) → span.longest ≡ duration g p g.faults → IsSpan g (execution g p) span
+pub span_of : (g : Graph) → process_count g ≤ 128 → (p : ℕ) → p < process_count g → (span : ItemSpan) →
+    span.variable ≡ p
+    → ((n : ℕ) → n ≤ MOST_FAULTS → get_or span.lengths n 0 ≡ duration g p (min g.faults n)) →
+    span.longest ≡ duration g p g.faults → IsSpan g (execution g p) span
 span_of g few p l span is lengths longest = record {
   enough = λ s n law h k.
-      let counted : fault_of s p ≤ n = omega (arith, number_of-fault s p (omega (arith, few, l)), subst (λ v. number_of s v ≤ n) is h) in
+      let counted : fault_of s p ≤ n =
+      omega (arith, number_of-fault s p (omega (arith, few, l)), subst (λ v. number_of s v ≤ n) is h) in
       let most : fault_of s p ≤ min g.faults n = omega (arith, fault_within g few p l s law, counted) in
       omega (arith, duration_grows g p (fault_of s p) (min g.faults n) most, lengths n k);
   longest = λ s law. omega (arith, duration_grows g p (fault_of s p) g.faults (fault_within g few p l s law), longest);
@@ -45,88 +52,117 @@ span_of g few p l span is lengths longest = record {
 -- ---- courses
 
 -- the course that a look-up finds is its item's
-pub course_at : {lasts : ℕ → Scenario → ℕ} {g : Graph} {tables : List NodeTable} {courses : Courses} → AreCourses lasts g tables courses
-    → (x : ℕ) (course : Course) (list : List Course) → list ≡ courses.list.items → x < length list → course ≡ get_or list x course → IsCourse g tables (lasts x) x course
+pub course_at : {lasts : ℕ → Scenario → ℕ} {g : Graph} {tables : List NodeTable} {courses : Courses} →
+    AreCourses lasts g tables courses
+    → (x : ℕ) (course : Course) (list : List Course) → list ≡ courses.list.items → x < length list →
+    course ≡ get_or list x course → IsCourse g tables (lasts x) x course
 course_at {lasts = lasts} {g = g} {tables = tables} {courses = courses} are x course list same l is =
-    subst (IsCourse g tables (lasts x) x) (sym (is ∙ ap (λ (ys : List Course). get_or ys x course) same)) (are.each x course (omega (arith, l, ap length same)))
+    subst (IsCourse g tables (lasts x) x) (sym (is ∙ ap (λ (ys : List Course). get_or ys x course) same))
+    (are.each x course (omega (arith, l, ap length same)))
 
 -- the courses so far, and one more
-pub record AreSoFar (lasts : ℕ → Scenario → ℕ) (g : Graph) (tables : List NodeTable) (n : ℕ) (list : List Course) : Type 0 where
+pub record AreSoFar (lasts : ℕ → Scenario → ℕ) (g : Graph) (tables : List NodeTable) (n : ℕ)
+    (list : List Course) : Type 0 where
   pub count : length list ≡ n
   pub each : (x : ℕ) (d : Course) → x < length list → IsCourse g tables (lasts x) x (get_or list x d)
 
-pub courses_more : (lasts : ℕ → Scenario → ℕ) (g : Graph) (tables : List NodeTable) (n : ℕ) (list : List Course) (course : Course) → AreSoFar lasts g tables n list →
+pub courses_more : (lasts : ℕ → Scenario → ℕ) (g : Graph) (tables : List NodeTable) (n : ℕ) (list : List Course)
+    (course : Course) →
+    AreSoFar lasts g tables n list →
     IsCourse g tables (lasts n) n course → AreSoFar lasts g tables (n + 1) (list ++ course ∷ [])
 courses_more lasts g tables n list course before here = record {
   count = omega (arith, length-append list (course ∷ []), before.count);
   each = λ x d l. elim (cases_lt x n) [
-    | inl lt ↦ subst (IsCourse g tables (lasts x) x) (sym (get_or_append_left list (course ∷ []) d x (omega (arith, before.count, lt)))) (before.each x d (omega (arith, before.count, lt)))
+    | inl lt ↦ subst (IsCourse g tables (lasts x) x)
+        (sym (get_or_append_left list (course ∷ []) d x (omega (arith, before.count, lt))))
+        (before.each x d (omega (arith, before.count, lt)))
     | inr ge ↦
         let same : n ≡ x = omega (arith, l, ge, length-append list (course ∷ []), before.count) in
-        subst (IsCourse g tables (lasts x) x) (sym (get_or_push list course d x (omega (arith, before.count, same)))) (subst (λ y. IsCourse g tables (lasts y) y course) same here)
+        subst (IsCourse g tables (lasts x) x) (sym (get_or_push list course d x (omega (arith, before.count, same))))
+        (subst (λ y. IsCourse g tables (lasts y) y course) same here)
   ];
 }
 
 -- ---- one column
 
 -- what is told of the column at the tree's place is told of each that matches
-module _ {g : Graph} {columns : List Column} {tree : PlacesState} (is : IsRowTree g columns tree) (s : Scenario) (law : IsScenario g s) (fact : Column → Type 0) where
-  by_place : (o : Option ℕ) → place_at tree s ≡ o → IfSome o (λ i. fact (column_at columns i)) → (d : Column) → Contains columns d → matches d.cube s ≡ true → fact d
+module _ {g : Graph} {columns : List Column} {tree : PlacesState} (is : IsRowTree g columns tree) (s : Scenario)
+    (law : IsScenario g s) (fact : Column → Type 0) where
+  by_place : (o : Option ℕ) → place_at tree s ≡ o → IfSome o (λ i. fact (column_at columns i)) → (d : Column) →
+      Contains columns d → matches d.cube s ≡ true → fact d
   by_place None e h d c m = absurd (none_matches is s law e d c m)
   by_place (Some i) e h d c m =
       let at : column_at columns c.0 ≡ d = get_or_default columns c.0 (record { time = 0; cube = [] }) d c.1 ∙ c.2 in
       let same : c.0 ≡ i = place_only is s law i c.0 e c.1 (ap (λ (d : Column). matches d.cube s) at ∙ m) in
       subst fact (ap (column_at columns) (sym same) ∙ at) h
 
-  pub each_told : IfSome (place_at tree s) (λ i. fact (column_at columns i)) → (d : Column) → Contains columns d → matches d.cube s ≡ true → fact d
+  pub each_told : IfSome (place_at tree s) (λ i. fact (column_at columns i)) → (d : Column) → Contains columns d →
+      matches d.cube s ≡ true → fact d
   each_told h = by_place (place_at tree s) refl h
 
-module _ {g : Graph} {lasts : Scenario → ℕ} {span : ItemSpan} (is : IsSpan g lasts span) {s : Scenario} (law : IsScenario g s) where
+module _ {g : Graph} {lasts : Scenario → ℕ} {span : ItemSpan} (is : IsSpan g lasts span)
+    {s : Scenario} (law : IsScenario g s) where
   pub past_over : (start time : ℕ) → IsPast span start time s → start + lasts s ≤ time
   past_over start time p = omega (arith, is.enough s p.count law p.most p.known, p.over)
 
-module _ {g : Graph} {tables : List NodeTable} {lasts : Scenario → ℕ} {x : ℕ} {course : Course} (is : IsCourse g tables lasts x course) {s : Scenario} (law : IsScenario g s) where
+module _ {g : Graph} {tables : List NodeTable} {lasts : Scenario → ℕ} {x : ℕ} {course : Course}
+    (is : IsCourse g tables lasts x course) {s : Scenario} (law : IsScenario g s) where
   -- by the last column
   pub early_over : (time : ℕ) → course.last + course.span.longest ≤ time → IsOverBy tables (lasts s) x time s
   early_over time h d c m =
-      let last : d.time ≤ course.last = All-contains (λ (d : Column). d.time ≤ course.last) (columns_of tables x) d is.last c in
+      let last : d.time ≤ course.last =
+      All-contains (λ (d : Column). d.time ≤ course.last) (columns_of tables x) d is.last c in
       omega (arith, h, last, is.span.longest s law)
 
   -- by the first column, of what is before
-  pub late_over : (start longest other : ℕ) → other ≤ longest → start + longest ≤ course.first → (d : Column) → Contains (columns_of tables x) d → start + other ≤ d.time
+  pub late_over : (start longest other : ℕ) → other ≤ longest → start + longest ≤ course.first → (d : Column) →
+      Contains (columns_of tables x) d →
+      start + other ≤ d.time
   late_over start longest other l h d c =
-      let first : course.first ≤ d.time = All-contains (λ (d : Column). course.first ≤ d.time) (columns_of tables x) d is.first c in
+      let first : course.first ≤ d.time =
+      All-contains (λ (d : Column). course.first ≤ d.time) (columns_of tables x) d is.first c in
       omega (arith, l, h, first)
 
   module _ (tree : PlacesState) (there : course.tree.now ≡ Some tree) where
     row_tree : IsRowTree g (columns_of tables x) tree
-    row_tree = subst (λ (o : Option PlacesState). IfSome o (λ (t : PlacesState). IsRowTree g (columns_of tables x) t)) there is.tree
+    row_tree = subst (λ (o : Option PlacesState). IfSome o (λ (t : PlacesState). IsRowTree g (columns_of tables x) t))
+        there is.tree
 
     -- by the tree
-    pub told_over : (time : ℕ) → IfSome (place_at tree s) (λ i. IsPast course.span (column_at course.columns.now i).time time s) → IsOverBy tables (lasts s) x time s
+    pub told_over : (time : ℕ) →
+        IfSome (place_at tree s) (λ i. IsPast course.span (column_at course.columns.now i).time time s) →
+        IsOverBy tables (lasts s) x time s
     told_over time h d c m = past_over is.span law d.time time
         (each_told row_tree s law (λ (d : Column). IsPast course.span d.time time s)
-        (subst (λ (columns : List Column). IfSome (place_at tree s) (λ i. IsPast course.span (column_at columns i).time time s)) is.columns h) d c m)
+        (subst (λ (columns : List Column).
+        IfSome (place_at tree s) (λ i. IsPast course.span (column_at columns i).time time s)) is.columns h) d c m)
 
     -- by the tree, one or the other
     pub told_apart : {other : Scenario → ℕ} {span : ItemSpan} → IsSpan g other span → (time : ℕ)
-        → IfSome (place_at tree s) (λ i. IsPast course.span (column_at course.columns.now i).time time s ⊎ IsPast span time (column_at course.columns.now i).time s) →
+        → IfSome (place_at tree s) (λ i. IsPast course.span (column_at course.columns.now i).time time s ⊎
+        IsPast span time (column_at course.columns.now i).time s) →
         IsApartAt tables (lasts s) x (other s) time s
     told_apart {other = other} {span = span} by time h d c m =
         elim (each_told row_tree s law (λ (d : Column). IsPast course.span d.time time s ⊎ IsPast span time d.time s)
-        (subst (λ (columns : List Column). IfSome (place_at tree s) (λ i. IsPast course.span (column_at columns i).time time s ⊎ IsPast span time (column_at columns i).time s)) is.columns h) d c m) [
+        (subst (λ (columns : List Column). IfSome (place_at tree s) (λ i. IsPast course.span
+        (column_at columns i).time time s ⊎ IsPast span time (column_at columns i).time s)) is.columns h) d c m) [
           | inl p ↦ inl (past_over is.span law d.time time p)
           | inr p ↦ inr (past_over by law time d.time p)
         ]
 
 -- the tree of an item's columns
-module _ {g : Graph} {tables : List NodeTable} {last : Scenario → ℕ} {x : ℕ} {course : Course} (is : IsCourse g tables last x course) (tree : PlacesState) (there : course.tree.now ≡ Some tree) where
+module _ {g : Graph} {tables : List NodeTable} {last : Scenario → ℕ} {x : ℕ} {course : Course}
+    (is : IsCourse g tables last x course) (tree : PlacesState) (there : course.tree.now ≡ Some tree) where
   its_tree : IsRowTree g (columns_of tables x) tree
-  its_tree = subst (λ (o : Option PlacesState). IfSome o (λ (t : PlacesState). IsRowTree g (columns_of tables x) t)) there is.tree
+  its_tree = subst (λ (o : Option PlacesState). IfSome o (λ (t : PlacesState). IsRowTree g (columns_of tables x) t))
+      there is.tree
 
 -- what is told of the column that a look-up finds
-pub told_at : (fact : Column → Type 0) (columns : List Column) (i : ℕ) (c : Column) → i < length columns → c ≡ get_or columns i c → fact c → fact (column_at columns i)
-told_at fact columns i c l is h = subst fact (is ∙ sym (get_or_default columns i (record { time = 0; cube = [] }) c l)) h
+pub told_at : (fact : Column → Type 0) (columns : List Column) (i : ℕ) (c : Column) → i < length columns →
+    c ≡ get_or columns i c → fact c →
+    fact (column_at columns i)
+told_at fact columns i c l is h =
+    subst fact (is ∙ sym (get_or_default columns i (record { time = 0; cube = [] }) c l)) h
 
 -- what is told in some place, of what is told there
 pub told_so : {P Q : ℕ → Type 0} (o : Option ℕ) → IfSome o P → ((i : ℕ) → P i → Q i) → IfSome o Q
@@ -135,7 +171,8 @@ told_so (Some i) h f = f i h
 
 -- ---- two trees
 
-module _ {g : Graph} {tables : List NodeTable} {lasts : Scenario → ℕ} {y : ℕ} {one : Course} (is : IsCourse g tables lasts y one) {s : Scenario} (law : IsScenario g s) (own : PlacesState)
+module _ {g : Graph} {tables : List NodeTable} {lasts : Scenario → ℕ} {y : ℕ} {one : Course}
+    (is : IsCourse g tables lasts y one) {s : Scenario} (law : IsScenario g s) (own : PlacesState)
     (there : one.tree.now ≡ Some own) where
   over_at : (time : ℕ) → IsOverAt one time (place_at own s) s → IsOverBy tables (lasts s) y time s
   over_at time h = elim h [
@@ -143,35 +180,45 @@ module _ {g : Graph} {tables : List NodeTable} {lasts : Scenario → ℕ} {y : �
     | inr past ↦ told_over is law own there time past
   ]
 
-module _ {g : Graph} {tables : List NodeTable} (lasts : ℕ → Scenario → ℕ) {y x : ℕ} {one other : Course} (is : IsCourse g tables (lasts y) y one) (by : IsCourse g tables (lasts x) x other) where
+module _ {g : Graph} {tables : List NodeTable} (lasts : ℕ → Scenario → ℕ) {y x : ℕ} {one other : Course}
+    (is : IsCourse g tables (lasts y) y one) (by : IsCourse g tables (lasts x) x other) where
   -- what is over by the first column of another is over before it
   pub early_before : one.last + one.span.longest ≤ other.first → IsOver lasts g tables y x
-  early_before h s c law here m = early_over is law c.time (omega (arith, h, All-contains (λ (d : Column). other.first ≤ d.time) (columns_of tables x) c by.first here))
+  early_before h s c law here m = early_over is law c.time
+      (omega (arith, h, All-contains (λ (d : Column). other.first ≤ d.time) (columns_of tables x) c by.first here))
 
   -- what is over by the time of the column at each place of another's tree is over before it
   pub walked_before : (own tree : PlacesState) → one.tree.now ≡ Some own → other.tree.now ≡ Some tree
-      → ((s : Scenario) → IsScenario g s → IfSome (place_at tree s) (λ i. IsOverAt one (column_at other.columns.now i).time (place_at own s) s)) → IsOver lasts g tables y x
+      → ((s : Scenario) → IsScenario g s →
+      IfSome (place_at tree s) (λ i. IsOverAt one (column_at other.columns.now i).time (place_at own s) s)) →
+      IsOver lasts g tables y x
   walked_before own tree has there all s c law here m =
       each_told (its_tree by tree there) s law (λ (c : Column). IsOverBy tables (lasts y s) y c.time s)
-      (subst (λ (columns : List Column). IfSome (place_at tree s) (λ i. IsOverBy tables (lasts y s) y (column_at columns i).time s)) by.columns
-      (told_so (place_at tree s) (all s law) (λ i. over_at is law own has (column_at other.columns.now i).time))) c here m
+      (subst (λ (columns : List Column).
+      IfSome (place_at tree s) (λ i. IsOverBy tables (lasts y s) y (column_at columns i).time s)) by.columns
+      (told_so (place_at tree s) (all s law) (λ i. over_at is law own has (column_at other.columns.now i).time))) c here
+      m
 
 -- ---- columns one after another
 
 module _ (lasts : ℕ → Scenario → ℕ) (g : Graph) (tables : List NodeTable) where
   -- what is over by each column's time is over before the item
   pub over_all : (x : ℕ) (columns : List Column) (items : List ℕ) → columns ≡ columns_of tables x
-      → ((s : Scenario) → IsScenario g s → All (λ (c : Column). matches c.cube s ≡ true → All (λ y. IsOverBy tables (lasts y s) y c.time s) items) columns)
+      → ((s : Scenario) → IsScenario g s → All
+      (λ (c : Column). matches c.cube s ≡ true → All (λ y. IsOverBy tables (lasts y s) y c.time s) items) columns)
       → All (λ y. IsOver lasts g tables y x) items
   over_all x columns items all each k d l s c law here m =
-      All-contains (λ (c : Column). matches c.cube s ≡ true → All (λ y. IsOverBy tables (lasts y s) y c.time s) items) columns c (each s law)
+      All-contains (λ (c : Column). matches c.cube s ≡ true → All (λ y. IsOverBy tables (lasts y s) y c.time s) items)
+      columns c (each s law)
       (subst (λ (cs : List Column). Contains cs c) (sym all) here) m k d l
 
   pub apart_all : (x : ℕ) (columns : List Column) (items : List ℕ) → columns ≡ columns_of tables x
-      → ((s : Scenario) → IsScenario g s → All (λ (c : Column). matches c.cube s ≡ true → All (λ y. IsApartAt tables (lasts y s) y (lasts x s) c.time s) items) columns)
+      → ((s : Scenario) → IsScenario g s → All (λ (c : Column). matches c.cube s ≡ true →
+      All (λ y. IsApartAt tables (lasts y s) y (lasts x s) c.time s) items) columns)
       → All (λ y. IsApart lasts g tables y x) items
   apart_all x columns items all each k d l s c law here m =
-      All-contains (λ (c : Column). matches c.cube s ≡ true → All (λ y. IsApartAt tables (lasts y s) y (lasts x s) c.time s) items) columns c (each s law)
+      All-contains (λ (c : Column). matches c.cube s ≡ true →
+      All (λ y. IsApartAt tables (lasts y s) y (lasts x s) c.time s) items) columns c (each s law)
       (subst (λ (cs : List Column). Contains cs c) (sym all) here) m k d l
 
   -- one item that is over before another is apart from it
@@ -185,12 +232,17 @@ module _ (lasts : ℕ → Scenario → ℕ) (g : Graph) (tables : List NodeTable
 
 module _ (g : Graph) (tables : List NodeTable) (present : Holds g tables Rule.Present) where
   -- an item that is active has a column that matches
-  pub has_column : (x : ℕ) → x < item_count g → (s : Scenario) → IsScenario g s → item_active g s.values (item_at g x) ≡ true → (d : Column) × Contains (columns_of tables x) d ×
+  pub has_column : (x : ℕ) → x < item_count g → (s : Scenario) → IsScenario g s →
+      item_active g s.values (item_at g x) ≡ true →
+      (d : Column) × Contains (columns_of tables x) d ×
       (matches d.cube s ≡ true)
   has_column x l s law active =
-      let none : (item_active g s.values (item_at g x) && not (list_any (λ (d : Column). matches d.cube s) (columns_of tables x))) ≡ false = present x None s law l in
+      let none : (item_active g s.values (item_at g x)
+      && not (list_any (λ (d : Column). matches d.cube s) (columns_of tables x))) ≡ false =
+      present x None s law l in
       list_any_parts (λ (d : Column). matches d.cube s) (columns_of tables x)
-      (shown (item_active g s.values (item_at g x)) (list_any (λ (d : Column). matches d.cube s) (columns_of tables x)) active none)
+      (shown (item_active g s.values (item_at g x))
+      (list_any (λ (d : Column). matches d.cube s) (columns_of tables x)) active none)
     where
       shown : (a b : Bool) → a ≡ true → (a && not b) ≡ false → b ≡ true
       shown true true e h = refl
@@ -199,7 +251,9 @@ module _ (g : Graph) (tables : List NodeTable) (present : Holds g tables Rule.Pr
 
   module _ (lasts : ℕ → Scenario → ℕ) where
     -- what is over before an item that is always active is over before what comes after that
-    pub before_over : (q r x : ℕ) → r < item_count g → IsUnconditional g r → IsOver lasts g tables q r → IsOver lasts g tables r x → IsOver lasts g tables q x
+    pub before_over : (q r x : ℕ) → r < item_count g → IsUnconditional g r → IsOver lasts g tables q r →
+        IsOver lasts g tables r x →
+        IsOver lasts g tables q x
     before_over q r x l always h k s c law here m d at n =
         let e = has_column r l s law (always s law) in
         let a : d.time + lasts q s ≤ e.0.time = h s e.0 law e.1 e.2 d at n in
@@ -207,41 +261,55 @@ module _ (g : Graph) (tables : List NodeTable) (present : Holds g tables Rule.Pr
         omega (arith, a, b)
 
     module _ (items : List ℕ) (place start : ℕ) (there : place < length items) (within : start ≤ place)
-        (always : 0 < start → (start < place) × IsUnconditional g (get_or items start 0) × (get_or items start 0 < item_count g))
-        (here : All (λ y. IsOver lasts g tables y (get_or items place 0)) (take (place - start) (drop start items))) where
+        (always : 0 < start →
+        (start < place) × IsUnconditional g (get_or items start 0) × (get_or items start 0 < item_count g))
+        (here : All (λ y. IsOver lasts g tables y (get_or items place 0))
+        (take (place - start) (drop start items))) where
       near : (i : ℕ) → start ≤ i → i < place → IsOver lasts g tables (get_or items i 0) (get_or items place 0)
       near i l h =
           let at : get_or (take (place - start) (drop start items)) (i - start) 0 ≡ get_or items i 0 =
-          get_or-take (place - start) (drop start items) (i - start) 0 (omega (arith, l, h)) ∙ get_or-drop start items (i - start) 0 ∙ ap (λ j. get_or items j 0) (omega (arith, l)) in
-          let long : i - start < length (take (place - start) (drop start items)) = omega (arith, l, h, there, length-take (place - start) (drop start items), length-drop start items) in
+          get_or-take (place - start) (drop start items) (i - start) 0 (omega (arith, l, h))
+          ∙ get_or-drop start items (i - start) 0 ∙ ap (λ j. get_or items j 0) (omega (arith, l)) in
+          let long : i - start < length (take (place - start) (drop start items)) =
+          omega (arith, l, h, there, length-take (place - start) (drop start items), length-drop start items) in
           subst (λ y. IsOver lasts g tables y (get_or items place 0)) at (here (i - start) 0 long)
 
-      far : ((i j : ℕ) → i < j → j < place → IsOver lasts g tables (get_or items i 0) (get_or items j 0)) → (i : ℕ) → i < start → IsOver lasts g tables (get_or items i 0) (get_or items place 0)
+      far : ((i j : ℕ) → i < j → j < place → IsOver lasts g tables (get_or items i 0) (get_or items j 0)) → (i : ℕ) →
+          i < start →
+          IsOver lasts g tables (get_or items i 0) (get_or items place 0)
       far before i h =
           let is = always (omega (arith, h)) in
-          before_over (get_or items i 0) (get_or items start 0) (get_or items place 0) is.2 is.1 (before i start h is.0) (near start (omega arith) is.0)
+          before_over (get_or items i 0) (get_or items start 0) (get_or items place 0) is.2 is.1 (before i start h is.0)
+          (near start (omega arith) is.0)
 
       -- one place more
-      pub in_turn_more : ((i j : ℕ) → i < j → j < place → IsOver lasts g tables (get_or items i 0) (get_or items j 0)) → (i j : ℕ) → i < j → j < place + 1 →
+      pub in_turn_more : ((i j : ℕ) → i < j → j < place → IsOver lasts g tables (get_or items i 0) (get_or items j 0)) →
+          (i j : ℕ) → i < j → j < place + 1 →
           IsOver lasts g tables (get_or items i 0) (get_or items j 0)
       in_turn_more before i j h k = elim (cases_lt j place) [
         | inl lt ↦ before i j h lt
-        | inr ge ↦ let same : place ≡ j = omega (arith, k, ge) in subst (λ z. IsOver lasts g tables (get_or items i 0) (get_or items z 0)) same (elim (cases_lt i start) [
-          | inl lt ↦ far before i lt
-          | inr at ↦ near i at (omega (arith, h, same))
-        ])
+        | inr ge ↦ let same : place ≡ j = omega (arith, k, ge) in
+            subst (λ z. IsOver lasts g tables (get_or items i 0) (get_or items z 0)) same (elim (cases_lt i start) [
+              | inl lt ↦ far before i lt
+              | inr at ↦ near i at (omega (arith, h, same))
+            ])
       ]
 
 -- the items before a place are in turn, and the one at the start, if it isn't the first, is active in every scenario
 pub record IsInTurnTo (courses : Courses) (items : List ℕ) (place start : ℕ) : Type 0 where
   pub within : start ≤ place
-  pub always : (g : Graph) (tables : List NodeTable) (lasts : ℕ → Scenario → ℕ) → AreCourses lasts g tables courses → 0 < start → (start < place) × IsUnconditional g (get_or items start 0) ×
+  pub always : (g : Graph) (tables : List NodeTable) (lasts : ℕ → Scenario → ℕ) → AreCourses lasts g tables courses →
+      0 < start →
+      (start < place) × IsUnconditional g (get_or items start 0) ×
       (get_or items start 0 < item_count g)
-  pub before : (g : Graph) (tables : List NodeTable) (lasts : ℕ → Scenario → ℕ) → AreCourses lasts g tables courses → Holds g tables Rule.Present → (i j : ℕ) → i < j → j < place →
+  pub before : (g : Graph) (tables : List NodeTable) (lasts : ℕ → Scenario → ℕ) → AreCourses lasts g tables courses →
+      Holds g tables Rule.Present → (i j : ℕ) → i < j → j < place →
       IsOver lasts g tables (get_or items i 0) (get_or items j 0)
 
-pub turn_step : (courses : Courses) (items : List ℕ) (place start next : ℕ) (b : Bool) → next ≡ cond b place start → place < length items
-    → ((g : Graph) (tables : List NodeTable) (lasts : ℕ → Scenario → ℕ) → AreCourses lasts g tables courses → b ≡ true → IsUnconditional g (get_or items place 0) ×
+pub turn_step : (courses : Courses) (items : List ℕ) (place start next : ℕ) (b : Bool) → next ≡ cond b place start →
+    place < length items
+    → ((g : Graph) (tables : List NodeTable) (lasts : ℕ → Scenario → ℕ) → AreCourses lasts g tables courses → b ≡ true →
+    IsUnconditional g (get_or items place 0) ×
     (get_or items place 0 < item_count g))
     → ((g : Graph) (tables : List NodeTable) (lasts : ℕ → Scenario → ℕ) → AreCourses lasts g tables courses →
     All (λ y. IsOver lasts g tables y (get_or items place 0)) (take (place - start) (drop start items)))
@@ -249,7 +317,8 @@ pub turn_step : (courses : Courses) (items : List ℕ) (place start next : ℕ) 
 turn_step courses items place start next b is there here over now = record {
   within = within b is;
   always = λ g tables lasts are some. always g tables lasts are b is some (here g tables lasts are);
-  before = λ g tables lasts are present. in_turn_more g tables present lasts items place start there now.within (now.always g tables lasts are) (over g tables lasts are)
+  before = λ g tables lasts are present. in_turn_more g tables present lasts items place start there now.within
+      (now.always g tables lasts are) (over g tables lasts are)
       (now.before g tables lasts are present);
 }
   where
@@ -257,34 +326,52 @@ turn_step courses items place start next b is there here over now = record {
     within true e = omega (arith, e)
     within false e = omega (arith, e, now.within)
 
-    always : (g : Graph) (tables : List NodeTable) (lasts : ℕ → Scenario → ℕ) → AreCourses lasts g tables courses → (b : Bool) → next ≡ cond b place start → 0 < next
-        → (b ≡ true → IsUnconditional g (get_or items place 0) × (get_or items place 0 < item_count g)) → (next < place + 1) × IsUnconditional g (get_or items next 0) ×
+    always : (g : Graph) (tables : List NodeTable) (lasts : ℕ → Scenario → ℕ) → AreCourses lasts g tables courses →
+        (b : Bool) → next ≡ cond b place start → 0 < next
+        → (b ≡ true → IsUnconditional g (get_or items place 0) × (get_or items place 0 < item_count g)) →
+        (next < place + 1) × IsUnconditional g (get_or items next 0) ×
         (get_or items next 0 < item_count g)
-    always g tables lasts are true e some h = let is = h refl in
-        (omega (arith, e), subst (λ n. IsUnconditional g (get_or items n 0)) (sym e) is.0, subst (λ n. get_or items n 0 < item_count g) (sym e) is.1)
+    always g tables lasts are true e some h = let is = h refl in (
+      omega (arith, e),
+      subst (λ n. IsUnconditional g (get_or items n 0)) (sym e) is.0,
+      subst (λ n. get_or items n 0 < item_count g) (sym e) is.1,
+    )
     always g tables lasts are false e some h =
-        let old = now.always g tables lasts are (omega (arith, e, some)) in
-        (omega (arith, e, old.0), subst (λ n. IsUnconditional g (get_or items n 0)) (sym e) old.1, subst (λ n. get_or items n 0 < item_count g) (sym e) old.2)
+        let old = now.always g tables lasts are (omega (arith, e, some)) in (
+          omega (arith, e, old.0),
+          subst (λ n. IsUnconditional g (get_or items n 0)) (sym e) old.1,
+          subst (λ n. get_or items n 0 < item_count g) (sym e) old.2,
+        )
 
 -- ---- what an order tells
 
 -- an item that stands before another in an order in which all follow one another is over before it
-pub before_in : (lasts : ℕ → Scenario → ℕ) (g : Graph) (tables : List NodeTable) (order : List ℕ) (x y : ℕ) → IsInTurn lasts g tables order → StandsBefore order x y → IsOver lasts g tables x y
+pub before_in : (lasts : ℕ → Scenario → ℕ) (g : Graph) (tables : List NodeTable) (order : List ℕ) (x y : ℕ) →
+    IsInTurn lasts g tables order → StandsBefore order x y →
+    IsOver lasts g tables x y
 before_in lasts g tables order x y all stands =
-    let over : IsOver lasts g tables (get_or order stands.from 0) (get_or order stands.to 0) = all stands.from stands.to stands.rising stands.there in
-    subst (λ a. IsOver lasts g tables a y) stands.is_first (subst (λ b. IsOver lasts g tables (get_or order stands.from 0) b) stands.is_second over)
+    let over : IsOver lasts g tables (get_or order stands.from 0) (get_or order stands.to 0) =
+    all stands.from stands.to stands.rising stands.there in
+    subst (λ a. IsOver lasts g tables a y) stands.is_first
+    (subst (λ b. IsOver lasts g tables (get_or order stands.from 0) b) stands.is_second over)
 
 -- an order is one of those that are known
-pub order_at : (lasts : ℕ → Scenario → ℕ) (g : Graph) (tables : List NodeTable) (orders list : List (Vec ℕ Global)) (node : ℕ) (order : Vec ℕ Global) →
+pub order_at : (lasts : ℕ → Scenario → ℕ) (g : Graph) (tables : List NodeTable) (orders list : List (Vec ℕ Global))
+    (node : ℕ) (order : Vec ℕ Global) →
     All (λ o. IsInTurn lasts g tables o.items) orders
     → list ≡ orders → node < length list → order ≡ get_or list node order → IsInTurn lasts g tables order.items
 order_at lasts g tables orders list node order all same l is =
-    subst (λ (o : Vec ℕ Global). IsInTurn lasts g tables o.items) (sym (is ∙ ap (λ (os : List (Vec ℕ Global)). get_or os node order) same)) (all node order (omega (arith, l, ap length same)))
+    subst (λ (o : Vec ℕ Global). IsInTurn lasts g tables o.items)
+    (sym (is ∙ ap (λ (os : List (Vec ℕ Global)). get_or os node order) same))
+    (all node order (omega (arith, l, ap length same)))
 
-pub orders_more : (lasts : ℕ → Scenario → ℕ) (g : Graph) (tables : List NodeTable) (orders : List (Vec ℕ Global)) (order : Vec ℕ Global) → All (λ o. IsInTurn lasts g tables o.items) orders →
+pub orders_more : (lasts : ℕ → Scenario → ℕ) (g : Graph) (tables : List NodeTable) (orders : List (Vec ℕ Global))
+    (order : Vec ℕ Global) →
+    All (λ o. IsInTurn lasts g tables o.items) orders →
     IsInTurn lasts g tables order.items
     → All (λ o. IsInTurn lasts g tables o.items) (orders ++ order ∷ [])
-orders_more lasts g tables orders order all here = All-push (λ (o : Vec ℕ Global). IsInTurn lasts g tables o.items) orders order all here
+orders_more lasts g tables orders order all here =
+    All-push (λ (o : Vec ℕ Global). IsInTurn lasts g tables o.items) orders order all here
 
 -- ---- what is left to compare
 
@@ -294,12 +381,16 @@ module _ (lasts : ℕ → Scenario → ℕ) (g : Graph) (tables : List NodeTable
   Known left y = Contains left y ⊎ IsApart lasts g tables y x
 
   -- one more that is left
-  pub known_push : (left items : List ℕ) (i : ℕ) → i < length items → All (Known left) (take i items) → All (Known (left ++ get_or items i 0 ∷ [])) (take (i + 1) items)
+  pub known_push : (left items : List ℕ) (i : ℕ) → i < length items → All (Known left) (take i items) →
+      All (Known (left ++ get_or items i 0 ∷ [])) (take (i + 1) items)
   known_push left items i l before = All-more (Known (left ++ get_or items i 0 ∷ [])) items i 0 l
-      (All-weaker (Known left) (Known (left ++ get_or items i 0 ∷ [])) (λ y k. elim k [ inl a ↦ inl (Contains-append_left left (get_or items i 0 ∷ []) y a) | inr a ↦ inr a ]) (take i items) before)
+      (All-weaker (Known left) (Known (left ++ get_or items i 0 ∷ []))
+      (λ y k. elim k [ inl a ↦ inl (Contains-append_left left (get_or items i 0 ∷ []) y a) | inr a ↦ inr a ])
+      (take i items) before)
       (inl (Contains-push left (get_or items i 0)))
 
   -- if all that are left are apart, all are
-  pub known_apart : (left items : List ℕ) → All (Known left) items → All (λ y. IsApart lasts g tables y x) left → All (λ y. IsApart lasts g tables y x) items
+  pub known_apart : (left items : List ℕ) → All (Known left) items → All (λ y. IsApart lasts g tables y x) left →
+      All (λ y. IsApart lasts g tables y x) items
   known_apart left items known apart = All-weaker (Known left) (λ y. IsApart lasts g tables y x)
       (λ y k. elim k [ inl a ↦ All-contains (λ y. IsApart lasts g tables y x) left y apart a | inr a ↦ a ]) items known

@@ -1,5 +1,6 @@
 -- What a node knows by the ends of its own processes.
-use Rattle.std.proofs.Common.{ℕ, zero, suc, replicate, true≢false, ◌+◌, ◌<◌, ◌≤◌, ◌≡◌, Bool, true, false, List, All, Contains, get_or, length, sym, ap, ◌∙◌, subst, arith, inl, inr, refl, le-leb}
+use Rattle.std.proofs.Common.{ℕ, zero, suc, replicate, true≢false, ◌+◌, ◌<◌, ◌≤◌, ◌≡◌, Bool, true, false, List, All}
+use Rattle.std.proofs.Common.{Contains, get_or, length, sym, ap, ◌∙◌, subst, arith, inl, inr, refl, le-leb}
 use Rattle.std.proofs.Common.{leb-true}
 use Rattle.std.specs.Bool.{OnTrue}
 use Rattle.std.specs.Prelude.{slice_set}
@@ -40,70 +41,100 @@ module _ (g : Graph) (tables : List NodeTable) (rules : AllHold g tables row_rul
       pub producer_ended : IsSure g tables Rule.Inputs x → IsEndedBy g tables (producer g x) x
       producer_ended sure s c law k m a =
           let at : get_or (columns_of tables x) k.0 c ≡ c = k.2 in
-          let none = sure_rule g tables s law x lx Rule.Inputs sure k.0 c k.1 (ap (λ (c : Column). matches c.cube s) at ∙ m) in
-          let here : breaks_inputs_of g tables s c.time (item_at g x) ≡ false = ap (λ (c : Column). breaks_inputs_of g tables s c.time (item_at g x)) (sym at) ∙ none in
+          let none =
+          sure_rule g tables s law x lx Rule.Inputs sure k.0 c k.1 (ap (λ (c : Column). matches c.cube s) at ∙ m) in
+          let here : breaks_inputs_of g tables s c.time (item_at g x) ≡ false =
+          ap (λ (c : Column). breaks_inputs_of g tables s c.time (item_at g x)) (sym at) ∙ none in
           not-false (is_by c.time (ends_of g tables s (producer g x))) (sym (waits g s x lx send tables c.time) ∙ here)
 
       -- what is always over before the producer has ended, too
-      pub earlier_ended : WellFormed g → (q : ℕ) → q < process_count g → IsBefore g tables q (producer g x) → IsSure g tables Rule.Inputs x → IsEndedBy g tables q x
+      pub earlier_ended : WellFormed g → (q : ℕ) → q < process_count g → IsBefore g tables q (producer g x) →
+          IsSure g tables Rule.Inputs x →
+          IsEndedBy g tables q x
       earlier_ended formed q l before sure s c law k m a =
           let p : ℕ = producer g x in
-          let ended = producer_ended sure s c law k m (made g s x lx send (active_where g tables s law x lx rules c k m)) in
+          let ended =
+          producer_ended sure s c law k m (made g s x lx send (active_where g tables s law x lx rules c k m)) in
           let d = by_parts tables p s (λ start. start + duration g p (fault_of s p)) c.time ended in
-          over_ended g tables rules s law c.time q l a (λ e h n. let over = before s d.0 law d.1 d.2 e h n in omega (arith, over, d.3))
+          over_ended g tables rules s law c.time q l a (λ e h n. let over = before s d.0 law d.1 d.2 e h n in
+          omega (arith, over, d.3))
 
-    module _ (few : process_count g ≤ 128) (c : Column) (l : Literal) (k : Contains (columns_of tables x) c) (h : IsToldIn c.cube l) where
+    module _ (few : process_count g ≤ 128) (c : Column) (l : Literal) (k : Contains (columns_of tables x) c)
+        (h : IsToldIn c.cube l) where
       -- the literal's process is active, and its number in range
-      active_here : (s : Scenario) → IsScenario g s → matches c.cube s ≡ true → active g s.values (process_of_variable g l.variable) ≡ true
-      active_here s law m = subst (λ v. active g s.values (process_of_variable g v) ≡ true) h.variable (literal_active g tables s law x lx rules c k m h.by h.there)
+      active_here : (s : Scenario) → IsScenario g s → matches c.cube s ≡ true →
+          active g s.values (process_of_variable g l.variable) ≡ true
+      active_here s law m = subst (λ v. active g s.values (process_of_variable g v) ≡ true) h.variable
+          (literal_active g tables s law x lx rules c k m h.by h.there)
 
       holds_here : (s : Scenario) → matches c.cube s ≡ true → holds s l ≡ true
       holds_here s m =
           let inside = and_parts _ _ (from_all (holds s) c.cube h.by m h.there) in
-          let from : h.by.low ≤ number_of s l.variable = subst (λ v. h.by.low ≤ number_of s v) h.variable (leb-true _ _ inside.0) in
-          let to : number_of s l.variable ≤ h.by.high = subst (λ v. number_of s v ≤ h.by.high) h.variable (leb-true _ _ inside.1) in
-          and_from _ _ (le-leb l.low (number_of s l.variable) (omega (arith, h.low, from))) (le-leb (number_of s l.variable) l.high (omega (arith, to, h.high)))
+          let from : h.by.low ≤ number_of s l.variable =
+          subst (λ v. h.by.low ≤ number_of s v) h.variable (leb-true _ _ inside.0) in
+          let to : number_of s l.variable ≤ h.by.high =
+          subst (λ v. number_of s v ≤ h.by.high) h.variable (leb-true _ _ inside.1) in
+          and_from _ _ (le-leb l.low (number_of s l.variable) (omega (arith, h.low, from)))
+          (le-leb (number_of s l.variable) l.high (omega (arith, to, h.high)))
 
       -- a literal on a variable of a process that has ended
       pub ended_heard : IsOwnEnded g tables x l.variable → IsHeardIn g tables (home g x) c l
       ended_heard own s law m =
-          let on : active g s.values own.process ≡ true = ap (active g s.values) (sym own.owner.owner) ∙ active_here s law m in
-          heard_end g tables (home g x) c.time s l own.process few own.owner.within own.near (own.ended s c law k m on) own.owner.known own.owner.owner (holds_here s m)
+          let on : active g s.values own.process ≡ true =
+          ap (active g s.values) (sym own.owner.owner) ∙ active_here s law m in
+          heard_end g tables (home g x) c.time s l own.process few own.owner.within own.near
+          (own.ended s c law k m on) own.owner.known own.owner.owner (holds_here s m)
 
       -- a literal on a variable of a process that is over when the column matches
-      pub over_heard : (s : Scenario) → IsScenario g s → matches c.cube s ≡ true → IsOwnOver g tables (home g x) l.variable c.time s → is_heard g.faults (facts g tables (home g x) s c.time) l ≡ true
+      pub over_heard : (s : Scenario) → IsScenario g s → matches c.cube s ≡ true →
+          IsOwnOver g tables (home g x) l.variable c.time s →
+          is_heard g.faults (facts g tables (home g x) s c.time) l ≡ true
       over_heard s law m own =
-          let on : active g s.values own.process ≡ true = ap (active g s.values) (sym own.owner.owner) ∙ active_here s law m in
+          let on : active g s.values own.process ≡ true =
+          ap (active g s.values) (sym own.owner.owner) ∙ active_here s law m in
           heard_end g tables (home g x) c.time s l own.process few own.owner.within own.near
-          (over_ended g tables rules s law c.time own.process own.owner.within on own.over) own.owner.known own.owner.owner (holds_here s m)
+          (over_ended g tables rules s law c.time own.process own.owner.within on own.over) own.owner.known
+          own.owner.owner (holds_here s m)
 
     -- if all literals are on variables of processes that have ended, the rule holds
     pub known_sure : process_count g ≤ 128 → (known : List Bool) → AreOwnEnded g tables x known →
-        All (λ (c : Column). All (λ (l : Literal). get_or known l.variable false ≡ true) c.cube) (columns_of tables x) → IsSure g tables Rule.Heard x
+        All (λ (c : Column). All (λ (l : Literal). get_or known l.variable false ≡ true) c.cube) (columns_of tables x) →
+        IsSure g tables Rule.Heard x
     known_sure few known own all = heard_sure g tables x (λ c l k h.
         let marked = All-contains (λ (l : Literal). get_or known l.variable false ≡ true) c.cube l
-        (All-contains (λ (c : Column). All (λ (l : Literal). get_or known l.variable false ≡ true) c.cube) (columns_of tables x) c all k) h in
-        ended_heard few c l k (record { by = l; there = h; variable = refl; low = omega arith; high = omega arith }) (own l.variable marked))
+        (All-contains (λ (c : Column). All (λ (l : Literal). get_or known l.variable false ≡ true) c.cube)
+        (columns_of tables x) c all k) h in
+        ended_heard few c l k (record { by = l; there = h; variable = refl; low = omega arith; high = omega arith })
+        (own l.variable marked))
 
     module _ (few : process_count g ≤ 128) (c : Column) (k : Contains (columns_of tables x) c) where
       -- a column's literal on such a variable
-      pub known_heard : (known : List Bool) → AreOwnEnded g tables x known → (l : Literal) → Contains c.cube l → get_or known l.variable false ≡ true → IsHeardIn g tables (home g x) c l
-      known_heard known own l h marked = ended_heard few c l k (record { by = l; there = h; variable = refl; low = omega arith; high = omega arith }) (own l.variable marked)
+      pub known_heard : (known : List Bool) → AreOwnEnded g tables x known → (l : Literal) → Contains c.cube l →
+          get_or known l.variable false ≡ true →
+          IsHeardIn g tables (home g x) c l
+      known_heard known own l h marked = ended_heard few c l k
+          (record { by = l; there = h; variable = refl; low = omega arith; high = omega arith }) (own l.variable marked)
 
       -- the wanted literals, if those that are left are on variables of processes that are over
-      pub left_heard : (wanted left : List Literal) → AreToldIn c.cube wanted → AreLeft g tables (home g x) c wanted left
-          → ((s : Scenario) → IsScenario g s → matches c.cube s ≡ true → All (λ (l : Literal). IsOwnOver g tables (home g x) l.variable c.time s) left)
+      pub left_heard : (wanted left : List Literal) → AreToldIn c.cube wanted →
+          AreLeft g tables (home g x) c wanted left
+          → ((s : Scenario) → IsScenario g s → matches c.cube s ≡ true →
+          All (λ (l : Literal). IsOwnOver g tables (home g x) l.variable c.time s) left)
           → (l : Literal) → Contains wanted l → IsHeardIn g tables (home g x) c l
       left_heard wanted left wider are over l h = elim (are.heard l h) [
-        | inl kept ↦ λ s law m. over_heard few c l k (wider l h) s law m (All-contains (λ (l : Literal). IsOwnOver g tables (home g x) l.variable c.time s) left l (over s law m) kept)
+        | inl kept ↦ λ s law m. over_heard few c l k (wider l h) s law m (All-contains
+            (λ (l : Literal). IsOwnOver g tables (home g x) l.variable c.time s) left l (over s law m) kept)
         | inr heard ↦ heard
       ]
 
 -- one variable more
-pub own_more : (g : Graph) (tables : List NodeTable) (x : ℕ) (known : List Bool) (k : ℕ) (b : Bool) → k < length known → AreOwnEnded g tables x known → OnTrue b (IsOwnEnded g tables x k) →
+pub own_more : (g : Graph) (tables : List NodeTable) (x : ℕ) (known : List Bool) (k : ℕ) (b : Bool) → k < length known →
+    AreOwnEnded g tables x known →
+    OnTrue b (IsOwnEnded g tables x k) →
     AreOwnEnded g tables x (slice_set known k b)
 own_more g tables x known k b within before here v t = elim (cases_eq v k) [
-  | inl same ↦ subst (IsOwnEnded g tables x) (sym same) (OnTrue_at (sym (get_or-set_same known k b false within) ∙ ap (λ j. get_or (slice_set known k b) j false) (sym same) ∙ t) here)
+  | inl same ↦ subst (IsOwnEnded g tables x) (sym same) (OnTrue_at (sym (get_or-set_same known k b false within)
+      ∙ ap (λ j. get_or (slice_set known k b) j false) (sym same) ∙ t) here)
   | inr other ↦ before v (sym (get_or-set_other known k v b false other) ∙ t)
 ]
 

@@ -1,5 +1,6 @@
 -- What frames that reach a node tell it.
-use Rattle.std.proofs.Common.{ℕ, ◌+◌, ◌<◌, ◌≤◌, ◌≡◌, ◌⊎◌, true, List, Option, None, Some, All, Contains, IfSome, get_or, length, refl, sym, ap, ◌∙◌, subst, arith, inl, inr, leb-true}
+use Rattle.std.proofs.Common.{ℕ, ◌+◌, ◌<◌, ◌≤◌, ◌≡◌, ◌⊎◌, true, List, Option, None, Some, All, Contains, IfSome, get_or}
+use Rattle.std.proofs.Common.{length, refl, sym, ap, ◌∙◌, subst, arith, inl, inr, leb-true}
 use Rattle.std.proofs.lemmas.Bool.{and_parts}
 use Rattle.std.proofs.lemmas.List.{get_or_default}
 use Rattle.std.proofs.lemmas.List.Elements.{All-contains, Contains-append_left, Contains-append_right, Contains-get_or}
@@ -19,46 +20,67 @@ use Rattle.cpg_check_quick.specs.Speakers.{AreToldIn, HasCome, IsSpeaker, IsTold
 use Rattle.cpg_check_quick.specs.declared.speakers.Speaker.{Speaker}
 use Rattle.cpg_check_quick.proofs.HeardLaws.{heard_frame}
 
-module _ {g : Graph} {tables : List NodeTable} {node : ℕ} {speaker : Speaker} (is : IsSpeaker g tables node speaker) (places : List ℕ) (c : Column) (l : Literal) (h : IsToldIn c.cube l) where
-  told_by : (s : Scenario) → IsScenario g s → matches c.cube s ≡ true → IsTold speaker.value speaker.columns.now places l → (o : Option ℕ) → place_at speaker.tree.now s ≡ o
-      → HasCome speaker.columns.now speaker.delay c.time o → IsAmong places o → is_heard g.faults (facts g tables node s c.time) l ≡ true
+module _ {g : Graph} {tables : List NodeTable} {node : ℕ} {speaker : Speaker} (is : IsSpeaker g tables node speaker)
+    (places : List ℕ) (c : Column) (l : Literal) (h : IsToldIn c.cube l) where
+  told_by : (s : Scenario) → IsScenario g s → matches c.cube s ≡ true →
+      IsTold speaker.value speaker.columns.now places l → (o : Option ℕ) →
+      place_at speaker.tree.now s ≡ o
+      → HasCome speaker.columns.now speaker.delay c.time o → IsAmong places o →
+      is_heard g.faults (facts g tables node s c.time) l ≡ true
   told_by s law m told None e come among = absurd among
   told_by s law m told (Some i) e come among =
       let d : Column = column_at (columns_of tables speaker.item) i in
       let there : i < length (columns_of tables speaker.item) = place_there is.tree s law i e in
       let match : matches d.cube s ≡ true = place_matches is.tree s law i e in
       let same : column_at speaker.columns.now i ≡ d = ap (λ columns. column_at columns i) is.columns in
-      let by : d.time + slot_length g (home g speaker.item) ≤ c.time = omega (arith, come, ap (λ (d : Column). d.time) same, is.delay) in
+      let by : d.time + slot_length g (home g speaker.item) ≤ c.time =
+      omega (arith, come, ap (λ (d : Column). d.time) same, is.delay) in
       let inside = and_parts _ _ (from_all (holds s) c.cube h.by m h.there) in
-      let from : h.by.low ≤ number_of s l.variable = subst (λ v. h.by.low ≤ number_of s v) h.variable (leb-true _ _ inside.0) in
-      let to : number_of s l.variable ≤ h.by.high = subst (λ v. number_of s v ≤ h.by.high) h.variable (leb-true _ _ inside.1) in
+      let from : h.by.low ≤ number_of s l.variable =
+      subst (λ v. h.by.low ≤ number_of s v) h.variable (leb-true _ _ inside.0) in
+      let to : number_of s l.variable ≤ h.by.high =
+      subst (λ v. number_of s v ≤ h.by.high) h.variable (leb-true _ _ inside.1) in
       elim told as (λ _. is_heard g.faults (facts g tables node s c.time) l ≡ true) [
         | inl value ↦
-            let carried : Contains (frame_value s (item_at g speaker.item)) (exactly l.variable (number_of s l.variable)) =
-            subst (λ o. IfSome o (λ v. (s : Scenario) → Contains (frame_value s (item_at g speaker.item)) (exactly v (number_of s v)))) value is.value s in
-            heard_frame g tables node c.time s l speaker.item d (exactly l.variable (number_of s l.variable)) is.item is.heard (Contains-get_or (columns_of tables speaker.item) i _ there) match by
-            (Contains-append_right d.cube (frame_value s (item_at g speaker.item)) _ carried) refl (omega (arith, h.low, from)) (omega (arith, to, h.high))
+            let carried : Contains (frame_value s (item_at g speaker.item))
+            (exactly l.variable (number_of s l.variable)) =
+            subst (λ o. IfSome o
+            (λ v. (s : Scenario) → Contains (frame_value s (item_at g speaker.item)) (exactly v (number_of s v))))
+            value is.value s in
+            heard_frame g tables node c.time s l speaker.item d (exactly l.variable (number_of s l.variable)) is.item
+            is.heard (Contains-get_or (columns_of tables speaker.item) i _ there) match by
+            (Contains-append_right d.cube (frame_value s (item_at g speaker.item)) _ carried) refl
+            (omega (arith, h.low, from)) (omega (arith, to, h.high))
         | inr all ↦
-            let at : IsToldIn d.cube l = subst (λ (d : Column). IsToldIn d.cube l) same (All-contains (λ i. IsToldIn (column_at speaker.columns.now i).cube l) places i all among) in
-            heard_frame g tables node c.time s l speaker.item d at.by is.item is.heard (Contains-get_or (columns_of tables speaker.item) i _ there) match by
-            (Contains-append_left d.cube (frame_value s (item_at g speaker.item)) at.by at.there) at.variable at.low at.high
+            let at : IsToldIn d.cube l = subst (λ (d : Column). IsToldIn d.cube l) same
+            (All-contains (λ i. IsToldIn (column_at speaker.columns.now i).cube l) places i all among) in
+            heard_frame g tables node c.time s l speaker.item d at.by is.item is.heard
+            (Contains-get_or (columns_of tables speaker.item) i _ there) match by
+            (Contains-append_left d.cube (frame_value s (item_at g speaker.item)) at.by at.there)
+            at.variable at.low at.high
       ]
 
   -- a literal is heard that the frames tell which have come wherever a column matches
-  pub speaker_heard : ((s : Scenario) → IsScenario g s → matches c.cube s ≡ true → HasCome speaker.columns.now speaker.delay c.time (place_at speaker.tree.now s) ×
+  pub speaker_heard : ((s : Scenario) → IsScenario g s → matches c.cube s ≡ true →
+      HasCome speaker.columns.now speaker.delay c.time (place_at speaker.tree.now s) ×
       IsAmong places (place_at speaker.tree.now s))
       → IsTold speaker.value speaker.columns.now places l → IsHeardIn g tables node c l
-  speaker_heard found told s law m = let r = found s law m in told_by s law m told (place_at speaker.tree.now s) refl r.0 r.1
+  speaker_heard found told s law m = let r = found s law m in
+      told_by s law m told (place_at speaker.tree.now s) refl r.0 r.1
 
 -- the wanted literals that the frames don't tell
-module _ {g : Graph} {tables : List NodeTable} {node : ℕ} {speaker : Speaker} (is : IsSpeaker g tables node speaker) (places : List ℕ) (c : Column) (wanted left : List Literal)
+module _ {g : Graph} {tables : List NodeTable} {node : ℕ} {speaker : Speaker} (is : IsSpeaker g tables node speaker)
+    (places : List ℕ) (c : Column) (wanted left : List Literal)
     (wider : AreToldIn c.cube wanted) where
-  pub left_untold : ((l : Literal) → Contains left l → Contains wanted l) → ((l : Literal) → Contains wanted l → Contains left l ⊎ IsTold speaker.value speaker.columns.now places l)
-      → ((s : Scenario) → IsScenario g s → matches c.cube s ≡ true → HasCome speaker.columns.now speaker.delay c.time (place_at speaker.tree.now s) × IsAmong places (place_at speaker.tree.now s))
+  pub left_untold : ((l : Literal) → Contains left l → Contains wanted l) →
+      ((l : Literal) → Contains wanted l → Contains left l ⊎ IsTold speaker.value speaker.columns.now places l)
+      → ((s : Scenario) → IsScenario g s → matches c.cube s ≡ true → HasCome speaker.columns.now speaker.delay c.time
+      (place_at speaker.tree.now s) × IsAmong places (place_at speaker.tree.now s))
       → AreLeft g tables node c wanted left
   left_untold among told found = record {
     among = among;
-    heard = λ l h. elim (told l h) [ inl kept ↦ inl kept | inr by ↦ inr (speaker_heard is places c l (wider l h) found by) ];
+    heard = λ l h.
+        elim (told l h) [ inl kept ↦ inl kept | inr by ↦ inr (speaker_heard is places c l (wider l h) found by) ];
   }
 
 module _ (g : Graph) (tables : List NodeTable) (node : ℕ) (c : Column) where
@@ -67,18 +89,24 @@ module _ (g : Graph) (tables : List NodeTable) (node : ℕ) (c : Column) where
   left_first wanted = record { among = λ l h. h; heard = λ l h. inl h }
 
   -- what is left of those that are left is left of all
-  pub left_more : (wanted left next : List Literal) → AreLeft g tables node c wanted left → AreLeft g tables node c left next → AreLeft g tables node c wanted next
+  pub left_more : (wanted left next : List Literal) → AreLeft g tables node c wanted left →
+      AreLeft g tables node c left next →
+      AreLeft g tables node c wanted next
   left_more wanted left next before here = record {
     among = λ l h. before.among l (here.among l h);
     heard = λ l h. elim (before.heard l h) [ inl kept ↦ here.heard l kept | inr heard ↦ inr heard ];
   }
 
 -- the column at the only place is that at all
-pub only_place : (columns : List Column) (places : List ℕ) (c : Column) → length places ≡ 1 → column_at columns (get_or places 0 0) ≡ c → All (λ i. column_at columns i ≡ c) places
-only_place columns places c one is k d l = subst (λ i. column_at columns i ≡ c) (get_or_default places 0 0 d (omega (arith, one)) ∙ ap (λ j. get_or places j d) (omega (arith, l, one))) is
+pub only_place : (columns : List Column) (places : List ℕ) (c : Column) → length places ≡ 1 →
+    column_at columns (get_or places 0 0) ≡ c →
+    All (λ i. column_at columns i ≡ c) places
+only_place columns places c one is k d l = subst (λ i. column_at columns i ≡ c)
+    (get_or_default places 0 0 d (omega (arith, one)) ∙ ap (λ j. get_or places j d) (omega (arith, l, one))) is
 
 -- what the frames of the column at all places tell
-pub told_alone : {value : Option ℕ} (columns : List Column) (places : List ℕ) (c : Column) (l : Literal) → All (λ i. column_at columns i ≡ c) places
+pub told_alone : {value : Option ℕ} (columns : List Column) (places : List ℕ) (c : Column) (l : Literal) →
+    All (λ i. column_at columns i ≡ c) places
     → (value ≡ Some l.variable) ⊎ IsToldIn c.cube l → IsTold value columns places l
 told_alone columns places c l all h = elim h [
   | inl value ↦ inl value

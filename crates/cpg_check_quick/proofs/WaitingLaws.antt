@@ -9,7 +9,12 @@ use Rattle.cpg_check_quick.specs.Order.{IsOverBy, execution, frame}
 use Rattle.cpg_check_quick.specs.declared.course.Course.{Course}
 
 -- what is over of each item that a row may be of is over of the input
-pub input_over : {g : Graph} {tables : List NodeTable} {e : ℕ} {course : Course} → IsInputCourse g tables e course → (time : ℕ) (s : Scenario)
-    → ((lasts : Scenario → ℕ) (x : ℕ) → IsCourse g tables lasts x course → IsOverBy tables (lasts s) x time s) → IsInputOver g tables e time s
+pub input_over : {g : Graph} {tables : List NodeTable} {e : ℕ} {course : Course} → IsInputCourse g tables e course →
+    (time : ℕ) (s : Scenario)
+    → ((lasts : Scenario → ℕ) (x : ℕ) → IsCourse g tables lasts x course → IsOverBy tables (lasts s) x time s) →
+    IsInputOver g tables e time s
 input_over {g = g} {e = e} of time s over =
-    record { message = λ m. over (frame g (message_item g e)) (message_item g e) (of.message m); source = λ m. over (execution g (source g e)) (source g e) (of.source m) }
+    record {
+      message = λ m. over (frame g (message_item g e)) (message_item g e) (of.message m);
+      source = λ m. over (execution g (source g e)) (source g e) (of.source m);
+    }

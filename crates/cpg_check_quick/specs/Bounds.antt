@@ -5,11 +5,13 @@ use Rattle.cpg_cube.specs.declared.literal.Literal.{Literal}
 
 -- the low, if it isn't 0
 abbrev pub low_of : ℕ → Literal → List Literal
-low_of k l = if l.low == 0 then [] else record { variable = l.variable; low = l.low; high = max l.high (top k l.variable) } ∷ []
+low_of k l = if l.low == 0 then []
+    else record { variable = l.variable; low = l.low; high = max l.high (top k l.variable) } ∷ []
 
 -- the high, if the variable may be above it in scenarios of at most k faults
 abbrev pub high_of : ℕ → Literal → List Literal
-high_of k l = if nat_le (top k l.variable) l.high then [] else record { variable = l.variable; low = 0; high = l.high } ∷ []
+high_of k l = if nat_le (top k l.variable) l.high then []
+    else record { variable = l.variable; low = 0; high = l.high } ∷ []
 
 -- both
 abbrev pub bounds_of : ℕ → Literal → List Literal

@@ -13,9 +13,11 @@ use Rattle.cpg_check_quick.specs.declared.span.ItemSpan.{ItemSpan}
 use Rattle.cpg_check_quick.specs.declared.course.Course.{Course}
 use Rattle.cpg_check_quick.specs.declared.course.Courses.{Courses}
 
--- for each number that the variable has at most, the item lasts no longer than the length of that number, nor than the longest
+-- for each number that the variable has at most, the item lasts no longer than the length of that number, nor than the
+-- longest
 pub record IsSpan (g : Graph) (lasts : Scenario → ℕ) (span : ItemSpan) : Type 0 where
-  pub enough : (s : Scenario) (n : ℕ) → IsScenario g s → number_of s span.variable ≤ n → n ≤ MOST_FAULTS → lasts s ≤ get_or span.lengths n 0
+  pub enough : (s : Scenario) (n : ℕ) → IsScenario g s → number_of s span.variable ≤ n → n ≤ MOST_FAULTS →
+      lasts s ≤ get_or span.lengths n 0
   pub longest : (s : Scenario) → IsScenario g s → lasts s ≤ span.longest
 
 -- what starts at a time is over by another, with a length of a number that the variable has at most
@@ -27,10 +29,12 @@ pub record IsPast (span : ItemSpan) (start time : ℕ) (s : Scenario) : Type 0 w
 
 -- an item is over by a time: by its last column, or from that at a place, if there is one
 abbrev pub IsOverAt : Course → ℕ → Option ℕ → Scenario → Type 0
-IsOverAt course time place s = (course.last + course.span.longest ≤ time) ⊎ IfSome place (λ i. IsPast course.span (column_at course.columns.now i).time time s)
+IsOverAt course time place s = (course.last + course.span.longest ≤ time) ⊎
+    IfSome place (λ i. IsPast course.span (column_at course.columns.now i).time time s)
 
 -- the columns of an item, their tree, the range of their times, how long it lasts, and whether it is always active
-pub record IsCourse (g : Graph) (tables : List NodeTable) (lasts : Scenario → ℕ) (x : ℕ) (course : Course) : Type 0 where
+pub record IsCourse (g : Graph) (tables : List NodeTable) (lasts : Scenario → ℕ) (x : ℕ)
+    (course : Course) : Type 0 where
   pub item : x < item_count g
   pub columns : course.columns.now ≡ columns_of tables x
   pub tree : IfSome course.tree.now (IsRowTree g (columns_of tables x))
@@ -44,6 +48,8 @@ pub record HasAll (g : Graph) (space : Space) : Type 0 where
   pub lies : (s : Scenario) → IsScenario g s → IsInSpace space s
 
 -- the courses of the first items, and a space of all scenarios
-pub record AreCourses (lasts : ℕ → Scenario → ℕ) (g : Graph) (tables : List NodeTable) (courses : Courses) : Type 0 where
+pub record AreCourses (lasts : ℕ → Scenario → ℕ) (g : Graph) (tables : List NodeTable)
+    (courses : Courses) : Type 0 where
   pub everywhere : HasAll g courses.everywhere
-  pub each : (x : ℕ) (d : Course) → x < length courses.list.items → IsCourse g tables (lasts x) x (get_or courses.list.items x d)
+  pub each : (x : ℕ) (d : Course) → x < length courses.list.items →
+      IsCourse g tables (lasts x) x (get_or courses.list.items x d)

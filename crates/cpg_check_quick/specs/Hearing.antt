@@ -13,10 +13,12 @@ use Rattle.cpg_check_quick.specs.Order.{IsOverBy, execution}
 
 -- wherever a column matches, a node has heard a literal by its time
 abbrev pub IsHeardIn : Graph → List NodeTable → ℕ → Column → Literal → Type 0
-IsHeardIn g tables node c l = (s : Scenario) → IsScenario g s → matches c.cube s ≡ true → is_heard g.faults (facts g tables node s c.time) l ≡ true
+IsHeardIn g tables node c l = (s : Scenario) → IsScenario g s → matches c.cube s ≡ true →
+    is_heard g.faults (facts g tables node s c.time) l ≡ true
 
 -- wherever a column matches, a node has heard each of some literals by its time that isn't among those that are left
-pub record AreLeft (g : Graph) (tables : List NodeTable) (node : ℕ) (c : Column) (wanted left : List Literal) : Type 0 where
+pub record AreLeft (g : Graph) (tables : List NodeTable) (node : ℕ) (c : Column)
+    (wanted left : List Literal) : Type 0 where
   pub among : (l : Literal) → Contains left l → Contains wanted l
   pub heard : (l : Literal) → Contains wanted l → Contains left l ⊎ IsHeardIn g tables node c l
 
@@ -32,7 +34,8 @@ pub record IsOwner (g : Graph) (v p : ℕ) : Type 0 where
 
 -- wherever a column of an item matches and a process is active, it has ended by the column's time
 abbrev pub IsEndedBy : Graph → List NodeTable → ℕ → ℕ → Type 0
-IsEndedBy g tables q x = (s : Scenario) (c : Column) → IsScenario g s → Contains (columns_of tables x) c → matches c.cube s ≡ true →
+IsEndedBy g tables q x =
+    (s : Scenario) (c : Column) → IsScenario g s → Contains (columns_of tables x) c → matches c.cube s ≡ true →
     active g s.values q ≡ true → is_by c.time (ends_of g tables s q) ≡ true
 
 -- a variable of a process on the item's node that has always ended by the item's columns

@@ -16,7 +16,8 @@ use Rattle.cpg_check_quick.specs.declared.waiting.Waiting.{Waiting}
 
 -- wherever a column matches and an input is live, it is there by the column's time
 abbrev pub IsInputThere : Graph → List NodeTable → Column → ℕ → Type 0
-IsInputThere g tables c e = (s : Scenario) → IsScenario g s → matches c.cube s ≡ true → live g s.values e ≡ true → input_is_there g tables s c.time e ≡ true
+IsInputThere g tables c e = (s : Scenario) → IsScenario g s → matches c.cube s ≡ true → live g s.values e ≡ true →
+    input_is_there g tables s c.time e ≡ true
 
 -- what an input comes from, a message or an execution on the same node, is over by a time
 pub record IsInputOver (g : Graph) (tables : List NodeTable) (e time : ℕ) (s : Scenario) : Type 0 where

@@ -8,7 +8,8 @@ use Rattle.cpg_check_quick.specs.Speakers.{IsSpeaker}
 use Rattle.cpg_check_quick.specs.Turns.{AreTurns}
 use Rattle.cpg_check_quick.specs.declared.listening.Listener.{Listener}
 
--- the executions of the graph, the item's node, variables of own processes that have always ended, and what the node hears
+-- the executions of the graph, the item's node, variables of own processes that have always ended, and what the node
+-- hears
 pub record IsListener (tables : List NodeTable) (x : ℕ) (listener : Listener) : Type 0 where
   pub item : x < item_count listener.admitted.now.graph
   pub turns : AreTurns (execution listener.admitted.now.graph) listener.admitted.now.graph tables listener.turns.now

@@ -10,26 +10,31 @@ use Rattle.cpg_cube.specs.Column.{Column}
 
 -- from each column of an item that matches, what lasts so long is over by the time
 abbrev pub IsOverBy : List NodeTable → ℕ → ℕ → ℕ → Scenario → Type 0
-IsOverBy tables lasts y time s = (d : Column) → Contains (columns_of tables y) d → matches d.cube s ≡ true → d.time + lasts ≤ time
+IsOverBy tables lasts y time s =
+    (d : Column) → Contains (columns_of tables y) d → matches d.cube s ≡ true → d.time + lasts ≤ time
 
 -- wherever a column of each matches, the first item, with how long it lasts, is over by the second's time
 abbrev pub IsOver : (ℕ → Scenario → ℕ) → Graph → List NodeTable → ℕ → ℕ → Type 0
-IsOver lasts g tables y x = (s : Scenario) (c : Column) → IsScenario g s → Contains (columns_of tables x) c → matches c.cube s ≡ true →
+IsOver lasts g tables y x =
+    (s : Scenario) (c : Column) → IsScenario g s → Contains (columns_of tables x) c → matches c.cube s ≡ true →
     IsOverBy tables (lasts y s) y c.time s
 
--- for each column of an item that matches, the item is over by the time, or what is at that time is over by the column's
+-- for each column of an item that matches, the item is over by the time, or what is at that time is over by the
+-- column's
 abbrev pub IsApartAt : List NodeTable → ℕ → ℕ → ℕ → ℕ → Scenario → Type 0
 IsApartAt tables lasts y other time s = (d : Column) → Contains (columns_of tables y) d → matches d.cube s ≡ true →
     (d.time + lasts ≤ time) ⊎ (time + other ≤ d.time)
 
 -- wherever a column of each matches, one of the two items is over by the other's time
 abbrev pub IsApart : (ℕ → Scenario → ℕ) → Graph → List NodeTable → ℕ → ℕ → Type 0
-IsApart lasts g tables y x = (s : Scenario) (c : Column) → IsScenario g s → Contains (columns_of tables x) c → matches c.cube s ≡ true →
+IsApart lasts g tables y x =
+    (s : Scenario) (c : Column) → IsScenario g s → Contains (columns_of tables x) c → matches c.cube s ≡ true →
     IsApartAt tables (lasts y s) y (lasts x s) c.time s
 
 -- each of these items is over before each later one
 abbrev pub IsInTurn : (ℕ → Scenario → ℕ) → Graph → List NodeTable → List ℕ → Type 0
-IsInTurn lasts g tables items = (i j : ℕ) → i < j → j < length items → IsOver lasts g tables (get_or items i 0) (get_or items j 0)
+IsInTurn lasts g tables items =
+    (i j : ℕ) → i < j → j < length items → IsOver lasts g tables (get_or items i 0) (get_or items j 0)
 
 -- one item stands before another in an order
 pub record StandsBefore (order : List ℕ) (first second : ℕ) : Type 0 where

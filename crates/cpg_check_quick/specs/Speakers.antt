@@ -10,14 +10,16 @@ use Rattle.cpg_cube.specs.Column.{Column, column_at}
 use Rattle.cpg_row_trees.specs.Trees.{IsRowTree}
 use Rattle.cpg_check_quick.specs.declared.speakers.Speaker.{Speaker}
 
--- an item that a node hears: its columns, their tree, how long its frames take, and the variable of the value that they carry
+-- an item that a node hears: its columns, their tree, how long its frames take, and the variable of the value that they
+-- carry
 pub record IsSpeaker (g : Graph) (tables : List NodeTable) (node : ℕ) (speaker : Speaker) : Type 0 where
   pub item : speaker.item < item_count g
   pub heard : is_heard_by g node (item_at g speaker.item) ≡ true
   pub columns : speaker.columns.now ≡ columns_of tables speaker.item
   pub tree : IsRowTree g (columns_of tables speaker.item) speaker.tree.now
   pub delay : speaker.delay ≡ slot_length g (home g speaker.item)
-  pub value : IfSome speaker.value (λ v. (s : Scenario) → Contains (frame_value s (item_at g speaker.item)) (exactly v (number_of s v)))
+  pub value : IfSome speaker.value
+      (λ v. (s : Scenario) → Contains (frame_value s (item_at g speaker.item)) (exactly v (number_of s v)))
 
 -- there is a place, and the frame of its column has come by a time
 abbrev pub HasCome : List Column → ℕ → ℕ → Option ℕ → Type 0

@@ -1,5 +1,6 @@
 -- The least scenario in which an item, or the process of a literal, is inactive.
-use Rattle.std.proofs.Common.{ℕ, ◌≡◌, ◌<◌, Bool, true, false, not, ◌&&◌, ◌||◌, List, [], get_or, Option, refl, sym, ap, ◌∙◌}
+use Rattle.std.proofs.Common.{ℕ, ◌≡◌, ◌<◌, Bool, true, false, not, ◌&&◌, ◌||◌, List, [], get_or, Option, refl, sym, ap}
+use Rattle.std.proofs.Common.{◌∙◌}
 use Rattle.std.specs.Prelude.{IfOk, Result}
 use Rattle.std.proofs.Math.Bool.{and_comm}
 use Rattle.std.proofs.lemmas.Result.{IfOk-weaker}
@@ -33,65 +34,93 @@ other_bool false true = refl
 other_bool false false = refl
 
 -- the other value's literal holds if the value isn't there
-pub other_holds : (s : Scenario) (c : ℕ) (v : Bool) → holds s (value_literal c (not v)) ≡ not (same_bool v (get_or s.values c false))
+pub other_holds : (s : Scenario) (c : ℕ) (v : Bool) →
+    holds s (value_literal c (not v)) ≡ not (same_bool v (get_or s.values c false))
 other_holds s c v = value_holds s c (not v) ∙ other_bool v (get_or s.values c false)
 
 -- a process isn't active if its tree comes to no activation
-pub idle_found : {g : Graph} {order : List ℕ} {guards : Guards} → IsAdmitted g order guards → (cube : List Literal) (p : ℕ) → p < process_count g → (o : Option Scenario)
-    → IsFirst g order (λ s. is_left [] cube s && comes_to (tree_of guards p) false s) o → IsFirst g order (λ s. matches cube s && not (active g s.values p)) o
-idle_found {g} {order} {guards} a cube p l o f = first_same g order (λ s. is_left [] cube s && comes_to (tree_of guards p) false s) (λ s. matches cube s && not (active g s.values p)) o
+pub idle_found : {g : Graph} {order : List ℕ} {guards : Guards} → IsAdmitted g order guards →
+    (cube : List Literal) (p : ℕ) → p < process_count g →
+    (o : Option Scenario)
+    → IsFirst g order (λ s. is_left [] cube s && comes_to (tree_of guards p) false s) o →
+    IsFirst g order (λ s. matches cube s && not (active g s.values p)) o
+idle_found {g} {order} {guards} a cube p l o f = first_same g order
+    (λ s. is_left [] cube s && comes_to (tree_of guards p) false s) (λ s. matches cube s && not (active g s.values p)) o
     (λ s i. ap (λ b. b && comes_to (tree_of guards p) false s) (sym (with_true (matches cube s) true refl))
-    ∙ ap (λ b. matches cube s && b) (same_false (is_active (outcome_at (tree_of guards p) s.values)) ∙ ap (λ t. not (is_active t)) ((a.guards.trees p l).is s.values i.values))) f
+    ∙ ap (λ b. matches cube s && b) (same_false (is_active (outcome_at (tree_of guards p) s.values))
+    ∙ ap (λ t. not (is_active t)) ((a.guards.trees p l).is s.values i.values))) f
 
 module _ (g : Graph) (order : List ℕ) (cube : List Literal) where
   -- the first scenario of the part of the cube in which a literal holds
-  pub with_part : (l : Literal) (part : List Literal) (o : Option Scenario) → ((s : Scenario) → matches part s ≡ (holds s l && matches cube s)) → IsFirst g order (matches part) o →
+  pub with_part : (l : Literal) (part : List Literal) (o : Option Scenario) →
+      ((s : Scenario) → matches part s ≡ (holds s l && matches cube s)) →
+      IsFirst g order (matches part) o →
       IsFirst g order (λ s. matches cube s && holds s l) o
-  with_part l part o both f = first_same g order (matches part) (λ s. matches cube s && holds s l) o (λ s _. both s ∙ and_comm (holds s l) (matches cube s)) f
+  with_part l part o both f = first_same g order (matches part) (λ s. matches cube s && holds s l) o
+      (λ s _. both s ∙ and_comm (holds s l) (matches cube s)) f
 
-  pub with_none : (l : Literal) → ((s : Scenario) → (holds s l && matches cube s) ≡ false) → (s : Scenario) → IsScenario g s → (matches cube s && holds s l) ≡ false
+  pub with_none : (l : Literal) → ((s : Scenario) → (holds s l && matches cube s) ≡ false) → (s : Scenario) →
+      IsScenario g s →
+      (matches cube s && holds s l) ≡ false
   with_none l none s i = and_comm (matches cube s) (holds s l) ∙ none s
 
   -- what is inactive together
-  pub inactive_same : (a b : Scenario → Bool) (o : Option Scenario) → ((s : Scenario) → IsScenario g s → b s ≡ a s) → IsFirst g order (λ s. matches cube s && not (a s)) o →
+  pub inactive_same : (a b : Scenario → Bool) (o : Option Scenario) → ((s : Scenario) → IsScenario g s → b s ≡ a s) →
+      IsFirst g order (λ s. matches cube s && not (a s)) o →
       IsFirst g order (λ s. matches cube s && not (b s)) o
-  inactive_same a b o is f = first_same g order (λ s. matches cube s && not (a s)) (λ s. matches cube s && not (b s)) o (λ s i. ap (λ t. matches cube s && not t) (sym (is s i))) f
+  inactive_same a b o is f = first_same g order (λ s. matches cube s && not (a s)) (λ s. matches cube s && not (b s)) o
+      (λ s i. ap (λ t. matches cube s && not t) (sym (is s i))) f
 
   -- what is never active
-  pub inactive_always : (b : Scenario → Bool) (o : Option Scenario) → ((s : Scenario) → IsScenario g s → b s ≡ false) → IsFirst g order (matches cube) o →
+  pub inactive_always : (b : Scenario → Bool) (o : Option Scenario) → ((s : Scenario) → IsScenario g s → b s ≡ false) →
+      IsFirst g order (matches cube) o →
       IsFirst g order (λ s. matches cube s && not (b s)) o
   inactive_always b o off f = first_same g order (matches cube) (λ s. matches cube s && not (b s)) o
       (λ s i. sym (ap (λ t. matches cube s && not t) (off s i) ∙ sym (with_true (matches cube s) true refl))) f
 
   -- an edge that asks for no value
-  pub unlive_idle : (source_active passed whole : Scenario → Bool) (o : Option Scenario) → ((s : Scenario) → IsScenario g s → whole s ≡ (source_active s && passed s)) →
+  pub unlive_idle : (source_active passed whole : Scenario → Bool) (o : Option Scenario) →
+      ((s : Scenario) → IsScenario g s → whole s ≡ (source_active s && passed s)) →
       ((s : Scenario) → passed s ≡ true)
-      → IsFirst g order (λ s. matches cube s && not (source_active s)) o → IsFirst g order (λ s. matches cube s && not (whole s)) o
-  unlive_idle source_active passed whole o is all f = inactive_same source_active whole o (λ s i. is s i ∙ ap (λ b. source_active s && b) (all s) ∙ sym (with_true (source_active s) true refl)) f
+      → IsFirst g order (λ s. matches cube s && not (source_active s)) o →
+      IsFirst g order (λ s. matches cube s && not (whole s)) o
+  unlive_idle source_active passed whole o is all f = inactive_same source_active whole o
+      (λ s i. is s i ∙ ap (λ b. source_active s && b) (all s) ∙ sym (with_true (source_active s) true refl)) f
 
   -- an edge that asks for a value
-  pub unlive_either : (source_active passed whole : Scenario → Bool) (l : Literal) (a b : Option Scenario) → ((s : Scenario) → IsScenario g s → whole s ≡ (source_active s && passed s)) →
+  pub unlive_either : (source_active passed whole : Scenario → Bool) (l : Literal) (a b : Option Scenario) →
+      ((s : Scenario) → IsScenario g s → whole s ≡ (source_active s && passed s)) →
       ((s : Scenario) → holds s l ≡ not (passed s))
-      → IsFirst g order (λ s. matches cube s && not (source_active s)) a → IsFirst g order (λ s. matches cube s && holds s l) b →
+      → IsFirst g order (λ s. matches cube s && not (source_active s)) a →
+      IsFirst g order (λ s. matches cube s && holds s l) b →
       IsFirst g order (λ s. matches cube s && not (whole s)) (earlier g order a b)
-  unlive_either source_active passed whole l a b is other f h = first_same g order (λ s. matches cube s && (not (source_active s) || holds s l)) (λ s. matches cube s && not (whole s))
+  unlive_either source_active passed whole l a b is other f h = first_same g order
+      (λ s. matches cube s && (not (source_active s) || holds s l)) (λ s. matches cube s && not (whole s))
       (earlier g order a b)
-      (λ s i. ap (λ t. matches cube s && (not (source_active s) || t)) (other s) ∙ ap (λ t. matches cube s && t) (not_both (source_active s) (passed s) ∙ ap not (sym (is s i))))
+      (λ s i. ap (λ t. matches cube s && (not (source_active s) || t)) (other s)
+      ∙ ap (λ t. matches cube s && t) (not_both (source_active s) (passed s) ∙ ap not (sym (is s i))))
       (first_either g order (matches cube) (λ s. not (source_active s)) (λ s. holds s l) a b f h)
 
   -- an item is active as its source is
-  pub inactive_as : {E : Type 0} (x : ℕ) (source : ItemSource) → ((values : List Bool) → item_active g values (item_at g x) ≡ is_active_by g values source) → (r : Result (Option Scenario) E)
-      → IfOk r (IsFirst g order (λ s. matches cube s && not (is_active_by g s.values source))) → IfOk r (IsFirst g order (λ s. matches cube s && not (item_active g s.values (item_at g x))))
+  pub inactive_as : {E : Type 0} (x : ℕ) (source : ItemSource) →
+      ((values : List Bool) → item_active g values (item_at g x) ≡ is_active_by g values source) →
+      (r : Result (Option Scenario) E)
+      → IfOk r (IsFirst g order (λ s. matches cube s && not (is_active_by g s.values source))) →
+      IfOk r (IsFirst g order (λ s. matches cube s && not (item_active g s.values (item_at g x))))
   inactive_as x source is r =
       let by_source = λ (s : Scenario). is_active_by g s.values source in
       let by_item = λ (s : Scenario). item_active g s.values (item_at g x) in
-      IfOk-weaker r (IsFirst g order (λ s. matches cube s && not (by_source s))) (IsFirst g order (λ s. matches cube s && not (by_item s)))
+      IfOk-weaker r (IsFirst g order (λ s. matches cube s && not (by_source s)))
+      (IsFirst g order (λ s. matches cube s && not (by_item s)))
       (λ o. inactive_same by_source by_item o (λ s i. is s.values))
 
   -- an item that nothing makes active
-  pub inactive_never : {E : Type 0} (x : ℕ) → ((values : List Bool) → item_active g values (item_at g x) ≡ false) → (r : Result (Option Scenario) E)
-      → IfOk r (λ o. (urgency : List ℕ) → IsFirst g urgency (matches cube) o) → IfOk r (IsFirst g order (λ s. matches cube s && not (item_active g s.values (item_at g x))))
+  pub inactive_never : {E : Type 0} (x : ℕ) → ((values : List Bool) → item_active g values (item_at g x) ≡ false) →
+      (r : Result (Option Scenario) E)
+      → IfOk r (λ o. (urgency : List ℕ) → IsFirst g urgency (matches cube) o) →
+      IfOk r (IsFirst g order (λ s. matches cube s && not (item_active g s.values (item_at g x))))
   inactive_never x off r =
       let by_item = λ (s : Scenario). item_active g s.values (item_at g x) in
-      IfOk-weaker r (λ o. (urgency : List ℕ) → IsFirst g urgency (matches cube) o) (IsFirst g order (λ s. matches cube s && not (by_item s)))
+      IfOk-weaker r (λ o. (urgency : List ℕ) → IsFirst g urgency (matches cube) o)
+      (IsFirst g order (λ s. matches cube s && not (by_item s)))
       (λ o found. inactive_always by_item o (λ s i. off s.values) (found order))

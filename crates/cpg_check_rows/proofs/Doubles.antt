@@ -1,5 +1,6 @@
 -- The least scenario in which a column matches together with one of those before it.
-use Rattle.std.proofs.Common.{ℕ, ◌<◌, ◌≤◌, ◌≡◌, true, false, ◌&&◌, List, length, get_or, take, Option, Contains, arith, sym, ap, ◌∙◌}
+use Rattle.std.proofs.Common.{ℕ, ◌<◌, ◌≤◌, ◌≡◌, true, false, ◌&&◌, List, length, get_or, take, Option, Contains, arith}
+use Rattle.std.proofs.Common.{sym, ap, ◌∙◌}
 use Rattle.std.specs.List.{list_any}
 use Rattle.std.proofs.Math.Bool.{or-false}
 use Rattle.std.proofs.lemmas.List.{drop_more, drop_all}
@@ -16,19 +17,28 @@ use Rattle.cpg_violation.proofs.Tests.{same_where}
 use Rattle.cpg_check_rows.specs.Single.{is_double}
 
 -- the column at a place
-pub double_at : (columns : List Column) (i : ℕ) (d : Column) (s : Scenario) → i < length columns → (matches (get_or columns i d).cube s && breaks_single s (take i columns)) ≡ is_double columns i s
+pub double_at : (columns : List Column) (i : ℕ) (d : Column) (s : Scenario) → i < length columns →
+    (matches (get_or columns i d).cube s && breaks_single s (take i columns)) ≡ is_double columns i s
 double_at columns i d s h = sym (or-false (matches (get_or columns i d).cube s && breaks_single s (take i columns)))
-    ∙ sym (ap (λ l. list_any (λ c. matches c.cube s && breaks_single s (take i columns)) (take 1 l)) (drop_more columns i d h))
+    ∙ sym (ap (λ l. list_any (λ c. matches c.cube s && breaks_single s (take i columns)) (take 1 l))
+    (drop_more columns i d h))
 
 -- there is no column past the last
 pub double_past : (columns : List Column) (i : ℕ) (s : Scenario) → length columns ≤ i → is_double columns i s ≡ false
-double_past columns i s h = ap (λ l. list_any (λ c. matches c.cube s && breaks_single s (take i columns)) (take 1 l)) (drop_all i columns h)
+double_past columns i s h =
+    ap (λ l. list_any (λ c. matches c.cube s && breaks_single s (take i columns)) (take 1 l)) (drop_all i columns h)
 
-module _ (g : Graph) (order : List ℕ) (columns : List Column) (i : ℕ) (d : Column) (h : i < length columns) (places : List ℕ) where
+module _ (g : Graph) (order : List ℕ) (columns : List Column) (i : ℕ) (d : Column) (h : i < length columns)
+    (places : List ℕ) where
   -- the answer for a column, by places among which each is that matches with it, is that for its place
-  pub at_place : (o : Option Scenario) → ((s : Scenario) (j : ℕ) → matches (get_or columns i d).cube s ≡ true → j < length columns → matches (column_at columns j).cube s ≡ true → Contains places j)
-      → IsFirst g order (λ s. matches (get_or columns i d).cube s && list_any (is_at (take i columns) s) places) o → IsFirst g order (is_double columns i) o
-  at_place o among f = first_same g order (λ s. matches (get_or columns i d).cube s && list_any (is_at (take i columns) s) places) (is_double columns i) o
-      (λ s _. same_where (matches (get_or columns i d).cube s) (list_any (is_at (take i columns) s) places) (breaks_single s (take i columns))
+  pub at_place : (o : Option Scenario) →
+      ((s : Scenario) (j : ℕ) → matches (get_or columns i d).cube s ≡ true → j < length columns →
+      matches (column_at columns j).cube s ≡ true → Contains places j)
+      → IsFirst g order (λ s. matches (get_or columns i d).cube s && list_any (is_at (take i columns) s) places) o →
+      IsFirst g order (is_double columns i) o
+  at_place o among f = first_same g order
+      (λ s. matches (get_or columns i d).cube s && list_any (is_at (take i columns) s) places) (is_double columns i) o
+      (λ s _. same_where (matches (get_or columns i d).cube s) (list_any (is_at (take i columns) s) places)
+      (breaks_single s (take i columns))
       (λ m. before_at columns i places s (omega arith) (λ j l n. among s j m l n))
       ∙ double_at columns i d s h) f

@@ -1,12 +1,14 @@
 -- Hear rows that are all as they are to be are those of V10.
-use Rattle.std.proofs.Common.{ℕ, ◌+◌, ◌<◌, ◌≡◌, List, [], ◌∷◌, length, map, Contains, Some, arith, refl, sym, ap, ap₂, ◌∙◌, subst, inl, inr, eq-eqb, ne_eqb}
+use Rattle.std.proofs.Common.{ℕ, ◌+◌, ◌<◌, ◌≡◌, List, [], ◌∷◌, length, map, Contains, Some, arith, refl, sym, ap, ap₂}
+use Rattle.std.proofs.Common.{◌∙◌, subst, inl, inr, eq-eqb, ne_eqb}
 use Rattle.std.specs.Prelude.{IfSome}
 use Rattle.std.proofs.lemmas.Bool.{cases_lt, cond-true, cond-false}
 use Rattle.std.proofs.lemmas.Option.{get_or_from_slice_get, slice_get_within}
 use Rattle.cpg_base.specs.Numbers.{numbers_below}
 use Rattle.cpg_base.specs.Graph.{Graph, item_count, item_at, is_heard_by}
 use Rattle.cpg_base.specs.Limits.{IsWithinLimits}
-use Rattle.cpg_base.proofs.Lists.{Contains-first, Contains-rest, Contains-cases, Contains-nil, Contains-map, Contains-filter_parts, numbers-Contains}
+use Rattle.cpg_base.proofs.Lists.{Contains-first, Contains-rest, Contains-cases, Contains-nil, Contains-map}
+use Rattle.cpg_base.proofs.Lists.{Contains-filter_parts, numbers-Contains}
 use Rattle.cpg_base.proofs.Ordered.{Rises, Rises-filter, Rises-from_map, numbers_go_up}
 use Rattle.cpg_table.specs.Table.{Row, NodeTable, empty_table, table_at}
 use Rattle.cpg_table.specs.Shape.{items_of, heard_by}
@@ -18,10 +20,12 @@ use Rattle.cpg_table.specs.Found.{row_columns}
 use Rattle.cpg_check_rows.specs.Hears.{HearsHold, IsHeardWell, due_columns}
 
 -- if items rise, each row is the first of its item
-first_of_item : (rows : List Row) → Rises (λ (a b : Row). a.item < b.item) rows → (row : Row) → Contains rows row → row_columns rows row.item ≡ Some row.columns
+first_of_item : (rows : List Row) → Rises (λ (a b : Row). a.item < b.item) rows → (row : Row) → Contains rows row →
+    row_columns rows row.item ≡ Some row.columns
 first_of_item [] h row k = absurd (Contains-nil row k)
 first_of_item (r ∷ rs) h row k = elim (Contains-cases r rs row k) [
-  | inl e ↦ subst (λ (q : Row). row_columns (r ∷ rs) q.item ≡ Some q.columns) e (cond-true _ _ _ (eq-eqb r.item r.item refl))
+  | inl e ↦
+      subst (λ (q : Row). row_columns (r ∷ rs) q.item ≡ Some q.columns) e (cond-true _ _ _ (eq-eqb r.item r.item refl))
   | inr m ↦ cond-false _ _ _ (ne_eqb r.item row.item (λ e. absurd (apart (h.0 row m) e))) ∙ first_of_item rs h.1 row m
 ]
   where
@@ -29,20 +33,30 @@ first_of_item (r ∷ rs) h row k = elim (Contains-cases r rs row k) [
     apart l e = absurd (omega arith)
 
 -- rows that are each given by their item
-rows_by_item : (f : ℕ → Row) (rows : List Row) → ((row : Row) → Contains rows row → row ≡ f row.item) → rows ≡ map f (items_of rows)
+rows_by_item : (f : ℕ → Row) (rows : List Row) → ((row : Row) → Contains rows row → row ≡ f row.item) →
+    rows ≡ map f (items_of rows)
 rows_by_item f [] h = refl
-rows_by_item f (r ∷ rs) h = ap₂ (λ (q : Row) (qs : List Row). q ∷ qs) (h r (Contains-first r rs)) (rows_by_item f rs (λ row k. h row (Contains-rest r rs row k)))
+rows_by_item f (r ∷ rs) h = ap₂ (λ (q : Row) (qs : List Row). q ∷ qs) (h r (Contains-first r rs))
+    (rows_by_item f rs (λ row k. h row (Contains-rest r rs row k)))
 
 module _ (g : Graph) (w : IsWithinLimits g) (tables : List NodeTable) (are : AreTablesOf (head_of g) tables) where
-  row_well : ((x : ℕ) → x < item_count g → IsHeardWell g tables x) → (node : ℕ) → node < length g.nodes → (row : Row) → Contains (table_at tables node).hears row → row ≡ hear_row g tables row.item
+  row_well : ((x : ℕ) → x < item_count g → IsHeardWell g tables x) → (node : ℕ) → node < length g.nodes → (row : Row) →
+      Contains (table_at tables node).hears row →
+      row ≡ hear_row g tables row.item
   row_well well node l row k =
       let rows : List Row = (table_at tables node).hears in
       let items : items_of rows ≡ heard_by g node = (suits_graph g w tables are node l).hears in
       let rise : Rises (λ (a b : Row). a.item < b.item) rows = Rises-from_map (λ x y. x < y) (λ (r : Row). r.item) rows
-      (subst (Rises (λ x y. x < y)) (sym items) (Rises-filter (λ x y. x < y) (λ x. is_heard_by g node (item_at g x)) (numbers_below (item_count g)) (numbers_go_up (item_count g)))) in
-      let there : Contains (heard_by g node) row.item = subst (λ is. Contains is row.item) items (Contains-map (λ (r : Row). r.item) rows row k) in
-      let inside : row.item < item_count g = numbers-Contains (item_count g) row.item (Contains-filter_parts (λ x. is_heard_by g node (item_at g x)) (numbers_below (item_count g)) row.item there).0 in
-      let same : row.columns ≡ due_columns g tables row.item = subst (λ o. IfSome o (λ cs. cs ≡ due_columns g tables row.item)) (first_of_item rows rise row k) (well row.item inside node l) in
+      (subst (Rises (λ x y. x < y)) (sym items) (Rises-filter (λ x y. x < y) (λ x. is_heard_by g node (item_at g x))
+      (numbers_below (item_count g)) (numbers_go_up (item_count g)))) in
+      let there : Contains (heard_by g node) row.item =
+      subst (λ is. Contains is row.item) items (Contains-map (λ (r : Row). r.item) rows row k) in
+      let inside : row.item < item_count g =
+      numbers-Contains (item_count g) row.item (Contains-filter_parts (λ x. is_heard_by g node (item_at g x))
+      (numbers_below (item_count g)) row.item there).0 in
+      let same : row.columns ≡ due_columns g tables row.item =
+      subst (λ o. IfSome o (λ cs. cs ≡ due_columns g tables row.item)) (first_of_item rows rise row k)
+      (well row.item inside node l) in
       ap (λ cs. record { item = row.item; columns = cs }) same
 
   pub hears_hold : ((x : ℕ) → x < item_count g → IsHeardWell g tables x) → HearsHold g tables
@@ -50,10 +64,13 @@ module _ (g : Graph) (w : IsWithinLimits g) (tables : List NodeTable) (are : Are
       let inside : node < length g.nodes = omega (arith, slice_get_within tables node t is, are.count) in
       let here : table_at tables node ≡ t = get_or_from_slice_get tables node t empty_table is in
       subst (λ (u : NodeTable). u.hears ≡ hear_rows g tables node) here
-      (rows_by_item (hear_row g tables) (table_at tables node).hears (row_well well node inside) ∙ ap (map (hear_row g tables)) (suits_graph g w tables are node inside).hears)
+      (rows_by_item (hear_row g tables) (table_at tables node).hears (row_well well node inside)
+      ∙ ap (map (hear_row g tables)) (suits_graph g w tables are node inside).hears)
 
 -- one item more
-pub heard_more : (g : Graph) (tables : List NodeTable) (x : ℕ) → ((y : ℕ) → y < x → IsHeardWell g tables y) → IsHeardWell g tables x → (y : ℕ) → y < x + 1 → IsHeardWell g tables y
+pub heard_more : (g : Graph) (tables : List NodeTable) (x : ℕ) → ((y : ℕ) → y < x → IsHeardWell g tables y) →
+    IsHeardWell g tables x → (y : ℕ) → y < x + 1 →
+    IsHeardWell g tables y
 heard_more g tables x before here y l = elim (cases_lt y x) [
   | inl lt ↦ before y lt
   | inr ge ↦ let same : x ≡ y = omega arith in subst (IsHeardWell g tables) same here

@@ -1,5 +1,6 @@
 -- Rows that keep V1: column by column, or since all processes are always active.
-use Rattle.std.proofs.Common.{ℕ, ◌-◌, ◌<◌, ◌≤◌, ◌≡◌, Bool, true, false, not, ◌||◌, List, All, arith, length, take, drop, refl, ap, ap₂, subst, sym, ◌∙◌, inl, inr}
+use Rattle.std.proofs.Common.{ℕ, ◌-◌, ◌<◌, ◌≤◌, ◌≡◌, Bool, true, false, not, ◌||◌, List, All, arith, length, take, drop}
+use Rattle.std.proofs.Common.{refl, ap, ap₂, subst, sym, ◌∙◌, inl, inr}
 use Rattle.std.specs.List.{list_all}
 use Rattle.std.proofs.lemmas.Grind.{common_steps}
 use Rattle.std.proofs.lemmas.Bool.{and_parts}
@@ -31,22 +32,33 @@ rest_of : {T : Type 0} (at : ℕ) (xs : List T) → take (length xs - at) (drop 
 rest_of at xs = grind (arith, common_steps)
 
 -- literals match only if those from a place on do
-pub matches_from : (literals : List Literal) (at : ℕ) (s : Scenario) → matches literals s ≡ true → matches (take (length literals - at) (drop at literals)) s ≡ true
-matches_from literals at s m = subst (λ ls. matches ls s ≡ true) (sym (rest_of at literals)) (and_parts (matches (take at literals) s) (matches (drop at literals) s)
-    (sym (list_all-append (holds s) (take at literals) (drop at literals)) ∙ ap (list_all (holds s)) (take-append-drop at literals) ∙ m)).1
+pub matches_from : (literals : List Literal) (at : ℕ) (s : Scenario) → matches literals s ≡ true →
+    matches (take (length literals - at) (drop at literals)) s ≡ true
+matches_from literals at s m = subst (λ ls. matches ls s ≡ true) (sym (rest_of at literals))
+    (and_parts (matches (take at literals) s) (matches (drop at literals) s)
+    (sym (list_all-append (holds s) (take at literals) (drop at literals))
+    ∙ ap (list_all (holds s)) (take-append-drop at literals) ∙ m)).1
 
-process_within : (g : Graph) → process_count g ≤ 128 → (v : ℕ) → IsVariable g v → process_of_variable g v < process_count g
+process_within : (g : Graph) → process_count g ≤ 128 → (v : ℕ) → IsVariable g v →
+    process_of_variable g v < process_count g
 process_within g few v (inl l) = subst (λ p. p < process_count g) (of_count g v few l) l
-process_within g few v (inr r) = subst (λ p. p < process_count g) (of_value g v r.0) (process_of_below g (v - 128) (omega (arith, r.0, r.1)))
+process_within g few v (inr r) =
+    subst (λ p. p < process_count g) (of_value g v r.0) (process_of_below g (v - 128) (omega (arith, r.0, r.1)))
 
 module _ (g : Graph) (tables : List NodeTable) (x : ℕ) where
-  pub lawful_sure : All (λ (c : Column). (s : Scenario) → IsScenario g s → matches c.cube s ≡ true → breaks_activity g s x c ≡ false) (columns_of tables x) → IsSure g tables Rule.Activity x
+  pub lawful_sure :
+      All (λ (c : Column). (s : Scenario) → IsScenario g s → matches c.cube s ≡ true → breaks_activity g s x c ≡ false)
+      (columns_of tables x) →
+      IsSure g tables Rule.Activity x
   lawful_sure all = sure_of g tables Rule.Activity x refl
-      (λ s c earlier law k m. All-contains (λ (c : Column). (s : Scenario) → IsScenario g s → matches c.cube s ≡ true → breaks_activity g s x c ≡ false) (columns_of tables x) c all k s law m)
+      (λ s c earlier law k m. All-contains (λ (c : Column). (s : Scenario) → IsScenario g s → matches c.cube s ≡ true →
+      breaks_activity g s x c ≡ false) (columns_of tables x) c all k s law m)
 
   pub always_sure : process_count g ≤ 128 → AllAlways g → All (λ (c : Column). IsKnown g c.cube) (columns_of tables x)
       → IsUnconditional g x → IsSure g tables Rule.Activity x
-  always_sure few always known item = sure_of g tables Rule.Activity x refl (λ s c earlier law k m. both_active _ _ (item s law)
+  always_sure few always known item =
+      sure_of g tables Rule.Activity x refl (λ s c earlier law k m. both_active _ _ (item s law)
       (list_any_false (λ (l : Literal). not (active g s.values (process_of_variable g l.variable))) c.cube
       (λ l j. ap not (always (process_of_variable g l.variable)
-      (process_within g few l.variable (All-contains (λ (l : Literal). IsVariable g l.variable) c.cube l (All-contains (λ (c : Column). IsKnown g c.cube) (columns_of tables x) c known k) j)) s law))))
+      (process_within g few l.variable (All-contains (λ (l : Literal). IsVariable g l.variable) c.cube l
+      (All-contains (λ (c : Column). IsKnown g c.cube) (columns_of tables x) c known k) j)) s law))))

@@ -1,5 +1,6 @@
 -- When items are active, by the source of an edge and the cube of its value; and the least scenario without a column.
-use Rattle.std.proofs.Common.{ℕ, zero, suc, ◌∷◌, All, ◌+◌, ◌<◌, ◌≡◌, Bool, true, false, not, ◌&&◌, List, [], map, Option, Some, None, arith, refl, sym, ap, ◌∙◌, subst, inl, inr}
+use Rattle.std.proofs.Common.{ℕ, zero, suc, ◌∷◌, All, ◌+◌, ◌<◌, ◌≡◌, Bool, true, false, not, ◌&&◌, List, [], map}
+use Rattle.std.proofs.Common.{Option, Some, None, arith, refl, sym, ap, ◌∙◌, subst, inl, inr}
 use Rattle.std.specs.Prelude.{IfOk, Result, take, drop}
 use Rattle.std.proofs.lemmas.Result.{IfOk-weaker}
 use Rattle.std.specs.List.{list_any}
@@ -36,44 +37,63 @@ turned false false n = refl
 
 module _ (g : Graph) (order : List ℕ) (columns : List Column) where
   -- what is so if a process is active and a cube matches
-  pub absent_from : (b : Scenario → Bool) (p : ℕ) (cube : List Literal) → ((s : Scenario) → IsScenario g s → b s ≡ (active g s.values p && matches cube s)) → (o : Option Scenario)
-      → IsFirst g order (λ s. is_left (map (λ (c : Column). c.cube) columns) cube s && active g s.values p) o → IsFirst g order (λ s. b s && has_none columns s) o
-  absent_from b p cube is o f = first_same g order (λ s. is_left (map (λ (c : Column). c.cube) columns) cube s && active g s.values p) (λ s. b s && has_none columns s) o
-      (λ s i. ap (λ n. (matches cube s && not n) && active g s.values p) (any_map (λ b. matches b s) (λ (c : Column). c.cube) columns)
+  pub absent_from : (b : Scenario → Bool) (p : ℕ) (cube : List Literal) →
+      ((s : Scenario) → IsScenario g s → b s ≡ (active g s.values p && matches cube s)) →
+      (o : Option Scenario)
+      → IsFirst g order (λ s. is_left (map (λ (c : Column). c.cube) columns) cube s && active g s.values p) o →
+      IsFirst g order (λ s. b s && has_none columns s) o
+  absent_from b p cube is o f =
+      first_same g order (λ s. is_left (map (λ (c : Column). c.cube) columns) cube s && active g s.values p)
+      (λ s. b s && has_none columns s) o
+      (λ s i. ap (λ n. (matches cube s && not n) && active g s.values p)
+      (any_map (λ b. matches b s) (λ (c : Column). c.cube) columns)
       ∙ turned (active g s.values p) (matches cube s) (not (list_any (λ (d : Column). matches d.cube s) columns))
       ∙ ap (λ a. a && not (list_any (λ (d : Column). matches d.cube s) columns)) (sym (is s i))) f
 
   -- an item is active as its source is
-  pub absent_as : {E : Type 0} (x : ℕ) (source : ItemSource) → ((values : List Bool) → item_active g values (item_at g x) ≡ is_active_by g values source) → (r : Result (Option Scenario) E)
-      → IfOk r (IsFirst g order (λ s. is_active_by g s.values source && has_none columns s)) → IfOk r (IsFirst g order (is_absent g columns x))
+  pub absent_as : {E : Type 0} (x : ℕ) (source : ItemSource) →
+      ((values : List Bool) → item_active g values (item_at g x) ≡ is_active_by g values source) →
+      (r : Result (Option Scenario) E)
+      → IfOk r (IsFirst g order (λ s. is_active_by g s.values source && has_none columns s)) →
+      IfOk r (IsFirst g order (is_absent g columns x))
   absent_as x source is r =
       let by_source = λ (s : Scenario). is_active_by g s.values source && has_none columns s in
       IfOk-weaker r (IsFirst g order by_source) (IsFirst g order (is_absent g columns x))
-      (λ o. first_same g order by_source (is_absent g columns x) o (λ s i. ap (λ a. a && has_none columns s) (sym (is s.values))))
+      (λ o. first_same g order by_source (is_absent g columns x) o
+      (λ s i. ap (λ a. a && has_none columns s) (sym (is s.values))))
 
   -- an item that nothing makes active
-  pub absent_never : (x : ℕ) → ((values : List Bool) → item_active g values (item_at g x) ≡ false) → IsFirst g order (is_absent g columns x) None
+  pub absent_never : (x : ℕ) → ((values : List Bool) → item_active g values (item_at g x) ≡ false) →
+      IsFirst g order (is_absent g columns x) None
   absent_never x off = λ s i. ap (λ a. a && has_none columns s) (off s.values)
 
 -- an edge is live if its source is active and the cube of its value matches
-pub live_where : {g : Graph} {order : List ℕ} {guards : Guards} → IsAdmitted g order guards → (s : Scenario) → IsScenario g s → (e : ℕ) → e < edge_count g → (cube : List Literal)
+pub live_where : {g : Graph} {order : List ℕ} {guards : Guards} → IsAdmitted g order guards → (s : Scenario) →
+    IsScenario g s → (e : ℕ) → e < edge_count g →
+    (cube : List Literal)
     → matches cube s ≡ is_passed (test_of (condition_of g (source g e)) (edge_at g e).when) s.values
     → live g s.values e ≡ (active g s.values (source g e) && matches cube s)
 live_where {g} {order} {guards} a s i e l cube m =
-    live_tested g order a.topological guards a.guards s.values i.values e l ∙ ap (λ t. active g s.values (source g e) && t) (sym m)
+    live_tested g order a.topological guards a.guards s.values i.values e l
+    ∙ ap (λ t. active g s.values (source g e) && t) (sym m)
 
 -- no item before, with one more
-pub present_more : (g : Graph) (tables : List NodeTable) (x : ℕ) → ((y : ℕ) (column : Option ℕ) (s : Scenario) → y < x → IsScenario g s → breaks Rule.Present g tables s y column ≡ false)
+pub present_more : (g : Graph) (tables : List NodeTable) (x : ℕ) →
+    ((y : ℕ) (column : Option ℕ) (s : Scenario) → y < x → IsScenario g s →
+    breaks Rule.Present g tables s y column ≡ false)
     → ((s : Scenario) → IsScenario g s → is_absent g (columns_of tables x) x s ≡ false)
-    → (y : ℕ) (column : Option ℕ) (s : Scenario) → y < x + 1 → IsScenario g s → breaks Rule.Present g tables s y column ≡ false
+    → (y : ℕ) (column : Option ℕ) (s : Scenario) → y < x + 1 → IsScenario g s →
+    breaks Rule.Present g tables s y column ≡ false
 present_more g tables x before here y column s l i = elim (cases_lt y x) [
   | inl lt ↦ before y column s lt i
-  | inr ge ↦ let same : x ≡ y = omega arith in subst (λ z. breaks Rule.Present g tables s z column ≡ false) same (at_item column)
+  | inr ge ↦ let same : x ≡ y = omega arith in
+      subst (λ z. breaks Rule.Present g tables s z column ≡ false) same (at_item column)
 ]
   where
     at_item : (column : Option ℕ) → breaks Rule.Present g tables s x column ≡ false
     at_item None = here s i
-    at_item (Some k) = list_any_false (breaks_at Rule.Present g tables s x (take k (columns_of tables x))) (take 1 (drop k (columns_of tables x))) (λ c _. and_right (matches c.cube s) false refl)
+    at_item (Some k) = list_any_false (breaks_at Rule.Present g tables s x (take k (columns_of tables x)))
+        (take 1 (drop k (columns_of tables x))) (λ c _. and_right (matches c.cube s) false refl)
 
 pub all_mapped : {X Y : Type 0} (P : Y → Type 0) (f : X → Y) (xs : List X) → All (λ x. P (f x)) xs → All P (map f xs)
 all_mapped P f [] h k d l = absurd (omega arith)
@@ -81,7 +101,11 @@ all_mapped P f (x ∷ xs) h zero d l = h 0 x (omega arith)
 all_mapped P f (x ∷ xs) h (suc k) d l = all_mapped P f xs (λ j e m. h (suc j) e (omega arith)) k d (omega arith)
 
 -- a process is active if its tree comes to an activation
-pub active_found : {g : Graph} {order : List ℕ} {guards : Guards} → IsAdmitted g order guards → (by : List (List Literal)) (cube : List Literal) (p : ℕ) → p < process_count g → (o : Option Scenario)
-    → IsFirst g order (λ s. is_left by cube s && comes_to (tree_of guards p) true s) o → IsFirst g order (λ s. is_left by cube s && active g s.values p) o
-active_found {g} {order} {guards} a by cube p l o f = first_same g order (λ s. is_left by cube s && comes_to (tree_of guards p) true s) (λ s. is_left by cube s && active g s.values p) o
+pub active_found : {g : Graph} {order : List ℕ} {guards : Guards} → IsAdmitted g order guards →
+    (by : List (List Literal)) (cube : List Literal) (p : ℕ) → p < process_count g →
+    (o : Option Scenario)
+    → IsFirst g order (λ s. is_left by cube s && comes_to (tree_of guards p) true s) o →
+    IsFirst g order (λ s. is_left by cube s && active g s.values p) o
+active_found {g} {order} {guards} a by cube p l o f = first_same g order
+    (λ s. is_left by cube s && comes_to (tree_of guards p) true s) (λ s. is_left by cube s && active g s.values p) o
     (λ s i. ap (λ b. is_left by cube s && is_active b) ((a.guards.trees p l).is s.values i.values)) f

@@ -1,5 +1,6 @@
 -- Columns that have a tree: none of them matches together with an earlier one.
-use Rattle.std.proofs.Common.{ℕ, ◌<◌, ◌≡◌, false, ◌&&◌, List, [], Option, None, Some, length, get_or, take, arith, sym, ap, ◌∙◌, inl, inr}
+use Rattle.std.proofs.Common.{ℕ, ◌<◌, ◌≡◌, false, ◌&&◌, List, [], Option, None, Some, length, get_or, take, arith, sym}
+use Rattle.std.proofs.Common.{ap, ◌∙◌, inl, inr}
 use Rattle.std.specs.Prelude.{IfSome, is_some}
 use Rattle.std.specs.Bool.{OnTrue}
 use Rattle.std.proofs.lemmas.Bool.{cases_lt}
@@ -17,25 +18,32 @@ use Rattle.cpg_check_rows.specs.Single.{is_double}
 use Rattle.cpg_check_rows.proofs.Doubles.{double_at, double_past}
 
 -- what holds of the first columns by themselves holds of them in the row
-front_as : (columns : List Column) (n i : ℕ) (s : Scenario) → i < n → is_double (take n columns) i s ≡ false → is_double columns i s ≡ false
+front_as : (columns : List Column) (n i : ℕ) (s : Scenario) → i < n → is_double (take n columns) i s ≡ false →
+    is_double columns i s ≡ false
 front_as columns n i s less none = elim (cases_lt i (length columns)) [
   | inl l ↦
       let d : Column = record { time = 0; cube = [] } in
       let here : i < length (take n columns) = omega (arith, l, less, length-take n columns) in
       sym (double_at columns i d s l)
       ∙ ap (λ (c : Column). matches c.cube s && breaks_single s (take i columns)) (sym (get_or-take n columns i d less))
-      ∙ ap (λ cs. matches (get_or (take n columns) i d).cube s && breaks_single s cs) (sym (take-take i n columns (omega (arith, less))))
+      ∙ ap (λ cs. matches (get_or (take n columns) i d).cube s && breaks_single s cs)
+      (sym (take-take i n columns (omega (arith, less))))
       ∙ double_at (take n columns) i d s here ∙ none
   | inr past ↦ double_past columns i s past
 ]
 
-none_double : (g : Graph) (columns : List Column) (tree : PlacesState) → IsRowTree g columns tree → (i : ℕ) (s : Scenario) → IsScenario g s → is_double columns i s ≡ false
+none_double : (g : Graph) (columns : List Column) (tree : PlacesState) → IsRowTree g columns tree →
+    (i : ℕ) (s : Scenario) → IsScenario g s →
+    is_double columns i s ≡ false
 none_double g columns tree is i s law = elim (cases_lt i (length columns)) [
-  | inl l ↦ sym (double_at columns i (record { time = 0; cube = [] }) s l) ∙ off_where (matches (column_at columns i).cube s) (breaks_single s (take i columns)) (λ m. none_earlier is s law i l m)
+  | inl l ↦ sym (double_at columns i (record { time = 0; cube = [] }) s l) ∙ off_where
+      (matches (column_at columns i).cube s) (breaks_single s (take i columns)) (λ m. none_earlier is s law i l m)
   | inr past ↦ double_past columns i s past
 ]
 
-pub none_by_tree : (g : Graph) (columns : List Column) (n : ℕ) (o : Option PlacesState) → IfSome o (IsRowTree g (take n columns))
+pub none_by_tree : (g : Graph) (columns : List Column) (n : ℕ) (o : Option PlacesState) →
+    IfSome o (IsRowTree g (take n columns))
     → OnTrue (is_some o) ((i : ℕ) (s : Scenario) → i < n → IsScenario g s → is_double columns i s ≡ false)
 none_by_tree g columns n None is = tt
-none_by_tree g columns n (Some tree) is = λ i s less law. front_as columns n i s less (none_double g (take n columns) tree is i s law)
+none_by_tree g columns n (Some tree) is =
+    λ i s less law. front_as columns n i s less (none_double g (take n columns) tree is i s law)

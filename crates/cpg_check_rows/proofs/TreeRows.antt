@@ -1,5 +1,6 @@
 -- Rows with trees keep V2, and V3 if the tree has no place only when the item is inactive.
-use Rattle.std.proofs.Common.{ℕ, ◌<◌, ◌≡◌, false, not, ◌&&◌, List, [], Option, None, Some, length, get_or, take, arith, refl, ap, ◌∙◌, subst, inl, inr}
+use Rattle.std.proofs.Common.{ℕ, ◌<◌, ◌≡◌, false, not, ◌&&◌, List, [], Option, None, Some, length, get_or, take, arith}
+use Rattle.std.proofs.Common.{refl, ap, ◌∙◌, subst, inl, inr}
 use Rattle.std.specs.List.{list_any}
 use Rattle.std.specs.Prelude.{IfSome, is_some}
 use Rattle.std.proofs.Math.Bool.{and-false, or-false}
@@ -24,42 +25,63 @@ use Rattle.cpg_violation.proofs.Tests.{off_where}
 use Rattle.cpg_row_trees.specs.Trees.{AreRowTrees}
 use Rattle.cpg_check_rows.specs.Absent.{IsIdleWhere}
 
-module _ (g : Graph) (tables : List NodeTable) (x : ℕ) {tree : PlacesState} (is : IsRowTree g (columns_of tables x) tree) where
+module _ (g : Graph) (tables : List NodeTable)
+    (x : ℕ) {tree : PlacesState} (is : IsRowTree g (columns_of tables x) tree) where
   -- V2
   pub single_sure : IsSure g tables Rule.Single x
   single_sure None s law = refl
   single_sure (Some i) s law = elim (cases_lt i (length (columns_of tables x))) [
-    | inl l ↦ ap (λ cs. list_any (breaks_at Rule.Single g tables s x (take i (columns_of tables x))) (take 1 cs)) (drop_more (columns_of tables x) i (record { time = 0; cube = [] }) l)
-        ∙ or-false (breaks_at Rule.Single g tables s x (take i (columns_of tables x)) (column_at (columns_of tables x) i))
-        ∙ off_where (matches (column_at (columns_of tables x) i).cube s) (list_any (λ (d : Column). matches d.cube s) (take i (columns_of tables x))) (λ m. none_earlier is s law i l m)
-    | inr past ↦ ap (λ cs. list_any (breaks_at Rule.Single g tables s x (take i (columns_of tables x))) (take 1 cs)) (drop_all i (columns_of tables x) past)
+    | inl l ↦ ap (λ cs. list_any (breaks_at Rule.Single g tables s x (take i (columns_of tables x))) (take 1 cs))
+        (drop_more (columns_of tables x) i (record { time = 0; cube = [] }) l)
+        ∙ or-false
+        (breaks_at Rule.Single g tables s x (take i (columns_of tables x)) (column_at (columns_of tables x) i))
+        ∙ off_where (matches (column_at (columns_of tables x) i).cube s) (list_any (λ (d : Column). matches d.cube s)
+        (take i (columns_of tables x))) (λ m. none_earlier is s law i l m)
+    | inr past ↦ ap (λ cs. list_any (breaks_at Rule.Single g tables s x (take i (columns_of tables x))) (take 1 cs))
+        (drop_all i (columns_of tables x) past)
   ]
 
   -- V3
-  pub present_sure : ((s : Scenario) → IsScenario g s → IsIdleWhere g x (place_at tree s) s) → IsSure g tables Rule.Present x
-  present_sure idle (Some i) s law = list_any_at_place (breaks_at Rule.Present g tables s x (take i (columns_of tables x))) (columns_of tables x) i (λ c k. and-false (matches c.cube s))
+  pub present_sure : ((s : Scenario) → IsScenario g s → IsIdleWhere g x (place_at tree s) s) →
+      IsSure g tables Rule.Present x
+  present_sure idle (Some i) s law =
+      list_any_at_place (breaks_at Rule.Present g tables s x (take i (columns_of tables x))) (columns_of tables x) i
+      (λ c k. and-false (matches c.cube s))
   present_sure idle None s law = go (place_at tree s) refl
     where
       go : (o : Option ℕ) → place_at tree s ≡ o → breaks_present g tables s x ≡ false
-      go None e = ap (λ b. b && not (list_any (λ (d : Column). matches d.cube s) (columns_of tables x))) (idle s law e law)
+      go None e =
+          ap (λ b. b && not (list_any (λ (d : Column). matches d.cube s) (columns_of tables x))) (idle s law e law)
       go (Some i) e =
           let there : i < length (columns_of tables x) = place_there is s law i e in
-          let some = list_any_true (λ (d : Column). matches d.cube s) (columns_of tables x) (column_at (columns_of tables x) i)
-          (i, there, get_or_default (columns_of tables x) i (column_at (columns_of tables x) i) (record { time = 0; cube = [] }) there) (place_matches is s law i e) in
-          ap (λ b. item_active g s.values (item_at g x) && not b) some ∙ and-false (item_active g s.values (item_at g x))
+          let some =
+          list_any_true (λ (d : Column). matches d.cube s) (columns_of tables x) (column_at (columns_of tables x) i) (
+            i,
+            there,
+            get_or_default (columns_of tables x) i (column_at (columns_of tables x) i)
+                (record { time = 0; cube = [] }) there,
+          ) (place_matches is s law i e) in
+          ap (λ b. item_active g s.values (item_at g x) && not b) some
+          ∙ and-false (item_active g s.values (item_at g x))
 
-module _ (g : Graph) (tables : List NodeTable) (trees : List (Option PlacesState)) (x : ℕ) (o : Option PlacesState) where
-  here : x < length trees → o ≡ get_or trees x o → AreRowTrees g tables trees → IfSome o (IsRowTree g (columns_of tables x))
+module _ (g : Graph) (tables : List NodeTable) (trees : List (Option PlacesState)) (x : ℕ)
+    (o : Option PlacesState) where
+  here : x < length trees → o ≡ get_or trees x o → AreRowTrees g tables trees →
+      IfSome o (IsRowTree g (columns_of tables x))
   here there is are = tree_of_row g tables trees x are (omega (arith, there, are.count)) o is
 
   -- the tree of an item's row
-  pub tree_at : (tree : PlacesState) → x < length trees → o ≡ get_or trees x o → o ≡ Some tree → AreRowTrees g tables trees → IsRowTree g (columns_of tables x) tree
+  pub tree_at : (tree : PlacesState) → x < length trees → o ≡ get_or trees x o → o ≡ Some tree →
+      AreRowTrees g tables trees →
+      IsRowTree g (columns_of tables x) tree
   tree_at tree there is some are = subst (λ p. IfSome p (IsRowTree g (columns_of tables x))) some (here there is are)
 
   -- a row that has one keeps V2
-  pub single_at : x < length trees → o ≡ get_or trees x o → AreRowTrees g tables trees → OnTrue (is_some o) (IsSure g tables Rule.Single x)
+  pub single_at : x < length trees → o ≡ get_or trees x o → AreRowTrees g tables trees →
+      OnTrue (is_some o) (IsSure g tables Rule.Single x)
   single_at there is are = go o (here there is are)
     where
-      go : (o : Option PlacesState) → IfSome o (IsRowTree g (columns_of tables x)) → OnTrue (is_some o) (IsSure g tables Rule.Single x)
+      go : (o : Option PlacesState) → IfSome o (IsRowTree g (columns_of tables x)) →
+          OnTrue (is_some o) (IsSure g tables Rule.Single x)
       go None h = tt
       go (Some tree) h = single_sure g tables x h

@@ -6,6 +6,7 @@ use Rattle.cpg_cube.specs.Column.{Column}
 use Rattle.cpg_table.specs.Valid.{breaks_activity}
 use Rattle.cpg_violation.specs.Broken.{is_broken}
 
--- whether the column at a place of an item's row matches in a scenario in which the item, or a literal's process, is inactive
+-- whether the column at a place of an item's row matches in a scenario in which the item, or a literal's process, is
+-- inactive
 abbrev pub is_idle : Graph → ℕ → List Column → ℕ → Scenario → Bool
 is_idle g x columns i s = is_broken (λ t c. breaks_activity g t x c) columns i s

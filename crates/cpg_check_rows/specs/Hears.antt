@@ -1,4 +1,5 @@
--- V10 row by row: where a node hears an item at other columns than those of its sender, each later by the sender's slot.
+-- V10 row by row: where a node hears an item at other columns than those of its sender, each later by the sender's
+-- slot.
 use Rattle.std.specs.Prelude.{ℕ, ◌≡◌, ◌≢◌, ◌<◌, List, Some, length, take, slice_get, IfSome, IsSomeAnd}
 use Rattle.cpg_base.specs.Graph.{Graph, item_count}
 use Rattle.cpg_base.specs.Scenario.{zero_scenario}

@@ -1,5 +1,6 @@
 -- Cubes narrowed by one literal after another of another cube.
-use Rattle.std.proofs.Common.{ℕ, ◌+◌, ◌<◌, ◌≡◌, false, ◌&&◌, List, length, get_or, take, drop, Some, sym, ap, ◌∙◌, subst}
+use Rattle.std.proofs.Common.{ℕ, ◌+◌, ◌<◌, ◌≡◌, false, ◌&&◌, List, length, get_or, take, drop, Some, sym, ap, ◌∙◌}
+use Rattle.std.proofs.Common.{subst}
 use Rattle.std.specs.List.{list_all}
 use Rattle.std.proofs.Math.Bool.{and_assoc, and_comm}
 use Rattle.std.proofs.lemmas.Bool.{and_parts, and_from, both_ways, false_from_ne_true}
@@ -16,9 +17,12 @@ use Rattle.cpg_cube.specs.Narrow.{with_literal}
 use Rattle.cpg_cube.proofs.CubeLaws.{with-is}
 use Rattle.cpg_cube.proofs.Narrow.{known-narrowed}
 
-module _ (cube other part : List Literal) (i : ℕ) (d : Literal) (l : i < length other) (so_far : (s : Scenario) → matches part s ≡ (matches cube s && matches (take i other) s)) where
+module _ (cube other part : List Literal) (i : ℕ) (d : Literal) (l : i < length other)
+    (so_far : (s : Scenario) → matches part s ≡ (matches cube s && matches (take i other) s)) where
   -- one literal more
-  pub common_more : (next : List Literal) → ((s : Scenario) → matches next s ≡ (holds s (get_or other i d) && matches part s)) → (s : Scenario) →
+  pub common_more : (next : List Literal) →
+      ((s : Scenario) → matches next s ≡ (holds s (get_or other i d) && matches part s)) →
+      (s : Scenario) →
       matches next s ≡ (matches cube s && matches (take (i + 1) other) s)
   common_more next both s =
       both s ∙ ap (λ b. holds s (get_or other i d) && b) (so_far s)
@@ -27,14 +31,19 @@ module _ (cube other part : List Literal) (i : ℕ) (d : Literal) (l : i < lengt
       ∙ ap (λ b. matches cube s && b) (sym (list_all_more (holds s) other i d l))
 
   -- a literal that leaves nothing
-  pub common_none : ((s : Scenario) → (holds s (get_or other i d) && matches part s) ≡ false) → (s : Scenario) → (matches cube s && matches other s) ≡ false
+  pub common_none : ((s : Scenario) → (holds s (get_or other i d) && matches part s) ≡ false) → (s : Scenario) →
+      (matches cube s && matches other s) ≡ false
   common_none none s = false_from_ne_true (matches cube s && matches other s) (λ t.
       let p = and_parts (matches cube s) (matches other s) t in
       let here = from_all (holds s) other (get_or other i d) p.1 (Contains-get_or other i d l) in
       let before = (and_parts (matches (take i other) s) (list_all (holds s) (drop i other))
-      (sym (list_all-append (holds s) (take i other) (drop i other)) ∙ ap (list_all (holds s)) (take-append-drop i other) ∙ p.1)).0 in
+      (sym (list_all-append (holds s) (take i other) (drop i other))
+      ∙ ap (list_all (holds s)) (take-append-drop i other) ∙ p.1)).0 in
       both_ways _ (none s) (and_from _ _ here (so_far s ∙ and_from _ _ p.0 before)))
 
-pub known_more : (g : Graph) (part other next : List Literal) (i : ℕ) (d : Literal) → i < length other → IsKnown g part → IsKnown g other → with_literal (get_or other i d) part ≡ Some next →
+pub known_more : (g : Graph) (part other next : List Literal) (i : ℕ) (d : Literal) → i < length other →
+    IsKnown g part → IsKnown g other →
+    with_literal (get_or other i d) part ≡ Some next →
     IsKnown g next
-known_more g part other next i d l known all is = subst (IsKnown g) (with-is (get_or other i d) part next is) (known-narrowed g (get_or other i d) part (all i d l) known)
+known_more g part other next i d l known all is = subst (IsKnown g) (with-is (get_or other i d) part next is)
+    (known-narrowed g (get_or other i d) part (all i d l) known)

@@ -17,14 +17,18 @@ pub duration_some : (g : Graph) → IsWithinLimits g → (p n : ℕ) → p < pro
 duration_some g within p n l = let works : 1 ≤ (process_at g p).wcet = (within.processes p _ l).works in omega arith
 
 -- the first count that is enough is the least
-pub first_is_least : (g : Graph) (p start time f : ℕ) → ((n : ℕ) → n < f → start + duration g p n ≤ time) → time < start + duration g p f → IsLeastCount g p start time f
+pub first_is_least : (g : Graph) (p start time f : ℕ) → ((n : ℕ) → n < f → start + duration g p n ≤ time) →
+    time < start + duration g p f →
+    IsLeastCount g p start time f
 first_is_least g p start time f below here = λ n. (
   λ late. elim (cases_lt n f) [ inl l ↦ absurd (omega (arith, below n l)) | inr m ↦ m ],
   λ m. omega (arith, here, duration_grows g p f n m),
 )
 
 -- the part of a cube is the graph's
-pub part_known : (g : Graph) (p : ℕ) → p < process_count g → (cube : List Literal) (low high : ℕ) (o : Option (List Literal)) → IsKnown g cube →
+pub part_known : (g : Graph) (p : ℕ) → p < process_count g →
+    (cube : List Literal) (low high : ℕ) (o : Option (List Literal)) →
+    IsKnown g cube →
     o ≡ with_literal (record { variable = p; low = low; high = high }) cube → IfSome o (IsKnown g)
 part_known g p l cube low high None known is = tt
 part_known g p l cube low high (Some part) known is =

@@ -1,5 +1,6 @@
 -- Delays: how long they take, and the columns that are late by them.
-use Rattle.std.proofs.Common.{ℕ, ◌+◌, ◌<◌, ◌≤◌, ◌≡◌, ◌^◌, true, false, ◌&&◌, List, length, Option, arith, ap, inl, inr, lt-ltb, le-ltb, All}
+use Rattle.std.proofs.Common.{ℕ, ◌+◌, ◌<◌, ◌≤◌, ◌≡◌, ◌^◌, true, false, ◌&&◌, List, length, Option, arith, ap, inl, inr}
+use Rattle.std.proofs.Common.{lt-ltb, le-ltb, All}
 use Rattle.std.specs.Prelude.{nat_lt}
 use Rattle.std.specs.List.{list_any}
 use Rattle.std.proofs.lemmas.Bool.{cases_lt, and_parts, and_right}
@@ -27,37 +28,50 @@ use Rattle.cpg_violation.proofs.Durations.{duration_grows, fault_within}
 pub slot_short : (g : Graph) → IsWithinLimits g → (node : ℕ) → slot_length g node < 2 ^ 40
 slot_short g within node = elim (cases_lt (slot_place g node) (length g.slots)) [
   | inl l ↦ omega (arith, (within.slots (slot_place g node) (record { node = 0; length = 0; bytes = 0 }) l).length)
-  | inr m ↦ let none : slot_length g node ≡ 0 = ap (λ (s : Slot). s.length) (get_or_past g.slots (slot_place g node) (record { node = 0; length = 0; bytes = 0 }) m) in omega arith
+  | inr m ↦ let none : slot_length g node ≡ 0 = ap (λ (s : Slot). s.length)
+      (get_or_past g.slots (slot_place g node) (record { node = 0; length = 0; bytes = 0 }) m) in
+      omega arith
 ]
 
 -- an execution takes longest with all faults
-pub most_faults : (g : Graph) → process_count g ≤ 128 → (p : ℕ) → p < process_count g → (s : Scenario) (time : ℕ) → IsScenario g s → time + duration g p (fault_of s p) ≤ time + duration g p g.faults
+pub most_faults : (g : Graph) → process_count g ≤ 128 → (p : ℕ) → p < process_count g → (s : Scenario) (time : ℕ) →
+    IsScenario g s →
+    time + duration g p (fault_of s p) ≤ time + duration g p g.faults
 most_faults g few p l s time i = omega (arith, duration_grows g p (fault_of s p) g.faults (fault_within g few p l s i))
 
 -- a frame is late wherever its column matches
-pub slot_first : (g : Graph) (order : List ℕ) (cube : List Literal) (c : Column) (length time : ℕ) → time < c.time + length → (o : Option Scenario) →
+pub slot_first : (g : Graph) (order : List ℕ) (cube : List Literal) (c : Column) (length time : ℕ) →
+    time < c.time + length →
+    (o : Option Scenario) →
     IsFirst g order (λ s. matches cube s && matches c.cube s) o
     → IsFirst g order (λ s. matches cube s && (matches c.cube s && nat_lt time (c.time + length))) o
-slot_first g order cube c length time late o f = first_same g order (λ s. matches cube s && matches c.cube s) (λ s. matches cube s && (matches c.cube s && nat_lt time (c.time + length))) o
+slot_first g order cube c length time late o f = first_same g order (λ s. matches cube s && matches c.cube s)
+    (λ s. matches cube s && (matches c.cube s && nat_lt time (c.time + length))) o
     (λ s _. ap (λ b. matches cube s && b) (with_true (matches c.cube s) _ (lt-ltb time (c.time + length) late))) f
 
 module _ (g : Graph) (cube : List Literal) (delay : Delay) (time : ℕ) where
   -- a column that delays matches together with the cube
-  pub delays_both : (s : Scenario) (d : Column) → delays g cube delay time d s ≡ true → (matches cube s ≡ true) × (matches d.cube s ≡ true)
+  pub delays_both : (s : Scenario) (d : Column) → delays g cube delay time d s ≡ true →
+      (matches cube s ≡ true) × (matches d.cube s ≡ true)
   delays_both s d t =
       let p = and_parts (matches cube s) (is_late g delay time d s) t in
       (p.0, (and_parts (matches d.cube s) (nat_lt time (done_at g s delay d.time)) p.1).0)
 
   -- the cube's test is asked once
-  pub first_delay : (order : List ℕ) (columns : List Column) (o : Option Scenario) → IsFirst g order (λ s. list_any (λ d. delays g cube delay time d s) columns) o →
+  pub first_delay : (order : List ℕ) (columns : List Column) (o : Option Scenario) →
+      IsFirst g order (λ s. list_any (λ d. delays g cube delay time d s) columns) o →
       IsFirst g order (λ s. matches cube s && list_any (λ d. is_late g delay time d s) columns) o
-  first_delay order columns o f = first_same g order (λ s. list_any (λ d. delays g cube delay time d s) columns) (λ s. matches cube s && list_any (λ d. is_late g delay time d s) columns) o
+  first_delay order columns o f = first_same g order (λ s. list_any (λ d. delays g cube delay time d s) columns)
+      (λ s. matches cube s && list_any (λ d. is_late g delay time d s) columns) o
       (λ s _. both_any (matches cube s) (λ d. is_late g delay time d s) columns) f
 
   -- if the last is early enough, all are
-  pub never_delays : (most last : ℕ) → IsMost g delay most → (columns : List Column) → All (λ d. d.time ≤ last) columns → last + most ≤ time → (s : Scenario) → IsScenario g s →
+  pub never_delays : (most last : ℕ) → IsMost g delay most → (columns : List Column) →
+      All (λ d. d.time ≤ last) columns → last + most ≤ time → (s : Scenario) →
+      IsScenario g s →
       (matches cube s && list_any (λ d. is_late g delay time d s) columns) ≡ false
-  never_delays most last is columns all early s i = and_right (matches cube s) _ (list_any_false (λ d. is_late g delay time d s) columns (λ d k.
+  never_delays most last is columns all early s i =
+      and_right (matches cube s) _ (list_any_false (λ d. is_late g delay time d s) columns (λ d k.
       let by : d.time ≤ last = All-contains (λ (d : Column). d.time ≤ last) columns d all k in
       let done = is s d.time i in
       and_right (matches d.cube s) _ (le-ltb time (done_at g s delay d.time) (omega arith))))

@@ -14,9 +14,13 @@ use Rattle.cpg_check_time.specs.Columns.{breaks_column}
 use Rattle.cpg_check_time.specs.Lateness.{ends_after}
 
 module _ (g : Graph) (order : List ℕ) (tables : List NodeTable) (x : ℕ) (c : Column) (l : x < process_count g) where
-  due_is : (s : Scenario) → (matches c.cube s && ends_after g x c.time (due g x) s) ≡ breaks_column Rule.Due g tables x c s
+  due_is : (s : Scenario) →
+      (matches c.cube s && ends_after g x c.time (due g x) s) ≡ breaks_column Rule.Due g tables x c s
   due_is s = ap (λ b. matches c.cube s && (b && ends_after g x c.time (due g x) s)) (sym (lt-ltb x (process_count g) l))
 
-  pub due_first : (part : List Literal) → ((s : Scenario) → IsScenario g s → matches part s ≡ (matches c.cube s && ends_after g x c.time (due g x) s)) → (o : Option Scenario) →
+  pub due_first : (part : List Literal) →
+      ((s : Scenario) → IsScenario g s → matches part s ≡ (matches c.cube s && ends_after g x c.time (due g x) s)) →
+      (o : Option Scenario) →
       IsFirst g order (matches part) o → IsFirst g order (breaks_column Rule.Due g tables x c) o
-  due_first part is o f = first_same g order (matches part) (breaks_column Rule.Due g tables x c) o (λ s i. is s i ∙ due_is s) f
+  due_first part is o f =
+      first_same g order (matches part) (breaks_column Rule.Due g tables x c) o (λ s i. is s i ∙ due_is s) f

@@ -1,5 +1,6 @@
 -- V8 at one column: the item is frozen, and the time another than that of the first possible column.
-use Rattle.std.proofs.Common.{ℕ, ◌+◌, ◌<◌, ◌≤◌, ◌≡◌, ◌≢◌, Bool, true, false, cond, not, ◌&&◌, ◌==◌, List, length, get_or, drop, find, map, Option, Some, None, All, refl, sym, ap, ◌∙◌, ne_eqb, eq-eqb}
+use Rattle.std.proofs.Common.{ℕ, ◌+◌, ◌<◌, ◌≤◌, ◌≡◌, ◌≢◌, Bool, true, false, cond, not, ◌&&◌, ◌==◌, List, length}
+use Rattle.std.proofs.Common.{get_or, drop, find, map, Option, Some, None, All, refl, sym, ap, ◌∙◌, ne_eqb, eq-eqb}
 use Rattle.std.specs.Prelude.{option_map}
 use Rattle.std.proofs.lemmas.Bool.{and_right}
 use Rattle.std.proofs.lemmas.List.{drop_more}
@@ -23,48 +24,70 @@ use Rattle.cpg_check_time.specs.Frozen.{frozen_time, possible_time}
 
 -- ---- the first possible column
 
-module _ (g : Graph) (few : process_count g ≤ 128) (columns : List Column) (are : All (IsColumn g) columns) (i : ℕ) (d : Column) (l : i < length columns) (is : d ≡ get_or columns i d) where
+module _ (g : Graph) (few : process_count g ≤ 128) (columns : List Column) (are : All (IsColumn g) columns) (i : ℕ)
+    (d : Column) (l : i < length columns) (is : d ≡ get_or columns i d) where
   met_here : is_possible g (get_or columns i d) ≡ is_met g.faults d.cube
-  met_here = possible-is_met g few (get_or columns i d) (are i d l).cube ∙ ap (λ (c : Column). is_met g.faults c.cube) (sym is)
+  met_here =
+      possible-is_met g few (get_or columns i d) (are i d l).cube ∙ ap (λ (c : Column). is_met g.faults c.cube) (sym is)
 
-  found_step : find (is_possible g) (drop i columns) ≡ cond (is_met g.faults d.cube) (Some (get_or columns i d)) (find (is_possible g) (drop (i + 1) columns))
-  found_step = ap (find (is_possible g)) (drop_more columns i d l) ∙ ap (λ b. cond b (Some (get_or columns i d)) (find (is_possible g) (drop (i + 1) columns))) met_here
+  found_step : find (is_possible g) (drop i columns)
+      ≡ cond (is_met g.faults d.cube) (Some (get_or columns i d)) (find (is_possible g) (drop (i + 1) columns))
+  found_step = ap (find (is_possible g)) (drop_more columns i d l)
+      ∙ ap (λ b. cond b (Some (get_or columns i d)) (find (is_possible g) (drop (i + 1) columns))) met_here
 
   -- it is met
-  pub time_here : possible_time g columns ≡ possible_time g (drop i columns) → is_met g.faults d.cube ≡ true → Some d.time ≡ possible_time g columns
+  pub time_here : possible_time g columns ≡ possible_time g (drop i columns) → is_met g.faults d.cube ≡ true →
+      Some d.time ≡ possible_time g columns
   time_here so_far met = ap (λ (c : Column). Some c.time) is ∙
-      sym (so_far ∙ ap (option_map (λ (c : Column). c.time)) (found_step ∙ ap (λ b. cond b (Some (get_or columns i d)) (find (is_possible g) (drop (i + 1) columns))) met))
+      sym (so_far ∙ ap (option_map (λ (c : Column). c.time))
+      (found_step ∙ ap (λ b. cond b (Some (get_or columns i d)) (find (is_possible g) (drop (i + 1) columns))) met))
 
   -- it isn't
-  pub time_later : possible_time g columns ≡ possible_time g (drop i columns) → is_met g.faults d.cube ≡ false → possible_time g columns ≡ possible_time g (drop (i + 1) columns)
-  time_later so_far met = so_far ∙ ap (option_map (λ (c : Column). c.time)) (found_step ∙ ap (λ b. cond b (Some (get_or columns i d)) (find (is_possible g) (drop (i + 1) columns))) met)
+  pub time_later : possible_time g columns ≡ possible_time g (drop i columns) → is_met g.faults d.cube ≡ false →
+      possible_time g columns ≡ possible_time g (drop (i + 1) columns)
+  time_later so_far met = so_far ∙ ap (option_map (λ (c : Column). c.time))
+      (found_step ∙ ap (λ b. cond b (Some (get_or columns i d)) (find (is_possible g) (drop (i + 1) columns))) met)
 
 -- ---- the rule
 
-differs_none : (time : ℕ) (b : Bool) (o : Option Column) → cond b (option_map (λ (c : Column). c.time) o) None ≡ None → (b && differs_from time o) ≡ false
+differs_none : (time : ℕ) (b : Bool) (o : Option Column) → cond b (option_map (λ (c : Column). c.time) o) None ≡ None →
+    (b && differs_from time o) ≡ false
 differs_none time true None e = refl
 differs_none time true (Some d) e = absurd (none-some d.time (sym e))
 differs_none time false o e = refl
 
-differs_some : (time t : ℕ) (b : Bool) (o : Option Column) → cond b (option_map (λ (c : Column). c.time) o) None ≡ Some t → (b && differs_from time o) ≡ not (t == time)
+differs_some : (time t : ℕ) (b : Bool) (o : Option Column) →
+    cond b (option_map (λ (c : Column). c.time) o) None ≡ Some t →
+    (b && differs_from time o) ≡ not (t == time)
 differs_some time t true None e = absurd (none-some t e)
 differs_some time t true (Some d) e = ap (λ u. not (u == time)) (same_Some d.time t e)
 differs_some time t false o e = absurd (none-some t e)
 
 module _ (g : Graph) (order : List ℕ) (tables : List NodeTable) (x : ℕ) (c : Column) where
   pub frozen_none : frozen_time g tables x ≡ None → (s : Scenario) → breaks_column Rule.Frozen g tables x c s ≡ false
-  frozen_none e s = and_right (matches c.cube s) _ (differs_none c.time (is_frozen g x) (find (is_possible g) (columns_of tables x)) e)
+  frozen_none e s = and_right (matches c.cube s) _
+      (differs_none c.time (is_frozen g x) (find (is_possible g) (columns_of tables x)) e)
 
-  pub frozen_same : (t : ℕ) → frozen_time g tables x ≡ Some t → t ≡ c.time → (s : Scenario) → breaks_column Rule.Frozen g tables x c s ≡ false
-  frozen_same t e same s = and_right (matches c.cube s) _ (differs_some c.time t (is_frozen g x) (find (is_possible g) (columns_of tables x)) e ∙ ap not (eq-eqb t c.time same))
+  pub frozen_same : (t : ℕ) → frozen_time g tables x ≡ Some t → t ≡ c.time → (s : Scenario) →
+      breaks_column Rule.Frozen g tables x c s ≡ false
+  frozen_same t e same s = and_right (matches c.cube s) _ (differs_some c.time t (is_frozen g x)
+      (find (is_possible g) (columns_of tables x)) e ∙ ap not (eq-eqb t c.time same))
 
-  frozen_other : (t : ℕ) → frozen_time g tables x ≡ Some t → t ≢ c.time → (s : Scenario) → matches c.cube s ≡ breaks_column Rule.Frozen g tables x c s
-  frozen_other t e other s = with_true (matches c.cube s) _ (differs_some c.time t (is_frozen g x) (find (is_possible g) (columns_of tables x)) e ∙ ap not (ne_eqb t c.time other))
+  frozen_other : (t : ℕ) → frozen_time g tables x ≡ Some t → t ≢ c.time → (s : Scenario) →
+      matches c.cube s ≡ breaks_column Rule.Frozen g tables x c s
+  frozen_other t e other s = with_true (matches c.cube s) _ (differs_some c.time t (is_frozen g x)
+      (find (is_possible g) (columns_of tables x)) e ∙ ap not (ne_eqb t c.time other))
 
-  pub frozen_first : (t : ℕ) → frozen_time g tables x ≡ Some t → t ≢ c.time → (o : Option Scenario) → IsFirst g order (matches c.cube) o → IsFirst g order (breaks_column Rule.Frozen g tables x c) o
-  frozen_first t e other o f = first_same g order (matches c.cube) (breaks_column Rule.Frozen g tables x c) o (λ s _. frozen_other t e other s) f
+  pub frozen_first : (t : ℕ) → frozen_time g tables x ≡ Some t → t ≢ c.time → (o : Option Scenario) →
+      IsFirst g order (matches c.cube) o →
+      IsFirst g order (breaks_column Rule.Frozen g tables x c) o
+  frozen_first t e other o f =
+      first_same g order (matches c.cube) (breaks_column Rule.Frozen g tables x c) o (λ s _. frozen_other t e other s) f
 
 -- the time in the list
-pub time_at : (g : Graph) (tables : List NodeTable) (times : List (Option ℕ)) (x : ℕ) (d : Option ℕ) → times ≡ map (frozen_time g tables) (numbers_below (item_count g)) → x < item_count g →
+pub time_at : (g : Graph) (tables : List NodeTable) (times : List (Option ℕ)) (x : ℕ) (d : Option ℕ) →
+    times ≡ map (frozen_time g tables) (numbers_below (item_count g)) →
+    x < item_count g →
     get_or times x d ≡ frozen_time g tables x
-time_at g tables times x d is l = ap (λ ts. get_or ts x d) is ∙ get_or-map-below (frozen_time g tables) (item_count g) x d l
+time_at g tables times x d is l =
+    ap (λ ts. get_or ts x d) is ∙ get_or-map-below (frozen_time g tables) (item_count g) x d l

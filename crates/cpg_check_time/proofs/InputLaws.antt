@@ -1,12 +1,14 @@
 -- V5 at one column: the release, an input, or the end of the producer comes after its time.
-use Rattle.std.proofs.Common.{ℕ, ◌+◌, ◌<◌, ◌≤◌, ◌≡◌, Bool, true, false, cond, not, ◌&&◌, ◌||◌, ◌==◌, List, filter, Contains, Option, refl, sym, ap, ◌∙◌, arith, lt-ltb, le-ltb}
+use Rattle.std.proofs.Common.{ℕ, ◌+◌, ◌<◌, ◌≤◌, ◌≡◌, Bool, true, false, cond, not, ◌&&◌, ◌||◌, ◌==◌, List, filter}
+use Rattle.std.proofs.Common.{Contains, Option, refl, sym, ap, ◌∙◌, arith, lt-ltb, le-ltb}
 use Rattle.std.specs.Prelude.{nat_lt}
 use Rattle.std.specs.List.{list_any}
 use Rattle.std.proofs.Math.Bool.{and_assoc, and_comm}
 use Rattle.cpg_base.specs.Activity.{active, live, item_active}
 use Rattle.cpg_base.specs.Bus.{slot_length}
 use Rattle.cpg_base.specs.Duration.{duration}
-use Rattle.cpg_base.specs.Graph.{Graph, process_count, edge_count, item_count, item_at, message_item, producer, home, inputs, is_message, process_at, source, target}
+use Rattle.cpg_base.specs.Graph.{Graph, process_count, edge_count, item_count, item_at, message_item, producer, home}
+use Rattle.cpg_base.specs.Graph.{inputs, is_message, process_at, source, target}
 use Rattle.cpg_base.specs.Numbers.{numbers_below}
 use Rattle.cpg_base.proofs.Items.{item_at-start, item_at-message, producer_within}
 use Rattle.cpg_base.proofs.Lists.{same_any, Contains-filter_parts, numbers-Contains}
@@ -38,63 +40,89 @@ use Rattle.cpg_check_time.proofs.Waits.{late_where}
 -- ---- live edges
 
 -- an edge is live if its source is active and has the value that it asks for
-live_asked : {g : Graph} {order : List ℕ} {guards : Guards} → IsAdmitted g order guards → (s : Scenario) → IsScenario g s → (e : ℕ) → e < edge_count g →
+live_asked : {g : Graph} {order : List ℕ} {guards : Guards} → IsAdmitted g order guards → (s : Scenario) →
+    IsScenario g s → (e : ℕ) →
+    e < edge_count g →
     live g s.values e ≡ (active g s.values (source g e) && is_asked g e s)
 live_asked {g} {order} {guards} a s i e l = live_tested g order a.topological guards a.guards s.values i.values e l
 
-module _ {g : Graph} {order : List ℕ} {guards : Guards} (admitted : IsAdmitted g order guards) (tables : List NodeTable) (rules : AllHold g tables row_rules) (s : Scenario)
+module _ {g : Graph} {order : List ℕ} {guards : Guards} (admitted : IsAdmitted g order guards) (tables : List NodeTable)
+    (rules : AllHold g tables row_rules) (s : Scenario)
     (law : IsScenario g s) where
   -- if a process is active and hasn't ended by a time, one of its columns is late
-  end_late : (p : ℕ) → p < process_count g → (time : ℕ) → (active g s.values p && not (is_by time (ends_of g tables s p))) ≡ list_any (λ d. is_late g (Execution p) time d s) (columns_of tables p)
+  end_late : (p : ℕ) → p < process_count g → (time : ℕ) →
+      (active g s.values p && not (is_by time (ends_of g tables s p)))
+      ≡ list_any (λ d. is_late g (Execution p) time d s) (columns_of tables p)
   end_late p l time =
       ap (λ i. item_active g s.values i && not (is_by time (ends_of g tables s p))) (sym (item_at-start g p l))
       ∙ late_where g tables s law p (omega arith) rules (λ start. start + duration g p (fault_of s p)) time
 
   -- if a live input isn't there by a time, it is late
-  input_late : (e : ℕ) → e < edge_count g → (time : ℕ) → (live g s.values e && not (input_is_there g tables s time e)) ≡ is_input_late g tables time e s
+  input_late : (e : ℕ) → e < edge_count g → (time : ℕ) →
+      (live g s.values e && not (input_is_there g tables s time e)) ≡ is_input_late g tables time e s
   input_late e l time = go (is_message g e) refl
     where
-      go : (b : Bool) → is_message g e ≡ b → (live g s.values e && not (is_by time (cond b (arrivals_of g tables s (message_item g e)) (ends_of g tables s (source g e)))))
-          ≡ cond b (list_any (λ d. is_late g (Slot (slot_length g (home g (message_item g e)))) time d s) (columns_of tables (message_item g e)))
-          (is_asked g e s && list_any (λ d. is_late g (Execution (source g e)) time d s) (columns_of tables (source g e)))
+      go : (b : Bool) → is_message g e ≡ b →
+          (live g s.values e
+          && not (is_by time (cond b (arrivals_of g tables s (message_item g e)) (ends_of g tables s (source g e)))))
+          ≡ cond b (list_any (λ d. is_late g (Slot (slot_length g (home g (message_item g e)))) time d s)
+          (columns_of tables (message_item g e)))
+          (is_asked g e s
+          && list_any (λ d. is_late g (Execution (source g e)) time d s) (columns_of tables (source g e)))
       go true m =
-          let sent : item_active g s.values (item_at g (message_item g e)) ≡ live g s.values e = ap (item_active g s.values) (item_at-message g e l) ∙ ap (λ b. b && live g s.values e) m in
+          let sent : item_active g s.values (item_at g (message_item g e)) ≡ live g s.values e =
+          ap (item_active g s.values) (item_at-message g e l) ∙ ap (λ b. b && live g s.values e) m in
           ap (λ b. b && not (is_by time (arrivals_of g tables s (message_item g e)))) (sym sent)
-          ∙ late_where g tables s law (message_item g e) (omega arith) rules (λ start. start + slot_length g (home g (message_item g e))) time
+          ∙ late_where g tables s law (message_item g e) (omega arith) rules
+          (λ start. start + slot_length g (home g (message_item g e))) time
       go false m =
-          ap (λ b. b && not (is_by time (ends_of g tables s (source g e)))) (live_asked admitted s law e l ∙ and_comm (active g s.values (source g e)) (is_asked g e s))
-          ∙ and_assoc (is_asked g e s) (active g s.values (source g e)) (not (is_by time (ends_of g tables s (source g e))))
-          ∙ ap (λ b. is_asked g e s && b) (end_late (source g e) (source_in_order g order admitted.topological e l) time)
+          ap (λ b. b && not (is_by time (ends_of g tables s (source g e))))
+          (live_asked admitted s law e l ∙ and_comm (active g s.values (source g e)) (is_asked g e s))
+          ∙ and_assoc (is_asked g e s) (active g s.values (source g e))
+          (not (is_by time (ends_of g tables s (source g e))))
+          ∙ ap (λ b. is_asked g e s && b)
+          (end_late (source g e) (source_in_order g order admitted.topological e l) time)
 
   -- ---- the rule at a start
 
   module _ (p : ℕ) (l : p < process_count g) (c : Column) where
     at_start : breaks_column Rule.Inputs g tables p c s ≡
-        (matches c.cube s && (nat_lt c.time (process_at g p).release || list_any (λ e. not (input_is_there g tables s c.time e)) (filter (live g s.values) (inputs g p))))
+        (matches c.cube s && (nat_lt c.time (process_at g p).release
+        || list_any (λ e. not (input_is_there g tables s c.time e)) (filter (live g s.values) (inputs g p))))
     at_start = ap (λ i. matches c.cube s && breaks_inputs_of g tables s c.time i) (item_at-start g p l)
 
     too_early : c.time < (process_at g p).release → matches c.cube s ≡ breaks_column Rule.Inputs g tables p c s
     too_early early = with_true (matches c.cube s) true refl ∙
-        sym (at_start ∙ ap (λ b. matches c.cube s && (b || list_any (λ e. not (input_is_there g tables s c.time e)) (filter (live g s.values) (inputs g p))))
+        sym (at_start ∙ ap (λ b. matches c.cube s
+        && (b || list_any (λ e. not (input_is_there g tables s c.time e)) (filter (live g s.values) (inputs g p))))
         (lt-ltb c.time (process_at g p).release early))
 
-    inputs_only : (process_at g p).release ≤ c.time → list_any (λ e. lacks_input g tables c e s) (inputs g p) ≡ breaks_column Rule.Inputs g tables p c s
+    inputs_only : (process_at g p).release ≤ c.time →
+        list_any (λ e. lacks_input g tables c e s) (inputs g p) ≡ breaks_column Rule.Inputs g tables p c s
     inputs_only released =
         both_any (matches c.cube s) (λ e. is_input_late g tables c.time e s) (inputs g p)
-        ∙ ap (λ b. matches c.cube s && b) (sym (any_filter (λ e. not (input_is_there g tables s c.time e)) (live g s.values) (inputs g p)
-        ∙ same_any (λ e. live g s.values e && not (input_is_there g tables s c.time e)) (λ e. is_input_late g tables c.time e s) (inputs g p)
-        (λ e k. input_late e (numbers-Contains (edge_count g) e (Contains-filter_parts (λ e. target g e == p) (numbers_below (edge_count g)) e k).0) c.time)))
-        ∙ sym (at_start ∙ ap (λ b. matches c.cube s && (b || list_any (λ e. not (input_is_there g tables s c.time e)) (filter (live g s.values) (inputs g p))))
+        ∙ ap (λ b. matches c.cube s && b)
+        (sym (any_filter (λ e. not (input_is_there g tables s c.time e)) (live g s.values) (inputs g p)
+        ∙ same_any (λ e. live g s.values e && not (input_is_there g tables s c.time e))
+        (λ e. is_input_late g tables c.time e s) (inputs g p)
+        (λ e k. input_late e (numbers-Contains (edge_count g) e
+        (Contains-filter_parts (λ e. target g e == p) (numbers_below (edge_count g)) e k).0) c.time)))
+        ∙ sym (at_start ∙ ap (λ b. matches c.cube s
+        && (b || list_any (λ e. not (input_is_there g tables s c.time e)) (filter (live g s.values) (inputs g p))))
         (le-ltb c.time (process_at g p).release released))
 
   -- ---- the rule at a send
 
-  module _ (x : ℕ) (l : x < item_count g) (send : process_count g ≤ x) (c : Column) (k : Contains (columns_of tables x) c) where
-    at_send : (matches c.cube s && list_any (λ d. is_late g (Execution (producer g x)) c.time d s) (columns_of tables (producer g x))) ≡ breaks_column Rule.Inputs g tables x c s
+  module _ (x : ℕ) (l : x < item_count g) (send : process_count g ≤ x) (c : Column)
+      (k : Contains (columns_of tables x) c) where
+    at_send : (matches c.cube s && list_any (λ d. is_late g (Execution (producer g x)) c.time d s)
+        (columns_of tables (producer g x))) ≡ breaks_column Rule.Inputs g tables x c s
     at_send =
-        same_where (matches c.cube s) (list_any (λ d. is_late g (Execution (producer g x)) c.time d s) (columns_of tables (producer g x))) (not (is_by c.time (ends_of g tables s (producer g x))))
+        same_where (matches c.cube s) (list_any (λ d. is_late g (Execution (producer g x)) c.time d s)
+        (columns_of tables (producer g x))) (not (is_by c.time (ends_of g tables s (producer g x))))
         (λ m. sym (end_late (producer g x) (producer_within g admitted.well_formed x l) c.time)
-        ∙ ap (λ b. b && not (is_by c.time (ends_of g tables s (producer g x)))) (made g s x l send (active_where g tables s law x l rules c k m)))
+        ∙ ap (λ b. b && not (is_by c.time (ends_of g tables s (producer g x))))
+        (made g s x l send (active_where g tables s law x l rules c k m)))
         ∙ ap (λ b. matches c.cube s && b) (sym (waits g s x l send tables c.time))
 
 -- ---- an input by its kind
@@ -102,16 +130,19 @@ module _ {g : Graph} {order : List ℕ} {guards : Guards} (admitted : IsAdmitted
 module _ (g : Graph) (order : List ℕ) (tables : List NodeTable) (c : Column) (e : ℕ) (o : Option Scenario) where
   -- what is asked of a frame, and of the end of a source on the node
   abbrev frame_late : Scenario → Bool
-  frame_late s = list_any (λ d. is_late g (Slot (slot_length g (home g (message_item g e)))) c.time d s) (columns_of tables (message_item g e))
+  frame_late s = list_any (λ d. is_late g (Slot (slot_length g (home g (message_item g e)))) c.time d s)
+      (columns_of tables (message_item g e))
 
   abbrev source_late : Scenario → Bool
   source_late s = list_any (λ d. is_late g (Execution (source g e)) c.time d s) (columns_of tables (source g e))
 
-  pub lacks_frame : is_message g e ≡ true → IsFirst g order (λ s. matches c.cube s && frame_late s) o → IsFirst g order (lacks_input g tables c e) o
+  pub lacks_frame : is_message g e ≡ true → IsFirst g order (λ s. matches c.cube s && frame_late s) o →
+      IsFirst g order (lacks_input g tables c e) o
   lacks_frame m f = first_same g order (λ s. matches c.cube s && frame_late s) (lacks_input g tables c e) o
       (λ s _. sym (ap (λ b. matches c.cube s && cond b (frame_late s) (is_asked g e s && source_late s)) m)) f
 
-  pub lacks_source : is_message g e ≡ false → (part : List Literal) → ((s : Scenario) → matches part s ≡ (matches c.cube s && is_asked g e s)) →
+  pub lacks_source : is_message g e ≡ false → (part : List Literal) →
+      ((s : Scenario) → matches part s ≡ (matches c.cube s && is_asked g e s)) →
       IsFirst g order (λ s. matches part s && source_late s) o → IsFirst g order (lacks_input g tables c e) o
   lacks_source m part is f = first_same g order (λ s. matches part s && source_late s) (lacks_input g tables c e) o
       (λ s _. ap (λ b. b && source_late s) (is s) ∙ and_assoc (matches c.cube s) (is_asked g e s) (source_late s)
@@ -119,18 +150,25 @@ module _ (g : Graph) (order : List ℕ) (tables : List NodeTable) (c : Column) (
 
 -- ---- the least scenario
 
-module _ {g : Graph} {order : List ℕ} {guards : Guards} (admitted : IsAdmitted g order guards) (tables : List NodeTable) (rules : AllHold g tables row_rules) (x : ℕ) (c : Column)
+module _ {g : Graph} {order : List ℕ} {guards : Guards} (admitted : IsAdmitted g order guards) (tables : List NodeTable)
+    (rules : AllHold g tables row_rules) (x : ℕ) (c : Column)
     (o : Option Scenario) where
-  pub first_released : x < process_count g → c.time < (process_at g x).release → IsFirst g order (matches c.cube) o → IsFirst g order (breaks_column Rule.Inputs g tables x c) o
-  first_released l early f = first_same g order (matches c.cube) (breaks_column Rule.Inputs g tables x c) o (λ s i. too_early admitted tables rules s i x l c early) f
-
-  pub first_input : x < process_count g → (process_at g x).release ≤ c.time → IsFirst g order (λ s. list_any (λ e. lacks_input g tables c e s) (inputs g x)) o →
+  pub first_released : x < process_count g → c.time < (process_at g x).release → IsFirst g order (matches c.cube) o →
       IsFirst g order (breaks_column Rule.Inputs g tables x c) o
-  first_input l released f = first_same g order (λ s. list_any (λ e. lacks_input g tables c e s) (inputs g x)) (breaks_column Rule.Inputs g tables x c) o
+  first_released l early f = first_same g order (matches c.cube) (breaks_column Rule.Inputs g tables x c) o
+      (λ s i. too_early admitted tables rules s i x l c early) f
+
+  pub first_input : x < process_count g → (process_at g x).release ≤ c.time →
+      IsFirst g order (λ s. list_any (λ e. lacks_input g tables c e s) (inputs g x)) o →
+      IsFirst g order (breaks_column Rule.Inputs g tables x c) o
+  first_input l released f = first_same g order (λ s. list_any (λ e. lacks_input g tables c e s) (inputs g x))
+      (breaks_column Rule.Inputs g tables x c) o
       (λ s i. inputs_only admitted tables rules s i x l c released) f
 
   pub first_send : x < item_count g → process_count g ≤ x → Contains (columns_of tables x) c →
-      IsFirst g order (λ s. matches c.cube s && list_any (λ d. is_late g (Execution (producer g x)) c.time d s) (columns_of tables (producer g x))) o →
+      IsFirst g order (λ s. matches c.cube s
+      && list_any (λ d. is_late g (Execution (producer g x)) c.time d s) (columns_of tables (producer g x))) o →
       IsFirst g order (breaks_column Rule.Inputs g tables x c) o
-  first_send l send k f = first_same g order (λ s. matches c.cube s && list_any (λ d. is_late g (Execution (producer g x)) c.time d s) (columns_of tables (producer g x)))
+  first_send l send k f = first_same g order (λ s. matches c.cube s
+      && list_any (λ d. is_late g (Execution (producer g x)) c.time d s) (columns_of tables (producer g x)))
       (breaks_column Rule.Inputs g tables x c) o (λ s i. at_send admitted tables rules s i x l send c k) f

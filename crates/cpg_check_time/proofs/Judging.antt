@@ -1,10 +1,12 @@
 -- A rule that each column keeps or breaks by itself: column by column, and what is known of each column.
-use Rattle.std.proofs.Common.{ℕ, ◌+◌, ◌<◌, ◌≤◌, ◌≡◌, true, false, ◌&&◌, List, [], ◌++◌, length, get_or, take, Some, None, Contains, All, arith, sym, ap, ◌∙◌, subst, inl, inr, refl, true≢false}
+use Rattle.std.proofs.Common.{ℕ, ◌+◌, ◌<◌, ◌≤◌, ◌≡◌, true, false, ◌&&◌, List, [], ◌++◌, length, get_or, take, Some}
+use Rattle.std.proofs.Common.{None, Contains, All, arith, sym, ap, ◌∙◌, subst, inl, inr, refl, true≢false}
 use Rattle.std.specs.List.{list_any}
 use Rattle.std.proofs.Math.Bool.{or-false}
 use Rattle.std.proofs.lemmas.Bool.{cases_lt}
 use Rattle.std.proofs.lemmas.List.{drop_more, drop_all}
-use Rattle.std.proofs.lemmas.List.Elements.{All-weaker, All-contains, All-contains_itself, Contains-append_cases, Contains-append_left, Contains-append_right}
+use Rattle.std.proofs.lemmas.List.Elements.{All-weaker, All-contains, All-contains_itself, Contains-append_cases}
+use Rattle.std.proofs.lemmas.List.Elements.{Contains-append_left, Contains-append_right}
 use Rattle.cpg_base.specs.Graph.{Graph, home}
 use Rattle.cpg_base.specs.Scenario.{Scenario, IsScenario}
 use Rattle.cpg_base.specs.First.{IsFirst}
@@ -32,49 +34,62 @@ never_asks : (rule : Rule) → is_alone rule ≡ true → asks_for_one rule ≡ 
 never_asks Present e = absurd (true≢false (sym e))
 never_asks rule e = refl
 
-same_rule : (rule : Rule) → is_alone rule ≡ true → (g : Graph) (tables : List NodeTable) (s : Scenario) (x : ℕ) (earlier : List Column) (c : Column) →
+same_rule : (rule : Rule) → is_alone rule ≡ true →
+    (g : Graph) (tables : List NodeTable) (s : Scenario) (x : ℕ) (earlier : List Column) (c : Column) →
     breaks_rule rule g tables s x earlier c ≡ breaks_rule rule g tables s x [] c
 same_rule Single e g tables s x earlier c = absurd (true≢false (sym e))
 same_rule rule e g tables s x earlier c = refl
 
 module _ (rule : Rule) (alone : is_alone rule ≡ true) (g : Graph) (tables : List NodeTable) (x : ℕ) where
-  pub same_earlier : (earlier : List Column) (c : Column) (s : Scenario) → breaks_at rule g tables s x earlier c ≡ breaks_column rule g tables x c s
+  pub same_earlier : (earlier : List Column) (c : Column) (s : Scenario) →
+      breaks_at rule g tables s x earlier c ≡ breaks_column rule g tables x c s
   same_earlier earlier c s = ap (λ b. matches c.cube s && b) (same_rule rule alone g tables s x earlier c)
 
   pub never_missing : (s : Scenario) → breaks rule g tables s x None ≡ false
   never_missing s = ap (λ b. b && breaks_present g tables s x) (never_asks rule alone)
 
   -- the column at a place
-  pub breaks_here : (i : ℕ) (d : Column) (s : Scenario) → i < length (columns_of tables x) → breaks_column rule g tables x (get_or (columns_of tables x) i d) s ≡ breaks rule g tables s x (Some i)
+  pub breaks_here : (i : ℕ) (d : Column) (s : Scenario) → i < length (columns_of tables x) →
+      breaks_column rule g tables x (get_or (columns_of tables x) i d) s ≡ breaks rule g tables s x (Some i)
   breaks_here i d s h =
       sym (same_earlier (take i (columns_of tables x)) (get_or (columns_of tables x) i d) s)
       ∙ sym (or-false (breaks_at rule g tables s x (take i (columns_of tables x)) (get_or (columns_of tables x) i d)))
-      ∙ sym (ap (λ l. list_any (breaks_at rule g tables s x (take i (columns_of tables x))) (take 1 l)) (drop_more (columns_of tables x) i d h))
+      ∙ sym (ap (λ l. list_any (breaks_at rule g tables s x (take i (columns_of tables x))) (take 1 l))
+      (drop_more (columns_of tables x) i d h))
 
   -- there is no column past the last
-  pub breaks_past : (i : ℕ) (s : Scenario) → length (columns_of tables x) ≤ i → breaks rule g tables s x (Some i) ≡ false
-  breaks_past i s h = ap (λ l. list_any (breaks_at rule g tables s x (take i (columns_of tables x))) (take 1 l)) (drop_all i (columns_of tables x) h)
+  pub breaks_past : (i : ℕ) (s : Scenario) → length (columns_of tables x) ≤ i →
+      breaks rule g tables s x (Some i) ≡ false
+  breaks_past i s h = ap (λ l. list_any (breaks_at rule g tables s x (take i (columns_of tables x))) (take 1 l))
+      (drop_all i (columns_of tables x) h)
 
   -- the column of a step of a loop over the columns
-  module _ (order : List ℕ) (columns : List Column) (all : columns ≡ columns_of tables x) (i : ℕ) (d : Column) (l : i < length columns) (is : d ≡ get_or columns i d) where
+  module _ (order : List ℕ) (columns : List Column) (all : columns ≡ columns_of tables x) (i : ℕ) (d : Column)
+      (l : i < length columns) (is : d ≡ get_or columns i d) where
     place_is : (s : Scenario) → breaks_column rule g tables x d s ≡ breaks rule g tables s x (Some i)
-    place_is s = ap (λ c. breaks_column rule g tables x c s) (is ∙ ap (λ cs. get_or cs i d) all) ∙ breaks_here i d s (omega (arith, ap length all))
+    place_is s = ap (λ c. breaks_column rule g tables x c s) (is ∙ ap (λ cs. get_or cs i d) all)
+        ∙ breaks_here i d s (omega (arith, ap length all))
 
     pub place_there : Contains (columns_of tables x) d
     place_there = subst (λ cs. Contains cs d) all (i, l, sym is)
 
-    pub first_here : (s : Scenario) → ((j : ℕ) (t : Scenario) → j < i → IsScenario g t → breaks rule g tables t x (Some j) ≡ false) → IsFirst g order (breaks_column rule g tables x d) (Some s)
+    pub first_here : (s : Scenario) →
+        ((j : ℕ) (t : Scenario) → j < i → IsScenario g t → breaks rule g tables t x (Some j) ≡ false) →
+        IsFirst g order (breaks_column rule g tables x d) (Some s)
         → IsFirstColumn g order (λ j t. breaks rule g tables t x (Some j)) (i, s)
     first_here s before first = record {
-      least = first_same g order (breaks_column rule g tables x d) (λ t. breaks rule g tables t x (Some i)) (Some s) (λ t _. place_is t) first;
+      least = first_same g order (breaks_column rule g tables x d) (λ t. breaks rule g tables t x (Some i)) (Some s)
+          (λ t _. place_is t) first;
       columns = λ j t m k. before j t m k;
     }
 
-    pub none_here : ((j : ℕ) (t : Scenario) → j < i → IsScenario g t → breaks rule g tables t x (Some j) ≡ false) → ((t : Scenario) → IsScenario g t → breaks_column rule g tables x d t ≡ false)
+    pub none_here : ((j : ℕ) (t : Scenario) → j < i → IsScenario g t → breaks rule g tables t x (Some j) ≡ false) →
+        ((t : Scenario) → IsScenario g t → breaks_column rule g tables x d t ≡ false)
         → (j : ℕ) (t : Scenario) → j < i + 1 → IsScenario g t → breaks rule g tables t x (Some j) ≡ false
     none_here before here j t m k = elim (cases_lt j i) [
       | inl lt ↦ before j t lt k
-      | inr ge ↦ let same : i ≡ j = omega arith in subst (λ n. breaks rule g tables t x (Some n) ≡ false) same (sym (place_is t) ∙ here t k)
+      | inr ge ↦ let same : i ≡ j = omega arith in
+          subst (λ n. breaks rule g tables t x (Some n) ≡ false) same (sym (place_is t) ∙ here t k)
     ]
 
 -- ---- what is known of the columns of an item
@@ -85,15 +100,18 @@ in_rows_of t row k = elim (Contains-append_cases t.starts t.sends row k) [
   | inr m ↦ Contains-append_right t.starts (t.sends ++ t.hears) row (Contains-append_left t.sends t.hears row m)
 ]
 
-module _ {g : Graph} {order : List ℕ} {guards : Guards} (admitted : IsAdmitted g order guards) (tables : List NodeTable) (are : AreTablesOf (head_of g) tables) where
+module _ {g : Graph} {order : List ℕ} {guards : Guards} (admitted : IsAdmitted g order guards) (tables : List NodeTable)
+    (are : AreTablesOf (head_of g) tables) where
   lawful_column : (x : ℕ) (c : Column) → Contains (columns_of tables x) c → IsLawfulColumn (space_of (head_of g)) c
   lawful_column x c k =
       let shape = has_shape g admitted.limits tables are in
       let has = has_row admitted.well_formed shape x c k in
       let node : home g x < length g.nodes = home_within admitted.well_formed shape x has.within in
       let r = row_of admitted.well_formed shape (home g x) x node has in
-      let there : Contains r.0.columns c = subst (λ cs. Contains cs c) (ap (columns_of tables) (sym r.2) ∙ row_columns admitted.well_formed shape (home g x) node r.0 r.1) k in
-      let row : IsLawfulRow (space_of (head_of g)) r.0 = All-contains (IsLawfulRow (space_of (head_of g))) (rows_of (table_at tables (home g x))) r.0 (are.each (home g x) node).lawful
+      let there : Contains r.0.columns c = subst (λ cs. Contains cs c)
+      (ap (columns_of tables) (sym r.2) ∙ row_columns admitted.well_formed shape (home g x) node r.0 r.1) k in
+      let row : IsLawfulRow (space_of (head_of g)) r.0 = All-contains (IsLawfulRow (space_of (head_of g)))
+      (rows_of (table_at tables (home g x))) r.0 (are.each (home g x) node).lawful
       (in_rows_of (table_at tables (home g x)) r.0 r.1) in
       All-contains (IsLawfulColumn (space_of (head_of g))) r.0.columns c row.columns there
 
@@ -101,9 +119,14 @@ module _ {g : Graph} {order : List ℕ} {guards : Guards} (admitted : IsAdmitted
   column_is x c k =
       let lawful = lawful_column x c k in
       record {
-        cube = record { rising = lawful.rising; known = All-contains (λ (c : Column). IsKnown g c.cube) (columns_of tables x) c (columns_known admitted tables are x) k };
+        cube = record {
+          rising = lawful.rising;
+          known = All-contains (λ (c : Column). IsKnown g c.cube) (columns_of tables x) c
+              (columns_known admitted tables are x) k;
+        };
         early = lawful.time;
       }
 
   pub columns_are : (x : ℕ) → All (IsColumn g) (columns_of tables x)
-  columns_are x = All-weaker (Contains (columns_of tables x)) (IsColumn g) (column_is x) (columns_of tables x) (All-contains_itself (columns_of tables x))
+  columns_are x = All-weaker (Contains (columns_of tables x)) (IsColumn g) (column_is x) (columns_of tables x)
+      (All-contains_itself (columns_of tables x))

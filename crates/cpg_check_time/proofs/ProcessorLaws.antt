@@ -1,5 +1,6 @@
 -- V6 at one column: another execution on the processor overlaps that of the column.
-use Rattle.std.proofs.Common.{ℕ, ◌+◌, ◌<◌, ◌≤◌, ◌≡◌, Bool, true, false, ◌&&◌, ◌==◌, List, filter, All, Option, arith, sym, ap, ◌∙◌, lt-ltb, le-ltb, ltb, eq-eqb}
+use Rattle.std.proofs.Common.{ℕ, ◌+◌, ◌<◌, ◌≤◌, ◌≡◌, Bool, true, false, ◌&&◌, ◌==◌, List, filter, All, Option, arith}
+use Rattle.std.proofs.Common.{sym, ap, ◌∙◌, lt-ltb, le-ltb, ltb, eq-eqb}
 use Rattle.std.specs.List.{list_any}
 use Rattle.std.proofs.lemmas.Bool.{and_left, and_parts, and_right}
 use Rattle.std.proofs.lemmas.List.Elements.{All-contains}
@@ -27,23 +28,32 @@ use Rattle.cpg_check_time.proofs.Seeking.{and_swap, any_at, both_any}
 
 -- ---- two columns
 
-module _ (g : Graph) (within : IsWithinLimits g) (p : ℕ) (l : p < process_count g) (c : Column) (q : ℕ) (d : Column) where
+module _ (g : Graph) (within : IsWithinLimits g) (p : ℕ) (l : p < process_count g) (c : Column) (q : ℕ)
+    (d : Column) where
   -- the other one starts first
-  pub overlap_after : d.time ≤ c.time → (order : List ℕ) (o : Option Scenario) → IsFirst g order (λ s. matches c.cube s && (matches d.cube s && ends_after g q d.time c.time s)) o →
+  pub overlap_after : d.time ≤ c.time → (order : List ℕ) (o : Option Scenario) →
+      IsFirst g order (λ s. matches c.cube s && (matches d.cube s && ends_after g q d.time c.time s)) o →
       IsFirst g order (overlaps g p c q d) o
-  overlap_after first order o f = first_same g order (λ s. matches c.cube s && (matches d.cube s && ends_after g q d.time c.time s)) (overlaps g p c q d) o
-      (λ s _. ap (λ b. matches c.cube s && (matches d.cube s && b)) (with_true (ends_after g q d.time c.time s) (ltb d.time (c.time + duration g p (fault_of s p)))
-      (lt-ltb d.time (c.time + duration g p (fault_of s p)) (omega (arith, duration_some g within p (fault_of s p) l))))) f
+  overlap_after first order o f = first_same g order
+      (λ s. matches c.cube s && (matches d.cube s && ends_after g q d.time c.time s)) (overlaps g p c q d) o
+      (λ s _. ap (λ b. matches c.cube s && (matches d.cube s && b))
+      (with_true (ends_after g q d.time c.time s) (ltb d.time (c.time + duration g p (fault_of s p)))
+      (lt-ltb d.time (c.time + duration g p (fault_of s p))
+      (omega (arith, duration_some g within p (fault_of s p) l))))) f
 
   -- the other one starts later
-  pub overlap_before : c.time < d.time → (order : List ℕ) (o : Option Scenario) → IsFirst g order (λ s. matches d.cube s && (matches c.cube s && ends_after g p c.time d.time s)) o →
+  pub overlap_before : c.time < d.time → (order : List ℕ) (o : Option Scenario) →
+      IsFirst g order (λ s. matches d.cube s && (matches c.cube s && ends_after g p c.time d.time s)) o →
       IsFirst g order (overlaps g p c q d) o
-  overlap_before first order o f = first_same g order (λ s. matches d.cube s && (matches c.cube s && ends_after g p c.time d.time s)) (overlaps g p c q d) o
+  overlap_before first order o f = first_same g order
+      (λ s. matches d.cube s && (matches c.cube s && ends_after g p c.time d.time s)) (overlaps g p c q d) o
       (λ s _. and_swap (matches d.cube s) (matches c.cube s) (ends_after g p c.time d.time s)
-      ∙ ap (λ b. matches c.cube s && (matches d.cube s && (b && ends_after g p c.time d.time s))) (sym (lt-ltb c.time (d.time + duration g q (fault_of s q)) (omega arith)))) f
+      ∙ ap (λ b. matches c.cube s && (matches d.cube s && (b && ends_after g p c.time d.time s)))
+      (sym (lt-ltb c.time (d.time + duration g q (fault_of s q)) (omega arith)))) f
 
   -- they match together
-  pub overlaps_both : (s : Scenario) → overlaps g p c q d s ≡ true → (matches c.cube s ≡ true) × (matches d.cube s ≡ true)
+  pub overlaps_both : (s : Scenario) → overlaps g p c q d s ≡ true →
+      (matches c.cube s ≡ true) × (matches d.cube s ≡ true)
   overlaps_both s t =
       let r = and_parts (matches c.cube s) _ t in
       (r.0, (and_parts (matches d.cube s) _ r.1).0)
@@ -51,26 +61,37 @@ module _ (g : Graph) (within : IsWithinLimits g) (p : ℕ) (l : p < process_coun
 -- ---- the columns of another process
 
 module _ (g : Graph) (tables : List NodeTable) (p : ℕ) (c : Column) (q : ℕ) where
-  pub other_node : node_of g q ≡ node_of g p → (order : List ℕ) (o : Option Scenario) → IsFirst g order (λ s. list_any (λ d. overlaps g p c q d s) (columns_of tables q)) o →
+  pub other_node : node_of g q ≡ node_of g p → (order : List ℕ) (o : Option Scenario) →
+      IsFirst g order (λ s. list_any (λ d. overlaps g p c q d s) (columns_of tables q)) o →
       IsFirst g order (overlaps_some g tables p c q) o
-  other_node same order o f = first_same g order (λ s. list_any (λ d. overlaps g p c q d s) (columns_of tables q)) (overlaps_some g tables p c q) o
-      (λ s _. sym (ap (λ b. b && list_any (λ d. overlaps g p c q d s) (columns_of tables q)) (eq-eqb (node_of g q) (node_of g p) same))) f
+  other_node same order o f = first_same g order (λ s. list_any (λ d. overlaps g p c q d s) (columns_of tables q))
+      (overlaps_some g tables p c q) o
+      (λ s _. sym (ap (λ b. b && list_any (λ d. overlaps g p c q d s) (columns_of tables q))
+      (eq-eqb (node_of g q) (node_of g p) same))) f
 
   module _ (few : process_count g ≤ 128) (s : Scenario) (i : IsScenario g s) where
     -- all start too late
-    pub starts_late : p < process_count g → (first : ℕ) → All (λ d. first ≤ d.time) (columns_of tables q) → c.time + duration g p g.faults ≤ first → overlaps_some g tables p c q s ≡ false
-    starts_late l first all late = and_right (node_of g q == node_of g p) _ (list_any_false (λ d. overlaps g p c q d s) (columns_of tables q) (λ d k.
+    pub starts_late : p < process_count g → (first : ℕ) → All (λ d. first ≤ d.time) (columns_of tables q) →
+        c.time + duration g p g.faults ≤ first →
+        overlaps_some g tables p c q s ≡ false
+    starts_late l first all late = and_right (node_of g q == node_of g p) _
+        (list_any_false (λ d. overlaps g p c q d s) (columns_of tables q) (λ d k.
         let from : first ≤ d.time = All-contains (λ (d : Column). first ≤ d.time) (columns_of tables q) d all k in
         let own = duration_grows g p (fault_of s p) g.faults (fault_within g few p l s i) in
         and_right (matches c.cube s) _ (and_right (matches d.cube s) _
-        (and_right (ltb c.time (d.time + duration g q (fault_of s q))) _ (le-ltb d.time (c.time + duration g p (fault_of s p)) (omega arith))))))
+        (and_right (ltb c.time (d.time + duration g q (fault_of s q))) _
+        (le-ltb d.time (c.time + duration g p (fault_of s p)) (omega arith))))))
 
     -- all end early enough
-    pub ends_early : q < process_count g → (last : ℕ) → All (λ d. d.time ≤ last) (columns_of tables q) → last + duration g q g.faults ≤ c.time → overlaps_some g tables p c q s ≡ false
-    ends_early l last all early = and_right (node_of g q == node_of g p) _ (list_any_false (λ d. overlaps g p c q d s) (columns_of tables q) (λ d k.
+    pub ends_early : q < process_count g → (last : ℕ) → All (λ d. d.time ≤ last) (columns_of tables q) →
+        last + duration g q g.faults ≤ c.time →
+        overlaps_some g tables p c q s ≡ false
+    ends_early l last all early = and_right (node_of g q == node_of g p) _
+        (list_any_false (λ d. overlaps g p c q d s) (columns_of tables q) (λ d k.
         let by : d.time ≤ last = All-contains (λ (d : Column). d.time ≤ last) (columns_of tables q) d all k in
         let its = duration_grows g q (fault_of s q) g.faults (fault_within g few q l s i) in
-        and_right (matches c.cube s) _ (and_right (matches d.cube s) _ (and_left _ _ (le-ltb c.time (d.time + duration g q (fault_of s q)) (omega arith))))))
+        and_right (matches c.cube s) _ (and_right (matches d.cube s) _
+        (and_left _ _ (le-ltb c.time (d.time + duration g q (fault_of s q)) (omega arith))))))
 
 -- ---- the rule
 
@@ -79,18 +100,30 @@ module _ (g : Graph) (order : List ℕ) (tables : List NodeTable) (p : ℕ) (l :
   abbrev at_start : Scenario → ℕ → ℕ → Bool
   at_start s q start = overlap c.time (c.time + duration g p (fault_of s p)) start (start + duration g q (fault_of s q))
 
-  of_process : (s : Scenario) (q : ℕ) → overlaps_some g tables p c q s ≡ (matches c.cube s && ((node_of g q == node_of g p) && list_any (at_start s q) (at tables q s)))
+  of_process : (s : Scenario) (q : ℕ) →
+      overlaps_some g tables p c q s
+      ≡ (matches c.cube s && ((node_of g q == node_of g p) && list_any (at_start s q) (at tables q s)))
   of_process s q =
       ap (λ b. (node_of g q == node_of g p) && b)
-      (both_any (matches c.cube s) (λ (d : Column). matches d.cube s && at_start s q d.time) (columns_of tables q) ∙ ap (λ b. matches c.cube s && b) (sym (any_at tables q s (at_start s q))))
+      (both_any (matches c.cube s) (λ (d : Column). matches d.cube s && at_start s q d.time) (columns_of tables q)
+      ∙ ap (λ b. matches c.cube s && b) (sym (any_at tables q s (at_start s q))))
       ∙ and_swap (node_of g q == node_of g p) (matches c.cube s) (list_any (at_start s q) (at tables q s))
 
-  processor_is : (s : Scenario) → list_any (λ q. overlaps_some g tables p c q s) (numbers_below p) ≡ breaks_column Rule.Processor g tables p c s
+  processor_is : (s : Scenario) →
+      list_any (λ q. overlaps_some g tables p c q s) (numbers_below p) ≡ breaks_column Rule.Processor g tables p c s
   processor_is s =
-      same_any (λ q. overlaps_some g tables p c q s) (λ q. matches c.cube s && ((node_of g q == node_of g p) && list_any (at_start s q) (at tables q s))) (numbers_below p) (λ q _. of_process s q)
-      ∙ both_any (matches c.cube s) (λ q. (node_of g q == node_of g p) && list_any (at_start s q) (at tables q s)) (numbers_below p)
-      ∙ ap (λ b. matches c.cube s && b) (sym (any_filter (λ q. list_any (at_start s q) (at tables q s)) (λ q. node_of g q == node_of g p) (numbers_below p)))
-      ∙ sym (ap (λ b. matches c.cube s && (b && list_any (λ q. list_any (at_start s q) (at tables q s)) (filter (λ q. node_of g q == node_of g p) (numbers_below p)))) (lt-ltb p (process_count g) l))
+      same_any (λ q. overlaps_some g tables p c q s)
+      (λ q. matches c.cube s && ((node_of g q == node_of g p) && list_any (at_start s q) (at tables q s)))
+      (numbers_below p) (λ q _. of_process s q)
+      ∙ both_any (matches c.cube s) (λ q. (node_of g q == node_of g p) && list_any (at_start s q) (at tables q s))
+      (numbers_below p)
+      ∙ ap (λ b. matches c.cube s && b) (sym (any_filter (λ q. list_any (at_start s q) (at tables q s))
+      (λ q. node_of g q == node_of g p) (numbers_below p)))
+      ∙ sym (ap (λ b. matches c.cube s && (b && list_any (λ q. list_any (at_start s q) (at tables q s))
+      (filter (λ q. node_of g q == node_of g p) (numbers_below p)))) (lt-ltb p (process_count g) l))
 
-  pub first_overlap : (o : Option Scenario) → IsFirst g order (λ s. list_any (λ q. overlaps_some g tables p c q s) (numbers_below p)) o → IsFirst g order (breaks_column Rule.Processor g tables p c) o
-  first_overlap o f = first_same g order (λ s. list_any (λ q. overlaps_some g tables p c q s) (numbers_below p)) (breaks_column Rule.Processor g tables p c) o (λ s _. processor_is s) f
+  pub first_overlap : (o : Option Scenario) →
+      IsFirst g order (λ s. list_any (λ q. overlaps_some g tables p c q s) (numbers_below p)) o →
+      IsFirst g order (breaks_column Rule.Processor g tables p c) o
+  first_overlap o f = first_same g order (λ s. list_any (λ q. overlaps_some g tables p c q s) (numbers_below p))
+      (breaks_column Rule.Processor g tables p c) o (λ s _. processor_is s) f

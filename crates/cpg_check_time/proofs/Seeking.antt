@@ -1,5 +1,6 @@
 -- Tests of lists with a premise; the least scenario of one element more.
-use Rattle.std.proofs.Common.{ℕ, ◌+◌, ◌<◌, ◌≡◌, Bool, true, false, ◌&&◌, ◌||◌, List, [], ◌∷◌, length, get_or, take, map, filter, Option, refl, sym, ap, ◌∙◌}
+use Rattle.std.proofs.Common.{ℕ, ◌+◌, ◌<◌, ◌≡◌, Bool, true, false, ◌&&◌, ◌||◌, List, [], ◌∷◌, length, get_or, take, map}
+use Rattle.std.proofs.Common.{filter, Option, refl, sym, ap, ◌∙◌}
 use Rattle.std.specs.List.{list_any}
 use Rattle.std.proofs.Math.Bool.{and_assoc, and_comm, or-false}
 use Rattle.std.proofs.lemmas.List.Folds.{list_any_more, list_any-append}
@@ -19,7 +20,8 @@ pub and_swap : (a b c : Bool) → (a && (b && c)) ≡ (b && (a && c))
 and_swap a b c = sym (and_assoc a b c) ∙ ap (λ d. d && c) (and_comm a b) ∙ and_assoc b a c
 
 -- a test with a premise
-pub both_any : {X : Type 0} (m : Bool) (test : X → Bool) (xs : List X) → list_any (λ x. m && test x) xs ≡ (m && list_any test xs)
+pub both_any : {X : Type 0} (m : Bool) (test : X → Bool) (xs : List X) →
+    list_any (λ x. m && test x) xs ≡ (m && list_any test xs)
 both_any true test [] = refl
 both_any false test [] = refl
 both_any true test (x ∷ xs) = ap (λ b. test x || b) (both_any true test xs)
@@ -28,32 +30,46 @@ both_any false test (x ∷ xs) = both_any false test xs
 -- ---- the least scenario
 
 -- the first scenario of a list's elements with one more is the earlier of theirs and its own
-pub first_more : {X : Type 0} (g : Graph) (order : List ℕ) (test : X → Scenario → Bool) (xs : List X) (i : ℕ) (d : X) → i < length xs → (a b : Option Scenario) →
+pub first_more : {X : Type 0} (g : Graph) (order : List ℕ) (test : X → Scenario → Bool) (xs : List X) (i : ℕ) (d : X) →
+    i < length xs →
+    (a b : Option Scenario) →
     IsFirst g order (λ s. list_any (λ x. test x s) (take i xs)) a → IsFirst g order (test (get_or xs i d)) b
     → IsFirst g order (λ s. list_any (λ x. test x s) (take (i + 1) xs)) (earlier g order a b)
-first_more g order test xs i d l a b f h = first_same g order (λ s. list_any (λ x. test x s) (take i xs) || test (get_or xs i d) s) (λ s. list_any (λ x. test x s) (take (i + 1) xs))
+first_more g order test xs i d l a b f h =
+    first_same g order (λ s. list_any (λ x. test x s) (take i xs) || test (get_or xs i d) s)
+    (λ s. list_any (λ x. test x s) (take (i + 1) xs))
     (earlier g order a b)
-    (λ s _. sym (list_any_more (λ x. test x s) xs i d l)) (first_or g order (λ s. list_any (λ x. test x s) (take i xs)) (test (get_or xs i d)) a b f h)
+    (λ s _. sym (list_any_more (λ x. test x s) xs i d l))
+    (first_or g order (λ s. list_any (λ x. test x s) (take i xs)) (test (get_or xs i d)) a b f h)
 
 -- the first scenario of a mapped list's elements with one more is the earlier of theirs and its own
-pub first_mapped : {X Y : Type 0} (f : X → Y) (g : Graph) (order : List ℕ) (test : Y → Scenario → Bool) (xs : List X) (i : ℕ) (d : X) → i < length xs → (a b : Option Scenario) →
+pub first_mapped : {X Y : Type 0} (f : X → Y) (g : Graph) (order : List ℕ) (test : Y → Scenario → Bool) (xs : List X)
+    (i : ℕ) (d : X) → i < length xs →
+    (a b : Option Scenario) →
     IsFirst g order (λ s. list_any (λ y. test y s) (map f (take i xs))) a → IsFirst g order (test (f (get_or xs i d))) b
     → IsFirst g order (λ s. list_any (λ y. test y s) (map f (take (i + 1) xs))) (earlier g order a b)
-first_mapped f g order test xs i d l a b h k = first_same g order (λ s. list_any (λ x. test (f x) s) (take (i + 1) xs)) (λ s. list_any (λ y. test y s) (map f (take (i + 1) xs))) (earlier g order a b)
+first_mapped f g order test xs i d l a b h k = first_same g order (λ s. list_any (λ x. test (f x) s) (take (i + 1) xs))
+    (λ s. list_any (λ y. test y s) (map f (take (i + 1) xs))) (earlier g order a b)
     (λ s _. sym (any_map (λ y. test y s) f (take (i + 1) xs)))
     (first_more g order (λ x. test (f x)) xs i d l a b
-    (first_same g order (λ s. list_any (λ y. test y s) (map f (take i xs))) (λ s. list_any (λ x. test (f x) s) (take i xs)) a (λ s _. any_map (λ y. test y s) f (take i xs)) h) k)
+    (first_same g order (λ s. list_any (λ y. test y s) (map f (take i xs)))
+    (λ s. list_any (λ x. test (f x) s) (take i xs)) a (λ s _. any_map (λ y. test y s) f (take i xs)) h) k)
 
 -- the first scenario of the numbers below one more is the earlier of theirs and its own
-pub first_below : (g : Graph) (order : List ℕ) (test : ℕ → Scenario → Bool) (n : ℕ) (a b : Option Scenario) → IsFirst g order (λ s. list_any (λ x. test x s) (numbers_below n)) a →
+pub first_below : (g : Graph) (order : List ℕ) (test : ℕ → Scenario → Bool) (n : ℕ) (a b : Option Scenario) →
+    IsFirst g order (λ s. list_any (λ x. test x s) (numbers_below n)) a →
     IsFirst g order (test n) b
     → IsFirst g order (λ s. list_any (λ x. test x s) (numbers_below (n + 1))) (earlier g order a b)
-first_below g order test n a b f h = first_same g order (λ s. list_any (λ x. test x s) (numbers_below n) || test n s) (λ s. list_any (λ x. test x s) (numbers_below (n + 1))) (earlier g order a b)
-    (λ s _. sym (ap (list_any (λ x. test x s)) (below_push n) ∙ list_any-append (λ x. test x s) (numbers_below n) (n ∷ []) ∙
+first_below g order test n a b f h = first_same g order (λ s. list_any (λ x. test x s) (numbers_below n) || test n s)
+    (λ s. list_any (λ x. test x s) (numbers_below (n + 1))) (earlier g order a b)
+    (λ s _.
+    sym (ap (list_any (λ x. test x s)) (below_push n) ∙ list_any-append (λ x. test x s) (numbers_below n) (n ∷ []) ∙
     ap (λ b. list_any (λ x. test x s) (numbers_below n) || b) (or-false (test n s))))
     (first_or g order (λ s. list_any (λ x. test x s) (numbers_below n)) (test n) a b f h)
 
 -- a test of the times at which an item acts
-pub any_at : (tables : List NodeTable) (x : ℕ) (s : Scenario) (test : ℕ → Bool) → list_any test (at tables x s) ≡ list_any (λ d. matches d.cube s && test d.time) (columns_of tables x)
-any_at tables x s test = any_map test (λ (d : Column). d.time) (filter (λ (d : Column). matches d.cube s) (columns_of tables x)) ∙
+pub any_at : (tables : List NodeTable) (x : ℕ) (s : Scenario) (test : ℕ → Bool) →
+    list_any test (at tables x s) ≡ list_any (λ d. matches d.cube s && test d.time) (columns_of tables x)
+any_at tables x s test =
+    any_map test (λ (d : Column). d.time) (filter (λ (d : Column). matches d.cube s) (columns_of tables x)) ∙
     any_filter (λ (d : Column). test d.time) (λ (d : Column). matches d.cube s) (columns_of tables x)

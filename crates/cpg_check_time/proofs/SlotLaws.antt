@@ -1,5 +1,6 @@
 -- V7 at one column: the time is no start of a slot, or a lower item of the node has it too.
-use Rattle.std.proofs.Common.{ℕ, ◌<◌, ◌≤◌, ◌≡◌, ◌≢◌, Bool, true, false, not, ◌&&◌, ◌||◌, ◌==◌, List, All, Contains, Option, arith, sym, ap, ◌∙◌, eq-eqb, ne_eqb}
+use Rattle.std.proofs.Common.{ℕ, ◌<◌, ◌≤◌, ◌≡◌, ◌≢◌, Bool, true, false, not, ◌&&◌, ◌||◌, ◌==◌, List, All, Contains}
+use Rattle.std.proofs.Common.{Option, arith, sym, ap, ◌∙◌, eq-eqb, ne_eqb}
 use Rattle.std.specs.List.{list_any}
 use Rattle.std.proofs.lemmas.Bool.{and_parts, and_right}
 use Rattle.std.proofs.lemmas.List.Elements.{All-contains}
@@ -22,32 +23,44 @@ use Rattle.cpg_check_time.proofs.Seeking.{and_swap, any_at, both_any}
 -- ---- two columns, and those of another item
 
 -- if they have one time, they share a slot wherever both match
-pub share_where : (g : Graph) (c d : Column) → d.time ≡ c.time → (order : List ℕ) (o : Option Scenario) → IsFirst g order (λ s. matches c.cube s && matches d.cube s) o → IsFirst g order (shares c d) o
+pub share_where : (g : Graph) (c d : Column) → d.time ≡ c.time → (order : List ℕ) (o : Option Scenario) →
+    IsFirst g order (λ s. matches c.cube s && matches d.cube s) o →
+    IsFirst g order (shares c d) o
 share_where g c d same order o f = first_same g order (λ s. matches c.cube s && matches d.cube s) (shares c d) o
-    (λ s _. ap (λ b. matches c.cube s && b) (with_true (matches d.cube s) (d.time == c.time) (eq-eqb d.time c.time same))) f
+    (λ s _.
+    ap (λ b. matches c.cube s && b) (with_true (matches d.cube s) (d.time == c.time) (eq-eqb d.time c.time same))) f
 
-pub shares_both : (c : Column) (s : Scenario) (d : Column) → shares c d s ≡ true → (matches c.cube s ≡ true) × (matches d.cube s ≡ true)
+pub shares_both : (c : Column) (s : Scenario) (d : Column) → shares c d s ≡ true →
+    (matches c.cube s ≡ true) × (matches d.cube s ≡ true)
 shares_both c s d t =
     let r = and_parts (matches c.cube s) (matches d.cube s && (d.time == c.time)) t in
     (r.0, (and_parts (matches d.cube s) (d.time == c.time) r.1).0)
 
 module _ (g : Graph) (tables : List NodeTable) (x : ℕ) (c : Column) (y : ℕ) where
-  pub other_item : is_sent g y ≡ true → home g y ≡ home g x → (order : List ℕ) (o : Option Scenario) → IsFirst g order (λ s. list_any (λ d. shares c d s) (columns_of tables y)) o →
+  pub other_item : is_sent g y ≡ true → home g y ≡ home g x → (order : List ℕ) (o : Option Scenario) →
+      IsFirst g order (λ s. list_any (λ d. shares c d s) (columns_of tables y)) o →
       IsFirst g order (shares_some g tables x c y) o
-  other_item sent node order o f = first_same g order (λ s. list_any (λ d. shares c d s) (columns_of tables y)) (shares_some g tables x c y) o
+  other_item sent node order o f =
+      first_same g order (λ s. list_any (λ d. shares c d s) (columns_of tables y)) (shares_some g tables x c y) o
       (λ s _. sym (ap (λ b. (b && (home g y == home g x)) && list_any (λ d. shares c d s) (columns_of tables y)) sent ∙
       ap (λ b. b && list_any (λ d. shares c d s) (columns_of tables y)) (eq-eqb (home g y) (home g x) node))) f
 
   -- none has the time
-  never_shares : ((d : Column) → Contains (columns_of tables y) d → d.time ≢ c.time) → (s : Scenario) → shares_some g tables x c y s ≡ false
-  never_shares none s = and_right (is_sent g y && (home g y == home g x)) _ (list_any_false (λ d. shares c d s) (columns_of tables y) (λ d k.
+  never_shares : ((d : Column) → Contains (columns_of tables y) d → d.time ≢ c.time) → (s : Scenario) →
+      shares_some g tables x c y s ≡ false
+  never_shares none s = and_right (is_sent g y && (home g y == home g x)) _
+      (list_any_false (λ d. shares c d s) (columns_of tables y) (λ d k.
       and_right (matches c.cube s) _ (and_right (matches d.cube s) _ (ne_eqb d.time c.time (none d k)))))
 
-  pub all_later : (first : ℕ) → All (λ d. first ≤ d.time) (columns_of tables y) → c.time < first → (s : Scenario) → shares_some g tables x c y s ≡ false
-  all_later first all early = never_shares (λ d k e. let from : first ≤ d.time = All-contains (λ (d : Column). first ≤ d.time) (columns_of tables y) d all k in omega arith)
+  pub all_later : (first : ℕ) → All (λ d. first ≤ d.time) (columns_of tables y) → c.time < first → (s : Scenario) →
+      shares_some g tables x c y s ≡ false
+  all_later first all early = never_shares (λ d k e. let from : first ≤ d.time =
+      All-contains (λ (d : Column). first ≤ d.time) (columns_of tables y) d all k in omega arith)
 
-  pub all_earlier : (last : ℕ) → All (λ d. d.time ≤ last) (columns_of tables y) → last < c.time → (s : Scenario) → shares_some g tables x c y s ≡ false
-  all_earlier last all late = never_shares (λ d k e. let by : d.time ≤ last = All-contains (λ (d : Column). d.time ≤ last) (columns_of tables y) d all k in omega arith)
+  pub all_earlier : (last : ℕ) → All (λ d. d.time ≤ last) (columns_of tables y) → last < c.time → (s : Scenario) →
+      shares_some g tables x c y s ≡ false
+  all_earlier last all late = never_shares (λ d k e. let by : d.time ≤ last =
+      All-contains (λ (d : Column). d.time ≤ last) (columns_of tables y) d all k in omega arith)
 
 -- ---- the rule
 
@@ -57,31 +70,46 @@ module _ (g : Graph) (order : List ℕ) (tables : List NodeTable) (x : ℕ) (c :
   other_at s y = (is_sent g y && (home g y == home g x)) && list_any (λ t. t == c.time) (at tables y s)
 
   pub not_sent : is_sent g x ≡ false → (s : Scenario) → breaks_column Rule.Slot g tables x c s ≡ false
-  not_sent e s = and_right (matches c.cube s) _ (ap (λ b. b && (not (next_slot g (home g x) c.time == c.time) || list_any (other_at s) (numbers_below x))) e)
+  not_sent e s = and_right (matches c.cube s) _
+      (ap (λ b. b && (not (next_slot g (home g x) c.time == c.time) || list_any (other_at s) (numbers_below x))) e)
 
   module _ (sent : is_sent g x ≡ true) where
-    no_start : next_slot g (home g x) c.time ≢ c.time → (s : Scenario) → matches c.cube s ≡ breaks_column Rule.Slot g tables x c s
+    no_start : next_slot g (home g x) c.time ≢ c.time → (s : Scenario) →
+        matches c.cube s ≡ breaks_column Rule.Slot g tables x c s
     no_start n s =
-        let starts : (next_slot g (home g x) c.time == c.time) ≡ false = ne_eqb (next_slot g (home g x) c.time) c.time n in
-        with_true (matches c.cube s) _ (ap (λ b. b && (not (next_slot g (home g x) c.time == c.time) || list_any (other_at s) (numbers_below x))) sent ∙
+        let starts : (next_slot g (home g x) c.time == c.time) ≡ false =
+        ne_eqb (next_slot g (home g x) c.time) c.time n in
+        with_true (matches c.cube s) _ (ap (λ b.
+        b && (not (next_slot g (home g x) c.time == c.time) || list_any (other_at s) (numbers_below x))) sent ∙
         ap (λ b. not b || list_any (other_at s) (numbers_below x)) starts)
 
-    pub first_no_start : next_slot g (home g x) c.time ≢ c.time → (o : Option Scenario) → IsFirst g order (matches c.cube) o → IsFirst g order (breaks_column Rule.Slot g tables x c) o
-    first_no_start n o f = first_same g order (matches c.cube) (breaks_column Rule.Slot g tables x c) o (λ s _. no_start n s) f
+    pub first_no_start : next_slot g (home g x) c.time ≢ c.time → (o : Option Scenario) →
+        IsFirst g order (matches c.cube) o →
+        IsFirst g order (breaks_column Rule.Slot g tables x c) o
+    first_no_start n o f =
+        first_same g order (matches c.cube) (breaks_column Rule.Slot g tables x c) o (λ s _. no_start n s) f
 
     module _ (start : next_slot g (home g x) c.time ≡ c.time) where
-      others_only : (s : Scenario) → breaks_column Rule.Slot g tables x c s ≡ (matches c.cube s && list_any (other_at s) (numbers_below x))
-      others_only s = ap (λ b. matches c.cube s && (b && (not (next_slot g (home g x) c.time == c.time) || list_any (other_at s) (numbers_below x)))) sent
-          ∙ ap (λ b. matches c.cube s && (not b || list_any (other_at s) (numbers_below x))) (eq-eqb (next_slot g (home g x) c.time) c.time start)
+      others_only : (s : Scenario) →
+          breaks_column Rule.Slot g tables x c s ≡ (matches c.cube s && list_any (other_at s) (numbers_below x))
+      others_only s = ap (λ b. matches c.cube s
+          && (b && (not (next_slot g (home g x) c.time == c.time) || list_any (other_at s) (numbers_below x)))) sent
+          ∙ ap (λ b. matches c.cube s && (not b || list_any (other_at s) (numbers_below x)))
+          (eq-eqb (next_slot g (home g x) c.time) c.time start)
 
       of_item : (s : Scenario) (y : ℕ) → shares_some g tables x c y s ≡ (matches c.cube s && other_at s y)
       of_item s y =
           ap (λ b. (is_sent g y && (home g y == home g x)) && b)
           (both_any (matches c.cube s) (λ (d : Column). matches d.cube s && (d.time == c.time)) (columns_of tables y) ∙
           ap (λ b. matches c.cube s && b) (sym (any_at tables y s (λ t. t == c.time))))
-          ∙ and_swap (is_sent g y && (home g y == home g x)) (matches c.cube s) (list_any (λ t. t == c.time) (at tables y s))
+          ∙ and_swap (is_sent g y && (home g y == home g x)) (matches c.cube s)
+          (list_any (λ t. t == c.time) (at tables y s))
 
-      pub first_shared : (o : Option Scenario) → IsFirst g order (λ s. list_any (λ y. shares_some g tables x c y s) (numbers_below x)) o → IsFirst g order (breaks_column Rule.Slot g tables x c) o
-      first_shared o f = first_same g order (λ s. list_any (λ y. shares_some g tables x c y s) (numbers_below x)) (breaks_column Rule.Slot g tables x c) o
-          (λ s _. same_any (λ y. shares_some g tables x c y s) (λ y. matches c.cube s && other_at s y) (numbers_below x) (λ y _. of_item s y) ∙
+      pub first_shared : (o : Option Scenario) →
+          IsFirst g order (λ s. list_any (λ y. shares_some g tables x c y s) (numbers_below x)) o →
+          IsFirst g order (breaks_column Rule.Slot g tables x c) o
+      first_shared o f = first_same g order (λ s. list_any (λ y. shares_some g tables x c y s) (numbers_below x))
+          (breaks_column Rule.Slot g tables x c) o
+          (λ s _. same_any (λ y. shares_some g tables x c y s) (λ y. matches c.cube s && other_at s y) (numbers_below x)
+          (λ y _. of_item s y) ∙
           both_any (matches c.cube s) (other_at s) (numbers_below x) ∙ sym (others_only s)) f

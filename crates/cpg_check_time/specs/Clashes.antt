@@ -16,7 +16,8 @@ overlaps g p c q d s = matches c.cube s && (matches d.cube s
 
 -- whether the other process is on the same node, and one of its columns is so
 abbrev pub overlaps_some : Graph → List NodeTable → ℕ → Column → ℕ → Scenario → Bool
-overlaps_some g tables p c q s = (node_of g q == node_of g p) && list_any (λ d. overlaps g p c q d s) (columns_of tables q)
+overlaps_some g tables p c q s =
+    (node_of g q == node_of g p) && list_any (λ d. overlaps g p c q d s) (columns_of tables q)
 
 -- whether two columns match at one time
 abbrev pub shares : Column → Column → Scenario → Bool
@@ -24,4 +25,5 @@ shares c d s = matches c.cube s && (matches d.cube s && (d.time == c.time))
 
 -- whether the node of an item sends another too, and a column of that is so
 abbrev pub shares_some : Graph → List NodeTable → ℕ → Column → ℕ → Scenario → Bool
-shares_some g tables x c y s = (is_sent g y && (home g y == home g x)) && list_any (λ d. shares c d s) (columns_of tables y)
+shares_some g tables x c y s =
+    (is_sent g y && (home g y == home g x)) && list_any (λ d. shares c d s) (columns_of tables y)

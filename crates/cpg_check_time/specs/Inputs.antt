@@ -18,7 +18,8 @@ is_asked g e s = is_passed (test_of (condition_of g (source g e)) (edge_at g e).
 -- whether an input comes after a time: its frame, or the end of a source on the same node that has the edge's value
 abbrev pub is_input_late : Graph → List NodeTable → ℕ → ℕ → Scenario → Bool
 is_input_late g tables time e s = if is_message g e
-    then list_any (λ d. is_late g (Slot (slot_length g (home g (message_item g e)))) time d s) (columns_of tables (message_item g e))
+    then list_any (λ d. is_late g (Slot (slot_length g (home g (message_item g e)))) time d s)
+    (columns_of tables (message_item g e))
     else is_asked g e s && list_any (λ d. is_late g (Execution (source g e)) time d s) (columns_of tables (source g e))
 
 -- whether a column matches, and an input comes after its time

@@ -1,4 +1,5 @@
--- What an answer in a play tells: a node with the least next instant takes its turn, and one that is done has done all that is due.
+-- What an answer in a play tells: a node with the least next instant takes its turn, and one that is done has done all
+-- that is due.
 use Rattle.std.proofs.Common.{◌≡◌, ℕ, ◌<◌, length, subst}
 use Rattle.cpg_cluster.specs.Cluster.{Took, Done, answer}
 use Rattle.cpg_cluster.specs.Playing.{Playing, IsPlaying, HasLeastInstant, HasDoneAll}
@@ -23,8 +24,14 @@ module _ (p : Playing) (is : IsPlaying p) (a : ℕ) (l : a < length p.graph.node
 
 -- The same of the state as code sees it.
 
-pub takes_at : (p now : Playing) → p ≡ now → IsPlaying p → (a : ℕ) → a < length now.graph.nodes → HasLeastInstant now a → answer now.graph now.cluster a ≡ Took
-takes_at p now view is = subst (λ (now : Playing). (a : ℕ) → a < length now.graph.nodes → HasLeastInstant now a → answer now.graph now.cluster a ≡ Took) view (least_takes p is)
+pub takes_at : (p now : Playing) → p ≡ now → IsPlaying p → (a : ℕ) → a < length now.graph.nodes →
+    HasLeastInstant now a →
+    answer now.graph now.cluster a ≡ Took
+takes_at p now view is = subst (λ (now : Playing). (a : ℕ) → a < length now.graph.nodes → HasLeastInstant now a →
+    answer now.graph now.cluster a ≡ Took) view (least_takes p is)
 
-pub all_at : (p now : Playing) → p ≡ now → IsPlaying p → (a : ℕ) → a < length now.graph.nodes → answer now.graph now.cluster a ≡ Done → HasDoneAll now a
-all_at p now view is = subst (λ (now : Playing). (a : ℕ) → a < length now.graph.nodes → answer now.graph now.cluster a ≡ Done → HasDoneAll now a) view (done_all p is)
+pub all_at : (p now : Playing) → p ≡ now → IsPlaying p → (a : ℕ) → a < length now.graph.nodes →
+    answer now.graph now.cluster a ≡ Done →
+    HasDoneAll now a
+all_at p now view is = subst (λ (now : Playing). (a : ℕ) → a < length now.graph.nodes →
+    answer now.graph now.cluster a ≡ Done → HasDoneAll now a) view (done_all p is)

@@ -1,5 +1,6 @@
 -- The times at which frames arrive from a sender say whether one is waited on.
-use Rattle.std.proofs.Common.{◌≡◌, ℕ, ◌<◌, ◌≤◌, ◌+◌, Bool, true, false, cond, ◌&&◌, ◌||◌, ◌==◌, List, [], ◌∷◌, ◌++◌, length, map, get_or, Option, Some, None, refl, sym, ap, ap₂, ◌∙◌, subst, arith}
+use Rattle.std.proofs.Common.{◌≡◌, ℕ, ◌<◌, ◌≤◌, ◌+◌, Bool, true, false, cond, ◌&&◌, ◌||◌, ◌==◌, List, [], ◌∷◌, ◌++◌}
+use Rattle.std.proofs.Common.{length, map, get_or, Option, Some, None, refl, sym, ap, ap₂, ◌∙◌, subst, arith}
 use Rattle.std.proofs.Common.{inl, inr}
 use Rattle.std.specs.Prelude.{nat_le, option_to_list}
 use Rattle.std.specs.List.{list_any}
@@ -24,74 +25,107 @@ any_if p false xs = refl
 
 -- rows and their senders say it as the times of that sender do
 any_times : (time : ℕ) (comes : Option ℕ) (slot other : ℕ) (rows : List Row) (senders : List ℕ) →
-    list_any (waits_until time comes slot) (arrival_times other rows senders) ≡ list_any (λ w. w) (zip_with (waits_by other time comes slot) rows senders)
+    list_any (waits_until time comes slot) (arrival_times other rows senders)
+    ≡ list_any (λ w. w) (zip_with (waits_by other time comes slot) rows senders)
 any_times time comes slot other [] senders = refl
 any_times time comes slot other (r ∷ rs) [] = refl
 any_times time comes slot other (r ∷ rs) (s ∷ ss) =
     list_any-append (waits_until time comes slot) (times_by other r s) (arrival_times other rs ss)
     ∙ ap₂ ◌||◌ (any_if (waits_until time comes slot) (s == other) (map {A = Column} {B = ℕ} (λ c. c.time) r.columns)
-    ∙ ap (λ b. (s == other) && b) (any_of_map (waits_until time comes slot) (λ (c : Column). c.time) r.columns)) (any_times time comes slot other rs ss)
+    ∙ ap (λ b. (s == other) && b) (any_of_map (waits_until time comes slot) (λ (c : Column). c.time) r.columns))
+    (any_times time comes slot other rs ss)
 
-pub any_index : (time : ℕ) (comes : Option ℕ) (slot other : ℕ) (rows : List Row) (senders times : List ℕ) → IsIndex rows senders other times →
-    list_any (waits_until time comes slot) times ≡ list_any (λ w. w) (zip_with (waits_by other time comes slot) rows senders)
-any_index time comes slot other rows senders times i = sym (list_any-IsPermutation (waits_until time comes slot) (arrival_times other rows senders) times i.same) ∙
+pub any_index : (time : ℕ) (comes : Option ℕ) (slot other : ℕ) (rows : List Row) (senders times : List ℕ) →
+    IsIndex rows senders other times →
+    list_any (waits_until time comes slot) times
+    ≡ list_any (λ w. w) (zip_with (waits_by other time comes slot) rows senders)
+any_index time comes slot other rows senders times i =
+    sym (list_any-IsPermutation (waits_until time comes slot) (arrival_times other rows senders) times i.same) ∙
     any_times time comes slot other rows senders
 
 -- what may not be sent any more to arrive at a time may not be sent to arrive before
-sent_before : (comes : Option ℕ) (slot a b : ℕ) → a ≤ b → list_any (λ u. nat_le (u + slot) b) (option_to_list comes) ≡ false → list_any (λ u. nat_le (u + slot) a) (option_to_list comes) ≡ false
+sent_before : (comes : Option ℕ) (slot a b : ℕ) → a ≤ b →
+    list_any (λ u. nat_le (u + slot) b) (option_to_list comes) ≡ false →
+    list_any (λ u. nat_le (u + slot) a) (option_to_list comes) ≡ false
 sent_before None slot a b l h = refl
-sent_before (Some u) slot a b l h = ap (λ x. x || false) (lt-leb (u + slot) a (omega (arith, l, leb-false (u + slot) b (or_false (nat_le (u + slot) b) ∙ h))))
+sent_before (Some u) slot a b l h = ap (λ x. x || false)
+    (lt-leb (u + slot) a (omega (arith, l, leb-false (u + slot) b (or_false (nat_le (u + slot) b) ∙ h))))
   where
     or_false : (x : Bool) → x ≡ (x || false)
     or_false true = refl
     or_false false = refl
 
 -- what may not be sent any more to arrive by the time isn't waited for
-pub none_sent : (time : ℕ) (comes : Option ℕ) (slot : ℕ) (times : List ℕ) → list_any (λ u. nat_le (u + slot) time) (option_to_list comes) ≡ false → false ≡ list_any (waits_until time comes slot) times
-none_sent time comes slot times h = sym (list_any_none (waits_until time comes slot) times (λ i d l. elim (cases_lt time (get_or times i d)) [
-  | inl after ↦ ap (λ b. b && list_any (λ u. nat_le (u + slot) (get_or times i d)) (option_to_list comes)) (lt-leb (get_or times i d) time after)
-  | inr early ↦ ap (λ b. nat_le (get_or times i d) time && b) (sent_before comes slot (get_or times i d) time early h) ∙ and_right (nat_le (get_or times i d) time) false refl
-]))
+pub none_sent : (time : ℕ) (comes : Option ℕ) (slot : ℕ) (times : List ℕ) →
+    list_any (λ u. nat_le (u + slot) time) (option_to_list comes) ≡ false →
+    false ≡ list_any (waits_until time comes slot) times
+none_sent time comes slot times h =
+    sym (list_any_none (waits_until time comes slot) times (λ i d l. elim (cases_lt time (get_or times i d)) [
+      | inl after ↦ ap (λ b. b && list_any (λ u. nat_le (u + slot) (get_or times i d)) (option_to_list comes))
+          (lt-leb (get_or times i d) time after)
+      | inr early ↦
+          ap (λ b. nat_le (get_or times i d) time && b) (sent_before comes slot (get_or times i d) time early h)
+          ∙ and_right (nat_le (get_or times i d) time) false refl
+    ]))
 
 -- nothing has arrived
-pub none_until : (time : ℕ) (comes : Option ℕ) (slot : ℕ) (times : List ℕ) (past : (i d : ℕ) → i < length times → time < get_or times i d) → false ≡ list_any (waits_until time comes slot) times
+pub none_until : (time : ℕ) (comes : Option ℕ) (slot : ℕ) (times : List ℕ)
+    (past : (i d : ℕ) → i < length times → time < get_or times i d) →
+    false ≡ list_any (waits_until time comes slot) times
 none_until time comes slot times past = sym
     (list_any_none (waits_until time comes slot) times
-    (λ i d l. ap (λ b. b && list_any (λ u. nat_le (u + slot) (get_or times i d)) (option_to_list comes)) (lt-leb (get_or times i d) time (past i d l))))
+    (λ i d l. ap (λ b. b && list_any (λ u. nat_le (u + slot) (get_or times i d)) (option_to_list comes))
+    (lt-leb (get_or times i d) time (past i d l))))
 
 -- the last arrival decides
-pub last_until : (time : ℕ) (comes : Option ℕ) (slot : ℕ) (times : List ℕ) (place x : ℕ) → IsNonDecreasingBy (λ (t : ℕ). t) times → place < length times →
-    ((i d : ℕ) → i < place + 1 → get_or times i d ≤ time) → ((i d : ℕ) → place + 1 ≤ i → i < length times → time < get_or times i d) → ((d : ℕ) → get_or times place d ≡ x) →
+pub last_until : (time : ℕ) (comes : Option ℕ) (slot : ℕ) (times : List ℕ) (place x : ℕ) →
+    IsNonDecreasingBy (λ (t : ℕ). t) times →
+    place < length times →
+    ((i d : ℕ) → i < place + 1 → get_or times i d ≤ time) →
+    ((i d : ℕ) → place + 1 ≤ i → i < length times → time < get_or times i d) →
+    ((d : ℕ) → get_or times place d ≡ x) →
     list_any (λ u. nat_le (u + slot) x) (option_to_list comes) ≡ list_any (waits_until time comes slot) times
-last_until time comes slot times place x rises l before past is = go (list_any (λ u. nat_le (u + slot) x) (option_to_list comes)) refl
+last_until time comes slot times place x rises l before past is =
+    go (list_any (λ u. nat_le (u + slot) x) (option_to_list comes)) refl
   where
     p : ℕ → Bool
     p = waits_until time comes slot
 
     here : p (get_or times place x) ≡ list_any (λ u. nat_le (u + slot) x) (option_to_list comes)
-    here = ap (λ b. b && list_any (λ u. nat_le (u + slot) (get_or times place x)) (option_to_list comes)) (le-leb (get_or times place x) time (before place x (omega arith)))
+    here = ap (λ b. b && list_any (λ u. nat_le (u + slot) (get_or times place x)) (option_to_list comes))
+        (le-leb (get_or times place x) time (before place x (omega arith)))
         ∙ ap (λ t. list_any (λ u. nat_le (u + slot) t) (option_to_list comes)) (is x)
 
     go : (b : Bool) → list_any (λ u. nat_le (u + slot) x) (option_to_list comes) ≡ b → b ≡ list_any p times
     go true e = sym (list_any_at p times place x l (here ∙ e))
     go false e = sym (list_any_none p times (λ i d k. elim (cases_lt place i) [
-      | inl after ↦ ap (λ b. b && list_any (λ u. nat_le (u + slot) (get_or times i d)) (option_to_list comes)) (lt-leb (get_or times i d) time (past i d (omega arith) k))
-      | inr early ↦ ap (λ b. nat_le (get_or times i d) time && b) (sent_before comes slot (get_or times i d) (get_or times place d) (rises i place d (omega arith) l)
-          (subst (λ t. list_any (λ u. nat_le (u + slot) t) (option_to_list comes) ≡ false) (sym (is d)) e)) ∙ and_right (nat_le (get_or times i d) time) false refl
+      | inl after ↦ ap (λ b. b && list_any (λ u. nat_le (u + slot) (get_or times i d)) (option_to_list comes))
+          (lt-leb (get_or times i d) time (past i d (omega arith) k))
+      | inr early ↦ ap (λ b. nat_le (get_or times i d) time && b)
+          (sent_before comes slot (get_or times i d) (get_or times place d) (rises i place d (omega arith) l)
+          (subst (λ t. list_any (λ u. nat_le (u + slot) t) (option_to_list comes) ≡ false) (sym (is d)) e))
+          ∙ and_right (nat_le (get_or times i d) time) false refl
     ]))
 
 -- one more sender is indexed
-pub index_more : (rows : List Row) (senders : List ℕ) (n : ℕ) (index : List (Vec ℕ)) (v : Vec ℕ) → AreIndexed rows senders n index → IsIndex rows senders n v.items →
+pub index_more : (rows : List Row) (senders : List ℕ) (n : ℕ) (index : List (Vec ℕ)) (v : Vec ℕ) →
+    AreIndexed rows senders n index →
+    IsIndex rows senders n v.items →
     AreIndexed rows senders (n + 1) (index ++ v ∷ [])
 index_more rows senders n index v a o = record {
   count = omega (arith, length-append index (v ∷ []), a.count);
   each = λ i d l. elim (cases_eq i n) [
-    | inl e ↦ subst (λ i. IsIndex rows senders i (get_or (index ++ v ∷ []) i d).items) (sym e) (subst (λ (v : Vec ℕ). IsIndex rows senders n v.items) (sym (get_or_push index v d n a.count)) o)
-    | inr ne ↦ subst (λ (v : Vec ℕ). IsIndex rows senders i v.items) (sym (get_or_append_left index (v ∷ []) d i (omega (arith, a.count)))) (a.each i d (omega arith))
+    | inl e ↦ subst (λ i. IsIndex rows senders i (get_or (index ++ v ∷ []) i d).items) (sym e)
+        (subst (λ (v : Vec ℕ). IsIndex rows senders n v.items) (sym (get_or_push index v d n a.count)) o)
+    | inr ne ↦ subst (λ (v : Vec ℕ). IsIndex rows senders i v.items)
+        (sym (get_or_append_left index (v ∷ []) d i (omega (arith, a.count)))) (a.each i d (omega arith))
   ];
 }
 
 -- the times of one sender
-pub index_at : (rows : List Row) (senders : List ℕ) (n : ℕ) (index : List (Vec ℕ)) (b : ℕ) (v : Vec ℕ) (seen : List ℕ) → AreIndexed rows senders n index → b < n → v ≡ get_or index b v →
+pub index_at : (rows : List Row) (senders : List ℕ) (n : ℕ) (index : List (Vec ℕ)) (b : ℕ) (v : Vec ℕ) (seen : List ℕ) →
+    AreIndexed rows senders n index → b < n →
+    v ≡ get_or index b v →
     seen ≡ v.items → IsIndex rows senders b seen
-index_at rows senders n index b v seen a l e s = subst (IsIndex rows senders b) (sym (s ∙ ap (λ (v : Vec ℕ). v.items) e)) (a.each b v l)
+index_at rows senders n index b v seen a l e s =
+    subst (IsIndex rows senders b) (sym (s ∙ ap (λ (v : Vec ℕ). v.items) e)) (a.each b v l)

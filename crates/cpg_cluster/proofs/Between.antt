@@ -1,5 +1,6 @@
 -- What code sees of members is what the state of the cluster says.
-use Rattle.std.proofs.Common.{◌≡◌, ℕ, ◌<◌, ◌+◌, Bool, ◌&&◌, ◌||◌, ◌==◌, List, [], ◌∷◌, ◌++◌, length, map, filter, get_or, Option, refl, sym, ap, ◌∙◌, subst, arith, inl, inr}
+use Rattle.std.proofs.Common.{◌≡◌, ℕ, ◌<◌, ◌+◌, Bool, ◌&&◌, ◌||◌, ◌==◌, List, [], ◌∷◌, ◌++◌, length, map, filter}
+use Rattle.std.proofs.Common.{get_or, Option, refl, sym, ap, ◌∙◌, subst, arith, inl, inr}
 use Rattle.std.specs.Prelude.{option_to_list, nat_le}
 use Rattle.std.specs.Option.{option_map_or}
 use Rattle.std.specs.List.{flat_map, list_any}
@@ -16,7 +17,8 @@ use Rattle.cpg_table.specs.Table.{Row}
 use Rattle.cpg_cube.specs.Column.{Column}
 use Rattle.cpg_node.specs.Dispatcher.{Dispatcher, Act, next, zip_with}
 use Rattle.cpg_node.proofs.Next.{zip_with-map}
-use Rattle.cpg_cluster.specs.Cluster.{World, dispatcher_at, waits_on, answer_by, frame_of_item, frames_of_row, frames_now}
+use Rattle.cpg_cluster.specs.Cluster.{World, dispatcher_at, waits_on, answer_by, frame_of_item, frames_of_row}
+use Rattle.cpg_cluster.specs.Cluster.{frames_now}
 use Rattle.cpg_cluster.specs.Taking.{value_of_item, frames_from}
 use Rattle.cpg_cluster.specs.Keeping.{waits_by, waits_between, frames_of_sender, frames_by, AllFit}
 use Rattle.cpg_cluster.specs.Kept.{cluster_of}
@@ -30,24 +32,33 @@ pub flat_id : {X Y : Type 0} (f : X → List Y) (xs : List X) → flat_map (λ l
 flat_id f [] = refl
 flat_id f (x ∷ xs) = ap (λ l. f x ++ l) (flat_id f xs)
 
-pub dispatcher_is : (ms : List Member) (b : ℕ) (d : Member) → b < length ms → dispatcher_at (cluster_of ms) b ≡ (get_or ms b d).node.dispatcher
+pub dispatcher_is : (ms : List Member) (b : ℕ) (d : Member) → b < length ms →
+    dispatcher_at (cluster_of ms) b ≡ (get_or ms b d).node.dispatcher
 dispatcher_is ms b d l = get_or-map (λ (m : Member). m.node.dispatcher) ms b d _ l
 
-module _ (g : Graph) (ms : List Member) (fits : AllFit g ms) (a : ℕ) (m : Member) (here : (d : Member) → get_or ms a d ≡ m) (l : a < length ms) where
+module _ (g : Graph) (ms : List Member) (fits : AllFit g ms) (a : ℕ) (m : Member)
+    (here : (d : Member) → get_or ms a d ≡ m) (l : a < length ms) where
   senders_are : m.senders.items ≡ map (λ (row : Row). home g row.item) m.node.dispatcher.table.hears
-  senders_are = subst (λ (m : Member). m.senders.items ≡ map (λ (row : Row). home g row.item) m.node.dispatcher.table.hears) (here m) (fits a m l).senders
+  senders_are =
+      subst (λ (m : Member). m.senders.items ≡ map (λ (row : Row). home g row.item) m.node.dispatcher.table.hears)
+      (here m) (fits a m l).senders
 
   table_is : (dispatcher_at (cluster_of ms) a).table ≡ m.node.dispatcher.table
   table_is = ap (λ (d : Dispatcher). d.table) (dispatcher_is ms a m l ∙ ap (λ (m : Member). m.node.dispatcher) (here m))
 
   -- a node waits on another exactly if its rows say so
-  waits_is : (time b : ℕ) (d : Member) → b < length ms → waits_between time m b (get_or ms b d) ≡ waits_on g (cluster_of ms) a time b
+  waits_is : (time b : ℕ) (d : Member) → b < length ms →
+      waits_between time m b (get_or ms b d) ≡ waits_on g (cluster_of ms) a time b
   waits_is time b d k =
       let o = get_or ms b d in
-      ap (λ ss. list_any (λ w. w) (zip_with (waits_by b time (next o.node.dispatcher) o.slot) m.node.dispatcher.table.hears ss)) senders_are
-      ∙ ap (list_any (λ w. w)) (zip_with-map (waits_by b time (next o.node.dispatcher) o.slot) (λ (row : Row). home g row.item) m.node.dispatcher.table.hears)
-      ∙ any_map (λ (row : Row). waits_by b time (next o.node.dispatcher) o.slot row (home g row.item)) m.node.dispatcher.table.hears
-      ∙ (λ i. list_any (λ (row : Row). (home g row.item == b) && list_any (λ (col : Column). nat_le col.time time && list_any (λ u. nat_le (u + slot i) col.time) (option_to_list (comes i)))
+      ap (λ ss. list_any (λ w. w)
+      (zip_with (waits_by b time (next o.node.dispatcher) o.slot) m.node.dispatcher.table.hears ss)) senders_are
+      ∙ ap (list_any (λ w. w)) (zip_with-map (waits_by b time (next o.node.dispatcher) o.slot)
+      (λ (row : Row). home g row.item) m.node.dispatcher.table.hears)
+      ∙ any_map (λ (row : Row). waits_by b time (next o.node.dispatcher) o.slot row (home g row.item))
+      m.node.dispatcher.table.hears
+      ∙ (λ i. list_any (λ (row : Row). (home g row.item == b) && list_any (λ (col : Column).
+      nat_le col.time time && list_any (λ u. nat_le (u + slot i) col.time) (option_to_list (comes i)))
       row.columns) (rows i))
     where
       slot : (get_or ms b d).slot ≡ slot_length g b
@@ -59,39 +70,57 @@ module _ (g : Graph) (ms : List Member) (fits : AllFit g ms) (a : ℕ) (m : Memb
       rows : m.node.dispatcher.table.hears ≡ (dispatcher_at (cluster_of ms) a).table.hears
       rows = sym (ap (λ t. t.hears) table_is)
 
-  pub answer_is : (time : ℕ) (d : Member) → answer_by (filter (λ b. waits_between time m b (get_or ms b d)) (numbers_below (length ms)))
+  pub answer_is : (time : ℕ) (d : Member) →
+      answer_by (filter (λ b. waits_between time m b (get_or ms b d)) (numbers_below (length ms)))
       ≡ answer_by (filter (waits_on g (cluster_of ms) a time) (numbers_below (length (cluster_of ms).nodes)))
-  answer_is time d = ap answer_by (same_filter (λ b. waits_between time m b (get_or ms b d)) (waits_on g (cluster_of ms) a time) (numbers_below (length ms))
+  answer_is time d = ap answer_by (same_filter (λ b. waits_between time m b (get_or ms b d))
+      (waits_on g (cluster_of ms) a time) (numbers_below (length ms))
       (λ b c. waits_is time b d (numbers-Contains (length ms) b c))
-      ∙ ap (λ n. filter (waits_on g (cluster_of ms) a time) (numbers_below n)) (sym (length-map ms (λ (m : Member). m.node.dispatcher))))
+      ∙ ap (λ n. filter (waits_on g (cluster_of ms) a time) (numbers_below n))
+      (sym (length-map ms (λ (m : Member). m.node.dispatcher))))
 
   module _ (w : World) (time : ℕ) where
-    frame_is : (i : Item) (act : Act) → record { item = act.item; column = act.column; value = value_of_item w.scenario.values i } ≡ frame_of_item w i act
+    frame_is : (i : Item) (act : Act) →
+        record { item = act.item; column = act.column; value = value_of_item w.scenario.values i }
+        ≡ frame_of_item w i act
     frame_is (Start p) act = refl
     frame_is (Message e) act = refl
     frame_is (Broadcast c) act = refl
 
     -- the frames of a row are those of its sender's acts
-    row_frames : (row : Row) → frames_of_sender g w.scenario.values ms time row (home g row.item) ≡ frames_of_row g w (cluster_of ms) time row
+    row_frames : (row : Row) →
+        frames_of_sender g w.scenario.values ms time row (home g row.item) ≡ frames_of_row g w (cluster_of ms) time row
     row_frames row = elim (cases_lt (home g row.item) (length ms)) [
-      | inl k ↦ ap (λ (o : Option Member). option_map_or (λ (m : Member). frames_from value row.item m.slot time m.acts.items) o []) (slice_get-get_or ms (home g row.item) m k)
-          ∙ (λ i. map (λ (act : Act). frame_is (item_at g row.item) act i) (filter (λ (act : Act). (act.item == row.item) && (act.time + (fits (home g row.item) m k).slot i == time)) (sent k i)))
-      | inr past ↦ ap (λ (o : Option Member). option_map_or (λ (m : Member). frames_from value row.item m.slot time m.acts.items) o []) (slice_get_past ms (home g row.item) past)
-          ∙ ap (λ acts. map (λ (act : Act). frame_of_item w (item_at g row.item) act) (filter (λ (act : Act). (act.item == row.item) && (act.time + slot_length g (home g row.item) == time)) acts))
-          (sym (get_or_past (cluster_of ms).acts (home g row.item) [] (omega (arith, past, length-map ms (λ (m : Member). m.acts.items)))))
+      | inl k ↦ ap (λ (o : Option Member).
+          option_map_or (λ (m : Member). frames_from value row.item m.slot time m.acts.items) o [])
+          (slice_get-get_or ms (home g row.item) m k)
+          ∙ (λ i. map (λ (act : Act). frame_is (item_at g row.item) act i) (filter (λ (act : Act).
+          (act.item == row.item) && (act.time + (fits (home g row.item) m k).slot i == time)) (sent k i)))
+      | inr past ↦ ap (λ (o : Option Member).
+          option_map_or (λ (m : Member). frames_from value row.item m.slot time m.acts.items) o [])
+          (slice_get_past ms (home g row.item) past)
+          ∙ ap (λ acts. map (λ (act : Act). frame_of_item w (item_at g row.item) act) (filter
+          (λ (act : Act). (act.item == row.item) && (act.time + slot_length g (home g row.item) == time)) acts))
+          (sym (get_or_past (cluster_of ms).acts (home g row.item) []
+          (omega (arith, past, length-map ms (λ (m : Member). m.acts.items)))))
     ]
       where
         value : Bool
         value = value_of_item w.scenario.values (item_at g row.item)
 
-        sent : home g row.item < length ms → (get_or ms (home g row.item) m).acts.items ≡ get_or (cluster_of ms).acts (home g row.item) []
+        sent : home g row.item < length ms →
+            (get_or ms (home g row.item) m).acts.items ≡ get_or (cluster_of ms).acts (home g row.item) []
         sent k = sym (get_or-map (λ (m : Member). m.acts.items) ms (home g row.item) m [] k)
 
-    pub frames_are : (d : Dispatcher) → d.table ≡ m.node.dispatcher.table → frames_by g w.scenario.values ms time m.node.dispatcher.table.hears m.senders.items ≡ frames_now g w (cluster_of ms) d time
+    pub frames_are : (d : Dispatcher) → d.table ≡ m.node.dispatcher.table →
+        frames_by g w.scenario.values ms time m.node.dispatcher.table.hears m.senders.items
+        ≡ frames_now g w (cluster_of ms) d time
     frames_are d t =
         let hears = m.node.dispatcher.table.hears in
         ap (λ ss. flat_map (λ fs. fs) (zip_with (frames_of_sender g w.scenario.values ms time) hears ss)) senders_are
-        ∙ ap (flat_map (λ fs. fs)) (zip_with-map (frames_of_sender g w.scenario.values ms time) (λ (row : Row). home g row.item) hears)
+        ∙ ap (flat_map (λ fs. fs))
+        (zip_with-map (frames_of_sender g w.scenario.values ms time) (λ (row : Row). home g row.item) hears)
         ∙ flat_id (λ (row : Row). frames_of_sender g w.scenario.values ms time row (home g row.item)) hears
-        ∙ same_flat_map (λ (row : Row). frames_of_sender g w.scenario.values ms time row (home g row.item)) (frames_of_row g w (cluster_of ms) time) hears (λ row _. row_frames row)
+        ∙ same_flat_map (λ (row : Row). frames_of_sender g w.scenario.values ms time row (home g row.item))
+        (frames_of_row g w (cluster_of ms) time) hears (λ row _. row_frames row)
         ∙ sym (ap (λ t. flat_map (frames_of_row g w (cluster_of ms) time) t.hears) t)

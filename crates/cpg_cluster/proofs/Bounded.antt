@@ -1,5 +1,6 @@
 -- How many instants the nodes of a play may come to, and how many asks of a choice wait.
-use Rattle.std.proofs.Common.{◌≡◌, ℕ, ◌+◌, ◌*◌, ◌<◌, ◌≤◌, ◌%◌, ◌==◌, List, [], ◌∷◌, length, map, get_or, Some, sym, ap, ◌∙◌, subst, arith}
+use Rattle.std.proofs.Common.{◌≡◌, ℕ, ◌+◌, ◌*◌, ◌<◌, ◌≤◌, ◌%◌, ◌==◌, List, [], ◌∷◌, length, map, get_or, Some, sym, ap}
+use Rattle.std.proofs.Common.{◌∙◌, subst, arith}
 use Rattle.std.specs.Prelude.{All, sum_by}
 use Rattle.std.proofs.lemmas.List.{length-map, get_or_default}
 use Rattle.std.proofs.lemmas.List.Elements.{All-head, All-tail, All-map}
@@ -17,7 +18,8 @@ use Rattle.cpg_table.specs.Shape.{processes_on}
 use Rattle.cpg_table.specs.Table.{NodeTable}
 use Rattle.cpg_node.specs.Dispatcher.{Dispatcher, Ended, Frame, Own, next, initial_dispatcher, turn}
 use Rattle.cpg_table.specs.Items.{own_process}
-use Rattle.cpg_cluster.specs.Cluster.{World, Cluster, Answer, Took, Waits, Done, answer, dispatcher_at, reported, reports_now}
+use Rattle.cpg_cluster.specs.Cluster.{World, Cluster, Answer, Took, Waits, Done, answer, dispatcher_at, reported}
+use Rattle.cpg_cluster.specs.Cluster.{reports_now}
 use Rattle.cpg_cluster.specs.Driving.{choose, chosen, circle, remaining}
 use Rattle.cpg_node.specs.Instants.{instants_left}
 use Rattle.cpg_cluster.proofs.Finishing.{next_finished, table_finished}
@@ -37,34 +39,44 @@ few_own g node within = omega (
 )
 
 own_few_ends : (g : Graph) (node : ℕ) → IsWithinLimits g → HaveFewEnds (own_of_node g node)
-own_few_ends g node within = All-map (λ (o : Own). length o.times ≤ 9) (own_process g) (processes_on g node) (λ i p l. omega (
-  arith,
-  length-map (numbers_below (g.faults + 1)) (duration g (get_or (processes_on g node) i p)),
-  length-range_with_len 0 (g.faults + 1),
-  within.faults,
-))
+own_few_ends g node within =
+    All-map (λ (o : Own). length o.times ≤ 9) (own_process g) (processes_on g node) (λ i p l. omega (
+      arith,
+      length-map (numbers_below (g.faults + 1)) (duration g (get_or (processes_on g node) i p)),
+      length-range_with_len 0 (g.faults + 1),
+      within.faults,
+    ))
 
 own_rise : (g : Graph) (node : ℕ) → DoRise (own_of_node g node)
-own_rise g node = mapped (processes_on g node) (Rises-filter (λ x y. x < y) (λ p. node_of g p == node) (numbers_below (process_count g)) (numbers_go_up (process_count g)))
+own_rise g node = mapped (processes_on g node) (Rises-filter (λ x y. x < y) (λ p. node_of g p == node)
+    (numbers_below (process_count g)) (numbers_go_up (process_count g)))
   where
     mapped : (ps : List ℕ) → Rises (λ x y. x < y) ps → DoRise (map (own_process g) ps)
     mapped [] h = tt
-    mapped (p ∷ ps) h = (λ o m. let q = Contains-map_parts (own_process g) ps o m in subst (λ (o : Own). p < o.process) q.2 (h.0 q.0 q.1), mapped ps h.1)
+    mapped (p ∷ ps) h = (
+      λ o m. let q = Contains-map_parts (own_process g) ps o m in subst (λ (o : Own). p < o.process) q.2 (h.0 q.0 q.1),
+      mapped ps h.1,
+    )
 
 -- a turn leaves a node fewer instants
-pub less_turn : (g : Graph) (w : World) (node : ℕ) (d : Dispatcher) (time : ℕ) (frames : List Frame) → IsWithinLimits g → d.table.own ≡ own_of_node g node → next d ≡ Some time →
+pub less_turn : (g : Graph) (w : World) (node : ℕ) (d : Dispatcher) (time : ℕ) (frames : List Frame) →
+    IsWithinLimits g → d.table.own ≡ own_of_node g node →
+    next d ≡ Some time →
     instants_left (turn (reported g w d time) time [] frames) < instants_left d
 less_turn g w node d time frames within own comes =
     let es : List Ended = map (λ (r : ℕ × Ended). r.1) (reports_now g w d time) in
     let same : (reported g w d time).table.own ≡ own_of_node g node = ap (λ t. t.own) (table_finished d es) ∙ own in
-    let less = turn_less (reported g w d time) time frames (next_finished d es ∙ comes) (subst DoRise (sym same) (own_rise g node)) (subst HaveFewEnds (sym same) (own_few_ends g node within)) in
+    let less = turn_less (reported g w d time) time frames (next_finished d es ∙ comes)
+    (subst DoRise (sym same) (own_rise g node)) (subst HaveFewEnds (sym same) (own_few_ends g node within)) in
     omega (arith, less, reported_left d es)
 
 -- what a table says of a node's processes
 abbrev HasFew : Dispatcher → Type 0
 HasFew d = (length d.table.own ≤ 128) × HaveFewEnds d.table.own
 
-most_of : (ds : List Dispatcher) → All HasFew ds → sum_by instants_left ds ≤ sum_by (λ (t : NodeTable). column_count (rows_of t)) (map (λ (d : Dispatcher). d.table) ds) * 10 + length ds * 1153
+most_of : (ds : List Dispatcher) → All HasFew ds →
+    sum_by instants_left ds ≤ sum_by (λ (t : NodeTable). column_count (rows_of t))
+    (map (λ (d : Dispatcher). d.table) ds) * 10 + length ds * 1153
 most_of [] h = omega arith
 most_of (d ∷ ds) h =
     let here = All-head HasFew d ds h in
@@ -77,16 +89,21 @@ most_of (d ∷ ds) h =
     )
 
 -- all nodes together have at most so many
-pub most_remaining : (g : Graph) (c : Cluster) → IsWithinLimits g → length c.nodes ≤ 16 → ((i : ℕ) → i < length c.nodes → (dispatcher_at c i).table.own ≡ own_of_node g i) →
-    sum_by (λ (t : NodeTable). column_count (rows_of t)) (map (λ (d : Dispatcher). d.table) c.nodes) ≤ MOST_LOAD → remaining c ≤ 5261328
+pub most_remaining : (g : Graph) (c : Cluster) → IsWithinLimits g → length c.nodes ≤ 16 →
+    ((i : ℕ) → i < length c.nodes → (dispatcher_at c i).table.own ≡ own_of_node g i) →
+    sum_by (λ (t : NodeTable). column_count (rows_of t)) (map (λ (d : Dispatcher). d.table) c.nodes) ≤ MOST_LOAD →
+    remaining c ≤ 5261328
 most_remaining g c within few own columns = omega (
   arith,
   few,
   columns,
   most_of c.nodes (λ i d l.
       let same : (get_or c.nodes i d).table.own ≡ own_of_node g i = ap (λ (d : Dispatcher). d.table.own)
-      (get_or_default c.nodes i d (initial_dispatcher (record { faults = 0; first_broadcast = 0; own = []; starts = []; sends = []; hears = [] })) l) ∙ own i l in
-      (subst (λ (os : List Own). length os ≤ 128) (sym same) (few_own g i within), subst HaveFewEnds (sym same) (own_few_ends g i within))),
+      (get_or_default c.nodes i d (initial_dispatcher
+      (record { faults = 0; first_broadcast = 0; own = []; starts = []; sends = []; hears = [] })) l) ∙ own i l in (
+        subst (λ (os : List Own). length os ≤ 128) (sym same) (few_own g i within),
+        subst HaveFewEnds (sym same) (own_few_ends g i within),
+      )),
 )
 
 -- no more nodes wait than a choice asks
@@ -94,10 +111,17 @@ pub few_waits : (g : Graph) (w : World) (c : Cluster) (xs : List ℕ) → (choos
 few_waits g w c [] = omega arith
 few_waits g w c (x ∷ xs) = go (answer g c x) (few_waits g w c xs)
   where
-    go : (a : Answer) → (choose g w c xs).waits ≤ length xs → (chosen g w c x a (choose g w c xs)).waits ≤ length (x ∷ xs)
+    go : (a : Answer) → (choose g w c xs).waits ≤ length xs →
+        (chosen g w c x a (choose g w c xs)).waits ≤ length (x ∷ xs)
     go Took l = omega arith
     go (Waits b) l = omega arith
     go Done l = omega arith
 
-pub few_of_circle : (g : Graph) (w : World) (c : Cluster) (nodes first : ℕ) → (choose g w c (circle nodes first)).waits ≤ nodes
-few_of_circle g w c nodes first = omega (arith, few_waits g w c (circle nodes first), length-map (numbers_below nodes) (λ i. (first + i) % nodes), length-range_with_len 0 nodes)
+pub few_of_circle : (g : Graph) (w : World) (c : Cluster) (nodes first : ℕ) →
+    (choose g w c (circle nodes first)).waits ≤ nodes
+few_of_circle g w c nodes first = omega (
+  arith,
+  few_waits g w c (circle nodes first),
+  length-map (numbers_below nodes) (λ i. (first + i) % nodes),
+  length-range_with_len 0 nodes,
+)

@@ -1,5 +1,6 @@
 -- All of a cycle is over at its end.
-use Rattle.std.proofs.Common.{◌≡◌, ℕ, suc, ◌+◌, ◌-◌, ◌*◌, ◌<◌, ◌≤◌, max, true, ◌==◌, List, [], ◌∷◌, length, take, get_or, Contains, Option, Some, None, refl, sym, ap, ◌∙◌, arith, inl, inr, eq-eqb}
+use Rattle.std.proofs.Common.{◌≡◌, ℕ, suc, ◌+◌, ◌-◌, ◌*◌, ◌<◌, ◌≤◌, max, true, ◌==◌, List, [], ◌∷◌, length, take}
+use Rattle.std.proofs.Common.{get_or, Contains, Option, Some, None, refl, sym, ap, ◌∙◌, arith, inl, inr, eq-eqb}
 use Rattle.std.proofs.Common.{ne_eqb, mul-le-mul_right, ltb-true}
 use Rattle.std.specs.Prelude.{nat_lt, sum_by, map, zero}
 use Rattle.std.specs.Int.{div_ceil}
@@ -8,14 +9,16 @@ use Rattle.std.proofs.lemmas.Grind.{div_ceil_times}
 use Rattle.std.proofs.lemmas.List.Elements.{Contains-get_or}
 use Rattle.std.proofs.lemmas.List.Sums.{sum_by-cons}
 use Rattle.cpg_base.specs.Numbers.{numbers_below}
-use Rattle.cpg_base.specs.Graph.{Graph, process_count, item_count, item_at, is_sent, is_heard_by, is_sent_item, home, node_of, target, process_at, process_of}
+use Rattle.cpg_base.specs.Graph.{Graph, process_count, item_count, item_at, is_sent, is_heard_by, is_sent_item, home}
+use Rattle.cpg_base.specs.Graph.{node_of, target, process_at, process_of}
 use Rattle.cpg_base.specs.declared.process.Slot.{Slot}
 use Rattle.cpg_base.specs.WellFormed.{WellFormed}
 use Rattle.cpg_base.specs.Bus.{round, offset, slot_length, slot_place}
 use Rattle.cpg_base.specs.Duration.{duration, lesser_due}
 use Rattle.cpg_base.specs.Scenario.{fault_of}
 use Rattle.cpg_base.proofs.Items.{item_cases}
-use Rattle.cpg_base.proofs.Lists.{Contains-map, Contains-flat_map, Contains-filter_parts, numbers-Contains, greatest_above}
+use Rattle.cpg_base.proofs.Lists.{Contains-map, Contains-flat_map, Contains-filter_parts, numbers-Contains}
+use Rattle.cpg_base.proofs.Lists.{greatest_above}
 use Rattle.cpg_base.proofs.Slots.{slot_place-lt}
 use Rattle.cpg_cube.specs.Column.{Column}
 use Rattle.cpg_table.specs.Table.{Row, NodeTable, table_at, empty_table, columns_of}
@@ -25,7 +28,8 @@ use Rattle.cpg_table.proofs.Rows.{not_both}
 use Rattle.cpg_table.proofs.Settings.{Match, match_due}
 use Rattle.cpg_node.specs.Dispatcher.{times_in}
 use Rattle.cpg_cluster.specs.Cluster.{World, Cluster, initial_cluster, play, IsPlayed}
-use Rattle.cpg_cluster.specs.Cycles.{last_arrival, cycle_step, IsCycle, LeastCyclesAreLeast, IsOverBy, CyclesHoldAll, CyclesHaveTheSameSlots, CyclesAreApart}
+use Rattle.cpg_cluster.specs.Cycles.{last_arrival, cycle_step, IsCycle, LeastCyclesAreLeast, IsOverBy, CyclesHoldAll}
+use Rattle.cpg_cluster.specs.Cycles.{CyclesHaveTheSameSlots, CyclesAreApart}
 use Rattle.cpg_cluster.proofs.Asked.{asked_match}
 use Rattle.cpg_cluster.proofs.Nodes.{Played, hear_row_in}
 use Rattle.cpg_cluster.proofs.Ends.{ended_by}
@@ -48,10 +52,17 @@ least_cycles g tables =
     let there : 0 < step = omega arith in
     let over : bound ≤ div_ceil bound step * step = (div_ceil_times bound step there).0 in
     record {
-      is = record { some = omega (arith, over); rounds = div_ceil bound step; whole = refl; deadline = omega (arith, over); arrivals = omega (arith, over) };
+      is = record {
+        some = omega (arith, over);
+        rounds = div_ceil bound step;
+        whole = refl;
+        deadline = omega (arith, over);
+        arrivals = omega (arith, over);
+      };
       least = λ other c.
           let within : bound ≤ c.rounds * step = omega (arith, c.some, c.whole, c.deadline, c.arrivals) in
-          let fewer : div_ceil bound step * step ≤ c.rounds * step = mul-le-mul_right step (below_turns bound step c.rounds there within) in
+          let fewer : div_ceil bound step * step ≤ c.rounds * step =
+          mul-le-mul_right step (below_turns bound step c.rounds there within) in
           omega (arith, fewer, c.whole);
     }
 
@@ -68,7 +79,8 @@ hearer g f x l sent = elim (item_cases g x l) [
   | inr (inl q) ↦ record {
     node = node_of g (target g q.0);
     within = f.nodes (target g q.0) (f.targets q.0 q.1);
-    hears = ap (is_heard_by g (node_of g (target g q.0))) q.3 ∙ and_from _ _ (sym (ap (is_sent_item g) q.3) ∙ sent) (eq-eqb _ _ refl);
+    hears = ap (is_heard_by g (node_of g (target g q.0))) q.3
+        ∙ and_from _ _ (sym (ap (is_sent_item g) q.3) ∙ sent) (eq-eqb _ _ refl);
   }
   | inr (inr q) ↦
       let two : nat_lt 1 (length g.nodes) ≡ true = sym (ap (is_sent_item g) q.3) ∙ sent in
@@ -77,7 +89,8 @@ hearer g f x l sent = elim (item_cases g x l) [
         | inl e ↦ record {
           node = 1;
           within = omega (arith, many);
-          hears = ap (is_heard_by g 1) q.3 ∙ and_from _ _ two (not_from_false _ (ne_eqb _ _ (λ s. absurd (omega (arith, e, s)))));
+          hears = ap (is_heard_by g 1) q.3
+              ∙ and_from _ _ two (not_from_false _ (ne_eqb _ _ (λ s. absurd (omega (arith, e, s)))));
         }
         | inr ne ↦ record {
           node = 0;
@@ -91,36 +104,58 @@ lesser : (deadline : ℕ) (own : Option ℕ) → lesser_due deadline own ≤ dea
 lesser deadline None = omega arith
 lesser deadline (Some own) = omega arith
 
-module _ {g : Graph} {tables : List NodeTable} {w : World} (k : Played g tables w) (time : ℕ) (cycle : IsCycle g tables time) where
+module _ {g : Graph} {tables : List NodeTable} {w : World} (k : Played g tables w) (time : ℕ)
+    (cycle : IsCycle g tables time) where
   -- what a node hears arrives in the cycle
-  arrives : (x : ℕ) (c : Column) → x < item_count g → is_sent g x ≡ true → Contains (columns_of tables x) c → c.time + slot_length g (home g x) ≤ time
+  arrives : (x : ℕ) (c : Column) → x < item_count g → is_sent g x ≡ true → Contains (columns_of tables x) c →
+      c.time + slot_length g (home g x) ≤ time
   arrives x c l sent m =
       let h = hearer g k.setting.formed x l sent in
       let row = hear_row_in k h.node h.within [] None x l h.hears in
       let here : Contains (times_in (table_at tables h.node).hears) (c.time + slot_length g (home g x)) =
-      Contains-flat_map (λ (row : Row). map (λ (c : Column). c.time) row.columns) (table_at tables h.node).hears (hear_row g tables x) (c.time + slot_length g (home g x)) row
-      (Contains-map (λ (c : Column). c.time) (hear_row g tables x).columns (later_by (slot_length g (home g x)) c) (Contains-map (later_by (slot_length g (home g x))) (columns_of tables x) c m)) in
-      let all = Contains-flat_map (λ (t : NodeTable). times_in t.hears) tables (table_at tables h.node) (c.time + slot_length g (home g x))
+      Contains-flat_map (λ (row : Row). map (λ (c : Column). c.time) row.columns) (table_at tables h.node).hears
+      (hear_row g tables x) (c.time + slot_length g (home g x)) row
+      (Contains-map (λ (c : Column). c.time) (hear_row g tables x).columns (later_by (slot_length g (home g x)) c)
+      (Contains-map (later_by (slot_length g (home g x))) (columns_of tables x) c m)) in
+      let all = Contains-flat_map (λ (t : NodeTable). times_in t.hears) tables (table_at tables h.node)
+      (c.time + slot_length g (home g x))
       (Contains-get_or tables h.node empty_table (omega (arith, k.setting.shape.count, h.within))) here in
       omega (arith, greatest_above _ (c.time + slot_length g (home g x)) all, cycle.arrivals)
 
-  planned_end : (p : ℕ) (c : Column) → Match tables w.scenario p c → p < process_count g → c.time + duration g p (fault_of w.scenario p) ≤ time
-  planned_end p c m l = omega (arith, match_due k.setting p c m l, lesser g.deadline (process_at g p).deadline, cycle.deadline)
+  planned_end : (p : ℕ) (c : Column) → Match tables w.scenario p c → p < process_count g →
+      c.time + duration g p (fault_of w.scenario p) ≤ time
+  planned_end p c m l =
+      omega (arith, match_due k.setting p c m l, lesser g.deadline (process_at g p).deadline, cycle.deadline)
 
   known : (node p : ℕ) → Contains (processes_on g node) p → p < process_count g
-  known node p m = numbers-Contains (process_count g) p (Contains-filter_parts (λ p. node_of g p == node) (numbers_below (process_count g)) p m).0
+  known node p m = numbers-Contains (process_count g) p
+      (Contains-filter_parts (λ p. node_of g p == node) (numbers_below (process_count g)) p m).0
 
   pub over : (turns : List ℕ) → IsOverBy g w.scenario (play g w (initial_cluster g tables) turns) time
   over turns =
       let c : Cluster = play g w (initial_cluster g tables) turns in
       let played : IsPlayed g tables w c = record { turns = turns; is = refl } in
       record {
-        starts = λ node a l m p. let q = ((reached k turns).holds node l).done.only a m in omega (arith, planned_end a.item q.0.column (asked_match q.0) p, q.0.time);
+        starts = λ node a l m p. let q = ((reached k turns).holds node l).done.only a m in
+            omega (arith, planned_end a.item q.0.column (asked_match q.0) p, q.0.time);
         sends = λ node a l m p. let q = ((reached k turns).holds node l).done.only a m in
-            omega (arith, arrives a.item q.0.column q.0.row.within (elim q.0.row.kind [ inl less ↦ absurd (omega (arith, less, p)) | inr e ↦ e ]) (asked_match q.0).there, q.0.time);
-        ends = λ node e l m. let q = ((ended_by k c played node l).only e m).0 in omega (arith, planned_end q.process q.column q.match (known node q.process q.on), q.time);
+            omega (
+              arith,
+              arrives a.item q.0.column q.0.row.within (elim q.0.row.kind [
+                | inl less ↦ absurd (omega (arith, less, p))
+                | inr e ↦ e
+              ]) (asked_match q.0).there,
+              q.0.time,
+            );
+        ends = λ node e l m. let q = ((ended_by k c played node l).only e m).0 in
+            omega (arith, planned_end q.process q.column q.match (known node q.process q.on), q.time);
         reports = λ node e l m. let q = (((reports_hold k c played).each node l).only e m).0 in
-            omega (arith, planned_end q.process q.column q.match (known node q.process q.on), (k.world.lengths q.process (known node q.process q.on)).1, q.time);
+            omega (
+              arith,
+              planned_end q.process q.column q.match (known node q.process q.on),
+              (k.world.lengths q.process (known node q.process q.on)).1,
+              q.time,
+            );
       }
 
 pub cycles_hold_all : CyclesHoldAll
@@ -128,10 +163,16 @@ cycles_hold_all g tables time f h v cycle w turns is = over (played_of g tables 
 
 -- Slots.
 
-front_sum : (slots : List Slot) (n : ℕ) (d : Slot) → n < length slots → sum_by (λ (s : Slot). s.length) (take n slots) + (get_or slots n d).length ≤ sum_by (λ (s : Slot). s.length) slots
+front_sum : (slots : List Slot) (n : ℕ) (d : Slot) → n < length slots →
+    sum_by (λ (s : Slot). s.length) (take n slots) + (get_or slots n d).length ≤ sum_by (λ (s : Slot). s.length) slots
 front_sum [] n d l = absurd (omega arith)
 front_sum (s ∷ slots) zero d l = omega (arith, sum_by-cons (λ (s : Slot). s.length) s slots)
-front_sum (s ∷ slots) (suc n) d l = omega (arith, sum_by-cons (λ (s : Slot). s.length) s slots, sum_by-cons (λ (s : Slot). s.length) s (take n slots), front_sum slots n d (omega arith))
+front_sum (s ∷ slots) (suc n) d l = omega (
+  arith,
+  sum_by-cons (λ (s : Slot). s.length) s slots,
+  sum_by-cons (λ (s : Slot). s.length) s (take n slots),
+  front_sum slots n d (omega arith),
+)
 
 -- over plain numbers
 fewer_rounds : (a b r off t : ℕ) → off < r → a * r + t ≡ b * r + off → a ≤ b
@@ -144,10 +185,13 @@ pub same_slots : CyclesHaveTheSameSlots
 same_slots g tables time cycle node f c has = record {
   later = λ t at. (all + at.0, omega (arith, at.1, begin, parts all at.0 (round g)));
   earlier = λ t at.
-      let fewer : all ≤ at.0 = fewer_rounds all at.0 (round g) (offset g node) t inside (sym (ap (λ n. n + t) begin) ∙ at.1) in (
+      let fewer : all ≤ at.0 =
+      fewer_rounds all at.0 (round g) (offset g node) t inside (sym (ap (λ n. n + t) begin) ∙ at.1) in (
         at.0 - all,
         let both : all + (at.0 - all) ≡ at.0 = omega (arith, fewer) in
-            let whole : at.0 * round g ≡ all * round g + (at.0 - all) * round g = ap (λ n. n * round g) (sym both) ∙ parts all (at.0 - all) (round g) in omega (arith, at.1, begin, whole),
+            let whole : at.0 * round g ≡ all * round g + (at.0 - all) * round g =
+            ap (λ n. n * round g) (sym both) ∙ parts all (at.0 - all) (round g) in
+            omega (arith, at.1, begin, whole),
       );
 }
   where
@@ -164,7 +208,8 @@ same_slots g tables time cycle node f c has = record {
         omega (arith, front_sum g.slots (slot_place g node) (record { node = 0; length = 0; bytes = 0 }) l, one)
 
     begin : cycle * time ≡ all * round g
-    begin = let step : cycle_step g ≡ round g = omega (arith, inside) in ap (λ t. cycle * t) (c.whole ∙ ap (λ n. c.rounds * n) step) ∙ assoc cycle c.rounds (round g)
+    begin = let step : cycle_step g ≡ round g = omega (arith, inside) in
+        ap (λ t. cycle * t) (c.whole ∙ ap (λ n. c.rounds * n) step) ∙ assoc cycle c.rounds (round g)
       where
         assoc : (a b r : ℕ) → a * (b * r) ≡ a * b * r
         assoc a b r = omega arith

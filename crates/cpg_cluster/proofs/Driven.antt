@@ -1,5 +1,7 @@
--- Choices: a node is asked after another until one takes its turn, and choices follow each other until all nodes are done.
-use Rattle.std.proofs.Common.{◌≡◌, ℕ, zero, suc, ◌+◌, ◌<◌, ◌≤◌, ◌%◌, true, false, List, [], ◌∷◌, length, drop, get_or, set, refl, sym, ap, ap₂, ◌∙◌, arith, true≢false, drop-cons, add-one}
+-- Choices: a node is asked after another until one takes its turn, and choices follow each other until all nodes are
+-- done.
+use Rattle.std.proofs.Common.{◌≡◌, ℕ, zero, suc, ◌+◌, ◌<◌, ◌≤◌, ◌%◌, true, false, List, [], ◌∷◌, length, drop, get_or}
+use Rattle.std.proofs.Common.{set, refl, sym, ap, ap₂, ◌∙◌, arith, true≢false, drop-cons, add-one}
 use Rattle.std.specs.Prelude.{sum_by}
 use Rattle.std.proofs.lemmas.List.{length-map}
 use Rattle.std.proofs.lemmas.List.Sums.{sum_by-set}
@@ -14,32 +16,41 @@ use Rattle.cpg_cluster.specs.Driving.{circle, Choice, chosen, choose}
 use Rattle.cpg_node.specs.Instants.{instants_left}
 
 -- if a turn leaves a node fewer instants, it leaves fewer to all together
-pub nearer_set : (nodes : List Dispatcher) (a : ℕ) (d e : Dispatcher) → a < length nodes → instants_left d < instants_left (get_or nodes a e) →
+pub nearer_set : (nodes : List Dispatcher) (a : ℕ) (d e : Dispatcher) → a < length nodes →
+    instants_left d < instants_left (get_or nodes a e) →
     sum_by instants_left (set nodes a d) < sum_by instants_left nodes
 nearer_set nodes a d e l less = omega (arith, sum_by-set instants_left nodes a d e l, less)
 
 -- the node that is asked at a place of the circle
-pub circle_at : (nodes first i : ℕ) → i < nodes → drop i (circle nodes first) ≡ ((first + i) % nodes) ∷ drop (i + 1) (circle nodes first)
+pub circle_at : (nodes first i : ℕ) → i < nodes →
+    drop i (circle nodes first) ≡ ((first + i) % nodes) ∷ drop (i + 1) (circle nodes first)
 circle_at nodes first i l =
-    let long : i < length (circle nodes first) = omega (arith, l, length-map (numbers_below nodes) (λ i. (first + i) % nodes), length-range_with_len 0 nodes) in
-    drop-cons (circle nodes first) i 0 long ∙ ap₂ ◌∷◌ (get_or-map-below (λ i. (first + i) % nodes) nodes i 0 l) (ap (λ m. drop m (circle nodes first)) (sym (add-one i)))
+    let long : i < length (circle nodes first) =
+    omega (arith, l, length-map (numbers_below nodes) (λ i. (first + i) % nodes), length-range_with_len 0 nodes) in
+    drop-cons (circle nodes first) i 0 long ∙ ap₂ ◌∷◌ (get_or-map-below (λ i. (first + i) % nodes) nodes i 0 l)
+    (ap (λ m. drop m (circle nodes first)) (sym (add-one i)))
 
 -- what is left of a choice, after so many asks without a turn, of which some waited
 pub record IsChoosing (g : Graph) (w : World) (c : Cluster) (nodes first asked waits : ℕ) : Type 0 where
   pub cluster : (choose g w c (drop asked (circle nodes first))).cluster ≡ (choose g w c (circle nodes first)).cluster
-  pub waits' : waits + (choose g w c (drop asked (circle nodes first))).waits ≡ (choose g w c (circle nodes first)).waits
+  pub waits' : waits + (choose g w c (drop asked (circle nodes first))).waits
+      ≡ (choose g w c (circle nodes first)).waits
   pub took : (choose g w c (drop asked (circle nodes first))).took ≡ (choose g w c (circle nodes first)).took
   pub few : waits ≤ asked
 
 pub choosing_none : (g : Graph) (w : World) (c : Cluster) (nodes first : ℕ) → IsChoosing g w c nodes first 0 0
 choosing_none g w c nodes first = record { cluster = refl; waits' = omega arith; took = refl; few = omega arith }
 
-module _ (g : Graph) (w : World) (c : Cluster) (nodes first asked waits : ℕ) (h : IsChoosing g w c nodes first asked waits) (l : asked < nodes) where
-  here : (ans : Answer) → answer g c ((first + asked) % nodes) ≡ ans → choose g w c (drop asked (circle nodes first)) ≡ chosen g w c ((first + asked) % nodes) ans
+module _ (g : Graph) (w : World) (c : Cluster) (nodes first asked waits : ℕ)
+    (h : IsChoosing g w c nodes first asked waits) (l : asked < nodes) where
+  here : (ans : Answer) → answer g c ((first + asked) % nodes) ≡ ans →
+      choose g w c (drop asked (circle nodes first)) ≡ chosen g w c ((first + asked) % nodes) ans
       (choose g w c (drop (asked + 1) (circle nodes first)))
-  here ans e = ap (choose g w c) (circle_at nodes first asked l) ∙ ap (λ ans. chosen g w c ((first + asked) % nodes) ans (choose g w c (drop (asked + 1) (circle nodes first)))) e
+  here ans e = ap (choose g w c) (circle_at nodes first asked l)
+      ∙ ap (λ ans. chosen g w c ((first + asked) % nodes) ans (choose g w c (drop (asked + 1) (circle nodes first)))) e
 
-  pub choosing_waits : (b : ℕ) → answer g c ((first + asked) % nodes) ≡ Waits b → IsChoosing g w c nodes first (asked + 1) (waits + 1)
+  pub choosing_waits : (b : ℕ) → answer g c ((first + asked) % nodes) ≡ Waits b →
+      IsChoosing g w c nodes first (asked + 1) (waits + 1)
   choosing_waits b e = let one = here (Waits b) e in record {
     cluster = sym (ap (λ (r : Choice). r.cluster) one) ∙ h.cluster;
     waits' = omega (arith, ap (λ (r : Choice). r.waits) one, h.waits');
@@ -55,9 +66,13 @@ module _ (g : Graph) (w : World) (c : Cluster) (nodes first asked waits : ℕ) (
     few = omega (arith, h.few);
   }
 
-  pub chosen_took : answer g c ((first + asked) % nodes) ≡ Took → ((choose g w c (circle nodes first)).cluster ≡ step g w c ((first + asked) % nodes)) ×
+  pub chosen_took : answer g c ((first + asked) % nodes) ≡ Took →
+      ((choose g w c (circle nodes first)).cluster ≡ step g w c ((first + asked) % nodes)) ×
       ((choose g w c (circle nodes first)).waits ≡ waits)
-  chosen_took e = let one = here Took e in (sym h.cluster ∙ ap (λ (r : Choice). r.cluster) one, let z = ap (λ (r : Choice). r.waits) one in omega (arith, z, h.waits'))
+  chosen_took e = let one = here Took e in (
+    sym h.cluster ∙ ap (λ (r : Choice). r.cluster) one,
+    let z = ap (λ (r : Choice). r.waits) one in omega (arith, z, h.waits'),
+  )
 
 -- after all were asked nobody took a turn
 drop_all : {X : Type 0} (n : ℕ) (xs : List X) → length xs ≤ n → drop n xs ≡ []
@@ -66,11 +81,17 @@ drop_all (suc n) [] l = refl
 drop_all zero (x ∷ xs) l = absurd (omega arith)
 drop_all (suc n) (x ∷ xs) l = drop_all n xs (omega arith)
 
-pub chosen_none : (g : Graph) (w : World) (c : Cluster) (nodes first asked waits : ℕ) → IsChoosing g w c nodes first asked waits → nodes ≤ asked →
-    ((choose g w c (circle nodes first)).cluster ≡ c) × ((choose g w c (circle nodes first)).waits ≡ waits) × ((choose g w c (circle nodes first)).took ≡ false)
+pub chosen_none : (g : Graph) (w : World) (c : Cluster) (nodes first asked waits : ℕ) →
+    IsChoosing g w c nodes first asked waits → nodes ≤ asked →
+    ((choose g w c (circle nodes first)).cluster ≡ c) × ((choose g w c (circle nodes first)).waits ≡ waits) ×
+    ((choose g w c (circle nodes first)).took ≡ false)
 chosen_none g w c nodes first asked waits h l =
-    let none = ap (choose g w c) (drop_all asked (circle nodes first) (omega (arith, l, length-map (numbers_below nodes) (λ i. (first + i) % nodes), length-range_with_len 0 nodes))) in
-    (sym h.cluster ∙ ap (λ (r : Choice). r.cluster) none, (let z = ap (λ (r : Choice). r.waits) none in omega (arith, z, h.waits')), sym h.took ∙ ap (λ (r : Choice). r.took) none)
+    let none = ap (choose g w c) (drop_all asked (circle nodes first) (omega
+    (arith, l, length-map (numbers_below nodes) (λ i. (first + i) % nodes), length-range_with_len 0 nodes))) in (
+      sym h.cluster ∙ ap (λ (r : Choice). r.cluster) none,
+      (let z = ap (λ (r : Choice). r.waits) none in omega (arith, z, h.waits')),
+      sym h.took ∙ ap (λ (r : Choice). r.took) none,
+    )
 
 -- The steps of a choice, as code takes them.
 
@@ -80,44 +101,58 @@ still_waits g w c a b e = λ i. step_by g w c a (sym e i) (next (dispatcher_at c
 still_done : (g : Graph) (w : World) (c : Cluster) (a : ℕ) → Done ≡ answer g c a → step g w c a ≡ c
 still_done g w c a e = λ i. step_by g w c a (sym e i) (next (dispatcher_at c a))
 
-module _ (old now new : Playing) (nodes first asked waits : ℕ) (count : nodes ≡ length old.graph.nodes) (same : now ≡ old) (stepped' : new ≡ stepped now ((first + asked) % nodes))
+module _ (old now new : Playing) (nodes first asked waits : ℕ) (count : nodes ≡ length old.graph.nodes)
+    (same : now ≡ old) (stepped' : new ≡ stepped now ((first + asked) % nodes))
     (h : IsChoosing old.graph old.world old.cluster nodes first asked waits) (l : asked < nodes) where
   -- the answer, of the state before the choice
-  answered : (ans : Answer) → ans ≡ answer now.graph now.cluster ((first + asked) % nodes) → ans ≡ answer old.graph old.cluster ((first + asked) % nodes)
+  answered : (ans : Answer) → ans ≡ answer now.graph now.cluster ((first + asked) % nodes) →
+      ans ≡ answer old.graph old.cluster ((first + asked) % nodes)
   answered ans e = e ∙ ap (λ (p : Playing). answer p.graph p.cluster ((first + asked) % nodes)) same
 
   pub took_state : Took ≡ answer now.graph now.cluster ((first + asked) % nodes) → new ≡ record old
       { cluster = (choose old.graph old.world old.cluster (circle (length old.graph.nodes) first)).cluster }
   took_state e = stepped' ∙ ap (λ (p : Playing). stepped p ((first + asked) % nodes)) same
       ∙ ap (λ (c : Cluster). record old { cluster = c })
-      (sym (chosen_took old.graph old.world old.cluster nodes first asked waits h l (sym (answered Took e))).0 ∙ ap (λ n. (choose old.graph old.world old.cluster (circle n first)).cluster) count)
+      (sym (chosen_took old.graph old.world old.cluster nodes first asked waits h l (sym (answered Took e))).0
+      ∙ ap (λ n. (choose old.graph old.world old.cluster (circle n first)).cluster) count)
 
-  pub took_waits : Took ≡ answer now.graph now.cluster ((first + asked) % nodes) → waits ≡ (choose old.graph old.world old.cluster (circle (length old.graph.nodes) first)).waits
-  took_waits e = sym (chosen_took old.graph old.world old.cluster nodes first asked waits h l (sym (answered Took e))).1 ∙
+  pub took_waits : Took ≡ answer now.graph now.cluster ((first + asked) % nodes) →
+      waits ≡ (choose old.graph old.world old.cluster (circle (length old.graph.nodes) first)).waits
+  took_waits e =
+      sym (chosen_took old.graph old.world old.cluster nodes first asked waits h l (sym (answered Took e))).1 ∙
       ap (λ n. (choose old.graph old.world old.cluster (circle n first)).waits) count
 
-  pub waits_more : (b : ℕ) → Waits b ≡ answer now.graph now.cluster ((first + asked) % nodes) → (new ≡ old) × IsChoosing old.graph old.world old.cluster nodes first (asked + 1) (waits + 1)
+  pub waits_more : (b : ℕ) → Waits b ≡ answer now.graph now.cluster ((first + asked) % nodes) →
+      (new ≡ old) × IsChoosing old.graph old.world old.cluster nodes first (asked + 1) (waits + 1)
   waits_more b e = (
-    stepped' ∙ ap (λ (p : Playing). stepped p ((first + asked) % nodes)) same ∙ ap (λ (c : Cluster). record old { cluster = c })
+    stepped' ∙ ap (λ (p : Playing). stepped p ((first + asked) % nodes)) same
+        ∙ ap (λ (c : Cluster). record old { cluster = c })
         (still_waits old.graph old.world old.cluster ((first + asked) % nodes) b (answered (Waits b) e)),
     choosing_waits old.graph old.world old.cluster nodes first asked waits h l b (sym (answered (Waits b) e)),
   )
 
-  pub done_more : Done ≡ answer now.graph now.cluster ((first + asked) % nodes) → (new ≡ old) × IsChoosing old.graph old.world old.cluster nodes first (asked + 1) waits
+  pub done_more : Done ≡ answer now.graph now.cluster ((first + asked) % nodes) →
+      (new ≡ old) × IsChoosing old.graph old.world old.cluster nodes first (asked + 1) waits
   done_more e = (
-    stepped' ∙ ap (λ (p : Playing). stepped p ((first + asked) % nodes)) same ∙ ap (λ (c : Cluster). record old { cluster = c })
+    stepped' ∙ ap (λ (p : Playing). stepped p ((first + asked) % nodes)) same
+        ∙ ap (λ (c : Cluster). record old { cluster = c })
         (still_done old.graph old.world old.cluster ((first + asked) % nodes) (answered Done e)),
     choosing_done old.graph old.world old.cluster nodes first asked waits h l (sym (answered Done e)),
   )
 
-module _ (old now : Playing) (nodes first asked waits : ℕ) (count : nodes ≡ length old.graph.nodes) (same : now ≡ old) (h : IsChoosing old.graph old.world old.cluster nodes first asked waits)
+module _ (old now : Playing) (nodes first asked waits : ℕ) (count : nodes ≡ length old.graph.nodes) (same : now ≡ old)
+    (h : IsChoosing old.graph old.world old.cluster nodes first asked waits)
     (l : nodes ≤ asked) where
-  pub none_state : now ≡ record old { cluster = (choose old.graph old.world old.cluster (circle (length old.graph.nodes) first)).cluster }
+  pub none_state : now ≡ record old
+      { cluster = (choose old.graph old.world old.cluster (circle (length old.graph.nodes) first)).cluster }
   none_state = same ∙ ap (λ (c : Cluster). record old { cluster = c })
-      (sym (chosen_none old.graph old.world old.cluster nodes first asked waits h l).0 ∙ ap (λ n. (choose old.graph old.world old.cluster (circle n first)).cluster) count)
+      (sym (chosen_none old.graph old.world old.cluster nodes first asked waits h l).0
+      ∙ ap (λ n. (choose old.graph old.world old.cluster (circle n first)).cluster) count)
 
   pub none_waits : waits ≡ (choose old.graph old.world old.cluster (circle (length old.graph.nodes) first)).waits
-  none_waits = sym (chosen_none old.graph old.world old.cluster nodes first asked waits h l).1 ∙ ap (λ n. (choose old.graph old.world old.cluster (circle n first)).waits) count
+  none_waits = sym (chosen_none old.graph old.world old.cluster nodes first asked waits h l).1
+      ∙ ap (λ n. (choose old.graph old.world old.cluster (circle n first)).waits) count
 
   pub none_took : (choose old.graph old.world old.cluster (circle (length old.graph.nodes) first)).took ≡ true → ⊥
-  none_took e = true≢false (sym e ∙ ap (λ n. (choose old.graph old.world old.cluster (circle n first)).took) (sym count) ∙ (chosen_none old.graph old.world old.cluster nodes first asked waits h l).2)
+  none_took e = true≢false (sym e ∙ ap (λ n. (choose old.graph old.world old.cluster (circle n first)).took) (sym count)
+      ∙ (chosen_none old.graph old.world old.cluster nodes first asked waits h l).2)

@@ -1,5 +1,6 @@
 -- A play that is driven: someone takes a turn in each choice while not all are done, and choices follow each other.
-use Rattle.std.proofs.Common.{◌≡◌, ℕ, zero, suc, ◌+◌, ◌-◌, ◌<◌, ◌≤◌, ◌%◌, true, false, ◌||◌, List, [], ◌∷◌, length, map, get_or, Contains, Option, Some, None, refl, sym, ap, ◌∙◌, subst, arith, inl}
+use Rattle.std.proofs.Common.{◌≡◌, ℕ, zero, suc, ◌+◌, ◌-◌, ◌<◌, ◌≤◌, ◌%◌, true, false, ◌||◌, List, [], ◌∷◌, length, map}
+use Rattle.std.proofs.Common.{get_or, Contains, Option, Some, None, refl, sym, ap, ◌∙◌, subst, arith, inl}
 use Rattle.std.proofs.Common.{inr, ◌⊎◌, true≢false}
 use Rattle.std.specs.Prelude.{is_some, sum_by}
 use Rattle.std.specs.List.{list_any}
@@ -17,7 +18,8 @@ use Rattle.cpg_node.specs.Dispatcher.{Dispatcher, next}
 use Rattle.cpg_cluster.specs.Cluster.{World, Cluster, Answer, Took, Waits, Done, answer, answer_at, dispatcher_at}
 use Rattle.cpg_cluster.specs.Playing.{Playing, IsPlaying}
 use Rattle.cpg_base.specs.Draws.{next_number}
-use Rattle.cpg_cluster.specs.Driving.{circle, Choice, chosen, choose, choice, driven, AllDone, IsDriven, first_asked, remaining}
+use Rattle.cpg_cluster.specs.Driving.{circle, Choice, chosen, choose, choice, driven, AllDone, IsDriven, first_asked}
+use Rattle.cpg_cluster.specs.Driving.{remaining}
 use Rattle.cpg_cluster.specs.Kept.{cluster_of}
 use Rattle.cpg_cluster.specs.declared.member.Member.{Member}
 use Rattle.cpg_cluster.proofs.Between.{dispatcher_is}
@@ -28,7 +30,9 @@ use Rattle.cpg_cluster.proofs.Plays.{played_of, never_done}
 use Rattle.cpg_cluster.proofs.Stepping.{tables_of, play_of}
 
 -- a node with a next instant that no other is before, or there is none
-least_node : (f : ℕ → Option ℕ) (n : ℕ) → ((a : ℕ) × (a < n) × (time : ℕ) × (f a ≡ Some time) × ((other moment : ℕ) → other < n → f other ≡ Some moment → time ≤ moment)) ⊎
+least_node : (f : ℕ → Option ℕ) (n : ℕ) →
+    ((a : ℕ) × (a < n) × (time : ℕ) × (f a ≡ Some time) ×
+    ((other moment : ℕ) → other < n → f other ≡ Some moment → time ≤ moment)) ⊎
     ((a : ℕ) → a < n → f a ≡ None)
 least_node f zero = inr (λ a l. absurd (omega arith))
 least_node f (suc n) = go (f n) refl (least_node f n)
@@ -36,8 +40,12 @@ least_node f (suc n) = go (f n) refl (least_node f n)
     all : f n ≡ None → ((a : ℕ) → a < n → f a ≡ None) → (a : ℕ) → a < suc n → f a ≡ None
     all e none a l = elim (cases_eq a n) [ inl s ↦ ap f s ∙ e | inr ne ↦ none a (omega arith) ]
 
-    go : (o : Option ℕ) → f n ≡ o → ((a : ℕ) × (a < n) × (time : ℕ) × (f a ≡ Some time) × ((other moment : ℕ) → other < n → f other ≡ Some moment → time ≤ moment)) ⊎ ((a : ℕ) → a < n → f a ≡ None) →
-        ((a : ℕ) × (a < suc n) × (time : ℕ) × (f a ≡ Some time) × ((other moment : ℕ) → other < suc n → f other ≡ Some moment → time ≤ moment)) ⊎ ((a : ℕ) → a < suc n → f a ≡ None)
+    go : (o : Option ℕ) → f n ≡ o →
+        ((a : ℕ) × (a < n) × (time : ℕ) × (f a ≡ Some time) ×
+        ((other moment : ℕ) → other < n → f other ≡ Some moment → time ≤ moment)) ⊎ ((a : ℕ) → a < n → f a ≡ None) →
+        ((a : ℕ) × (a < suc n) × (time : ℕ) × (f a ≡ Some time) ×
+        ((other moment : ℕ) → other < suc n → f other ≡ Some moment → time ≤ moment)) ⊎
+        ((a : ℕ) → a < suc n → f a ≡ None)
     go None e (inr none) = inr (all e none)
     go None e (inl q) = inl (
       q.0,
@@ -52,8 +60,10 @@ least_node f (suc n) = go (f n) refl (least_node f n)
       omega arith,
       t,
       e,
-      λ other moment l h. elim (cases_eq other n)
-          [ inl s ↦ let z : t ≡ moment = same_Some t moment (sym (ap f s ∙ e) ∙ h) in omega (arith, z) | inr ne ↦ absurd (none-some moment (sym (none other (omega arith)) ∙ h)) ],
+      λ other moment l h. elim (cases_eq other n) [
+        | inl s ↦ let z : t ≡ moment = same_Some t moment (sym (ap f s ∙ e) ∙ h) in omega (arith, z)
+        | inr ne ↦ absurd (none-some moment (sym (none other (omega arith)) ∙ h))
+      ],
     )
     go (Some t) e (inl q) = elim (cases_lt t q.2) [
       | inl less ↦ inl (
@@ -73,20 +83,24 @@ least_node f (suc n) = go (f n) refl (least_node f n)
         omega (arith, q.1),
         q.2,
         q.3,
-        λ other moment l h. elim (cases_eq other n)
-            [ inl s ↦ let z : t ≡ moment = same_Some t moment (sym (ap f s ∙ e) ∙ h) in omega (arith, z, more) | inr ne ↦ q.4 other moment (omega arith) h ],
+        λ other moment l h. elim (cases_eq other n) [
+          | inl s ↦ let z : t ≡ moment = same_Some t moment (sym (ap f s ∙ e) ∙ h) in omega (arith, z, more)
+          | inr ne ↦ q.4 other moment (omega arith) h
+        ],
       )
     ]
 
 -- in a choice without a turn nobody would take one
-not_took : (g : Graph) (w : World) (c : Cluster) (xs : List ℕ) → (choose g w c xs).took ≡ false → (a : ℕ) → Contains xs a → answer g c a ≡ Took → ⊥
+not_took : (g : Graph) (w : World) (c : Cluster) (xs : List ℕ) → (choose g w c xs).took ≡ false → (a : ℕ) →
+    Contains xs a → answer g c a ≡ Took → ⊥
 not_took g w c [] f a h e = Contains-nil a h
 not_took g w c (x ∷ xs) f a h e = go (answer g c x) refl f (λ k m. not_took g w c xs k a m e)
   where
     rest : (answer g c x ≡ Took → ⊥) → (Contains xs a → ⊥) → ⊥
     rest no' ih = elim (Contains-cases x xs a h) [ inl s ↦ no' (ap (answer g c) s ∙ e) | inr m ↦ ih m ]
 
-    go : (ans : Answer) → answer g c x ≡ ans → (chosen g w c x ans (choose g w c xs)).took ≡ false → ((choose g w c xs).took ≡ false → Contains xs a → ⊥) → ⊥
+    go : (ans : Answer) → answer g c x ≡ ans → (chosen g w c x ans (choose g w c xs)).took ≡ false →
+        ((choose g w c xs).took ≡ false → Contains xs a → ⊥) → ⊥
     go Took i k ih = true≢false k
     go (Waits b) i k ih = rest (λ t. let z : Waits b ≡ Took = sym i ∙ t in cc) (ih k)
     go Done i k ih = rest (λ t. let z : Done ≡ Took = sym i ∙ t in cc) (ih k)
@@ -94,20 +108,27 @@ not_took g w c (x ∷ xs) f a h e = go (answer g c x) refl f (λ k m. not_took g
 -- each node is on the circle
 circle_all : (n first a : ℕ) → first < n → a < n → Contains (circle n first) a
 circle_all n first a f l = elim (cases_lt a first) [
-  | inr past ↦ at (a - first) (omega arith) (ap (λ m. m % n) (let z : first + (a - first) ≡ a = omega arith in z) ∙ mod-eq_of_lt l)
-  | inl before ↦ at (a + n - first) (omega arith) (ap (λ m. m % n) (let z : first + (a + n - first) ≡ a + n = omega arith in z) ∙ add-mod_right a n ∙ mod-eq_of_lt l)
+  | inr past ↦ at (a - first) (omega arith) (ap (λ m. m % n) (let z : first + (a - first) ≡ a = omega arith in z)
+      ∙ mod-eq_of_lt l)
+  | inl before ↦
+      at (a + n - first) (omega arith) (ap (λ m. m % n) (let z : first + (a + n - first) ≡ a + n = omega arith in z)
+      ∙ add-mod_right a n ∙ mod-eq_of_lt l)
 ]
   where
     at : (i : ℕ) → i < n → (first + i) % n ≡ a → Contains (circle n first) a
-    at i k e = subst (Contains (circle n first)) e (Contains-map (λ i. (first + i) % n) (numbers_below n) i (Contains-numbers n i k))
+    at i k e = subst (Contains (circle n first)) e
+        (Contains-map (λ i. (first + i) % n) (numbers_below n) i (Contains-numbers n i k))
 
 -- a member that has a next instant
-left_node : (ms : List Member) → list_any (λ (m : Member). is_some (next m.node.dispatcher)) ms ≡ true → (b : ℕ) × (b < length ms) × (time : ℕ) × (next (dispatcher_at (cluster_of ms) b) ≡ Some time)
+left_node : (ms : List Member) → list_any (λ (m : Member). is_some (next m.node.dispatcher)) ms ≡ true →
+    (b : ℕ) × (b < length ms) × (time : ℕ) × (next (dispatcher_at (cluster_of ms) b) ≡ Some time)
 left_node [] e = absurd (true≢false (sym e))
 left_node (m ∷ ms) e = go (next m.node.dispatcher) refl e (left_node ms)
   where
-    go : (o : Option ℕ) → next m.node.dispatcher ≡ o → (is_some o || list_any (λ (m : Member). is_some (next m.node.dispatcher)) ms) ≡ true →
-        (list_any (λ (m : Member). is_some (next m.node.dispatcher)) ms ≡ true → (b : ℕ) × (b < length ms) × (time : ℕ) × (next (dispatcher_at (cluster_of ms) b) ≡ Some time)) →
+    go : (o : Option ℕ) → next m.node.dispatcher ≡ o →
+        (is_some o || list_any (λ (m : Member). is_some (next m.node.dispatcher)) ms) ≡ true →
+        (list_any (λ (m : Member). is_some (next m.node.dispatcher)) ms ≡ true →
+        (b : ℕ) × (b < length ms) × (time : ℕ) × (next (dispatcher_at (cluster_of ms) b) ≡ Some time)) →
         (b : ℕ) × (b < length (m ∷ ms)) × (time : ℕ) × (next (dispatcher_at (cluster_of (m ∷ ms)) b) ≡ Some time)
     go (Some t) i h ih = (0, omega arith, t, i)
     go None i h ih = let r = ih h in (suc r.0, omega (arith, r.1), r.2, r.3)
@@ -125,8 +146,10 @@ module _ (g : Graph) (w : World) (ms : List Member) (p : IsPlaying (play_of g w 
   all_done e b l =
       let k : b < length ms = omega (arith, l, count) in
       let d = member ms b k in
-      ap (answer_at g (cluster_of ms) b) (ap next (dispatcher_is ms b d k) ∙ none_is (next (get_or ms b d).node.dispatcher)
-      (from_any_false (λ (m : Member). is_some (next m.node.dispatcher)) ms (get_or ms b d) e (Contains-get_or ms b d k)))
+      ap (answer_at g (cluster_of ms) b)
+      (ap next (dispatcher_is ms b d k) ∙ none_is (next (get_or ms b d).node.dispatcher)
+      (from_any_false (λ (m : Member). is_some (next m.node.dispatcher)) ms (get_or ms b d) e
+      (Contains-get_or ms b d k)))
     where
       member : (ms : List Member) (i : ℕ) → i < length ms → Member
       member [] i l = absurd (omega arith)
@@ -134,10 +157,12 @@ module _ (g : Graph) (w : World) (ms : List Member) (p : IsPlaying (play_of g w 
 
   -- if some member has a next instant, not all nodes are done
   pub not_done : list_any (λ (m : Member). is_some (next m.node.dispatcher)) ms ≡ true → AllDone g (cluster_of ms) → ⊥
-  not_done e d = let q = left_node ms e in never_done _ (sym (ap (answer_at g (cluster_of ms) q.0) q.3) ∙ d q.0 (omega (arith, q.1, count)))
+  not_done e d = let q = left_node ms e in
+      never_done _ (sym (ap (answer_at g (cluster_of ms) q.0) q.3) ∙ d q.0 (omega (arith, q.1, count)))
 
   -- then someone takes a turn
-  pub someone_takes : list_any (λ (m : Member). is_some (next m.node.dispatcher)) ms ≡ true → (first : ℕ) → first < length g.nodes →
+  pub someone_takes : list_any (λ (m : Member). is_some (next m.node.dispatcher)) ms ≡ true → (first : ℕ) →
+      first < length g.nodes →
       (choose g w (cluster_of ms) (circle (length g.nodes) first)).took ≡ true
   someone_takes e first f = elim (cases_Bool (choose g w (cluster_of ms) (circle (length g.nodes) first)).took) [
     | inl t ↦ t
@@ -145,7 +170,8 @@ module _ (g : Graph) (w : World) (ms : List Member) (p : IsPlaying (play_of g w 
       | inr no' ↦ let q = left_node ms e in absurd (none-some q.2 (sym (no' q.0 (omega (arith, q.1, count))) ∙ q.3))
       | inl q ↦
           let k = played_of g (play_of g w ms).tables p.formed p.shape p.valid w p.world in
-          absurd (not_took g w (cluster_of ms) (circle (length g.nodes) first) none q.0 (circle_all (length g.nodes) first q.0 f q.1)
+          absurd (not_took g w (cluster_of ms) (circle (length g.nodes) first) none q.0
+          (circle_all (length g.nodes) first q.0 f q.1)
           (least_took k (cluster_of ms) (played_reached k (cluster_of ms) p.played) q.0 q.2 q.1 q.3 q.4))
     ]
   ]
@@ -160,12 +186,17 @@ number_more zero x = refl
 number_more (suc n) x = number_more n (next_number x)
 
 driven_more : (g : Graph) (w : World) (n x : ℕ) (c now : Cluster) (total : ℕ) → driven g w n x c ≡ (now, total) →
-    driven g w (suc n) x c ≡ ((choice g w now (next_number (number_after n x))).cluster, total + (choice g w now (next_number (number_after n x))).waits)
+    driven g w (suc n) x c ≡ (
+      (choice g w now (next_number (number_after n x))).cluster,
+      total + (choice g w now (next_number (number_after n x))).waits,
+    )
 driven_more g w zero x c now total e =
     let a : c ≡ now = ap (λ (q : Cluster × ℕ). q.0) e in
     let b : 0 ≡ total = ap (λ (q : Cluster × ℕ). q.1) e in
-    let z : (choice g w now (next_number x)).waits + 0 ≡ total + (choice g w now (next_number x)).waits = omega (arith, b) in
-    ap (λ (c : Cluster). ((choice g w c (next_number x)).cluster, (choice g w c (next_number x)).waits + 0)) a ∙ ap (λ n. ((choice g w now (next_number x)).cluster, n)) z
+    let z : (choice g w now (next_number x)).waits + 0 ≡ total + (choice g w now (next_number x)).waits =
+    omega (arith, b) in
+    ap (λ (c : Cluster). ((choice g w c (next_number x)).cluster, (choice g w c (next_number x)).waits + 0)) a
+    ∙ ap (λ n. ((choice g w now (next_number x)).cluster, n)) z
 driven_more g w (suc n) x c now total e =
     let one = choice g w c (next_number x) in
     let rest = driven g w n (next_number x) one.cluster in
@@ -173,9 +204,13 @@ driven_more g w (suc n) x c now total e =
     let a : rest.0 ≡ now = ap (λ (q : Cluster × ℕ). q.0) e in
     let b : one.waits + rest.1 ≡ total = ap (λ (q : Cluster × ℕ). q.1) e in
     ap (λ (q : Cluster × ℕ). (q.0, one.waits + q.1)) r
-    ∙ ap (λ (c : Cluster). ((choice g w c (next_number (number_after n (next_number x)))).cluster, one.waits + (rest.1 + (choice g w c (next_number (number_after n (next_number x)))).waits))) a
+    ∙ ap (λ (c : Cluster). (
+      (choice g w c (next_number (number_after n (next_number x)))).cluster,
+      one.waits + (rest.1 + (choice g w c (next_number (number_after n (next_number x)))).waits),
+    )) a
     ∙ ap (λ n'. ((choice g w now (next_number (number_after n (next_number x)))).cluster, n'))
-    (let z : one.waits + (rest.1 + (choice g w now (next_number (number_after n (next_number x)))).waits) ≡ total + (choice g w now (next_number (number_after n (next_number x)))).waits =
+    (let z : one.waits + (rest.1 + (choice g w now (next_number (number_after n (next_number x)))).waits)
+    ≡ total + (choice g w now (next_number (number_after n (next_number x)))).waits =
     omega (arith, b) in z)
 
 -- a drive on the way: the number is that of the last choice
@@ -188,65 +223,94 @@ pub record IsDriving (g : Graph) (w : World) (x : ℕ) (before now : Cluster) (n
 pub driving_none : (g : Graph) (w : World) (x : ℕ) (c : Cluster) → IsDriving g w x c c x 0
 driving_none g w x c = record { turns = 0; is = refl; number' = refl; needed = λ fewer l. absurd (omega arith) }
 
-pub driving_more : (g : Graph) (w : World) (x : ℕ) (c now new : Cluster) (number waits more next' : ℕ) → IsDriving g w x c now number waits → (AllDone g now → ⊥) → next' ≡ next_number number →
-    new ≡ (choice g w now next').cluster → more ≡ (choice g w now next').waits → IsDriving g w x c new next' (waits + more)
+pub driving_more : (g : Graph) (w : World) (x : ℕ) (c now new : Cluster) (number waits more next' : ℕ) →
+    IsDriving g w x c now number waits → (AllDone g now → ⊥) →
+    next' ≡ next_number number →
+    new ≡ (choice g w now next').cluster → more ≡ (choice g w now next').waits →
+    IsDriving g w x c new next' (waits + more)
 driving_more g w x c now new number waits more next' h left n e m =
     let at : next' ≡ next_number (number_after h.turns x) = n ∙ ap next_number h.number' in
     record {
       turns = suc h.turns;
-      is = driven_more g w h.turns x c now waits h.is ∙ (λ i. ((choice g w now (sym at i)).cluster, waits + (choice g w now (sym at i)).waits)) ∙ (λ i. (sym e i, waits + sym m i));
+      is = driven_more g w h.turns x c now waits h.is
+          ∙ (λ i. ((choice g w now (sym at i)).cluster, waits + (choice g w now (sym at i)).waits))
+          ∙ (λ i. (sym e i, waits + sym m i));
       number' = at ∙ sym (number_more h.turns x);
       needed = λ fewer l d. elim (cases_eq fewer h.turns) [
-        | inl same ↦ left (subst (AllDone g) (ap (λ n. (driven g w n x c).0) same ∙ ap (λ (q : Cluster × ℕ). q.0) h.is) d)
+        | inl same ↦
+            left (subst (AllDone g) (ap (λ n. (driven g w n x c).0) same ∙ ap (λ (q : Cluster × ℕ). q.0) h.is) d)
         | inr ne ↦ h.needed fewer (omega arith) d
       ];
     }
 
-pub driving_done : (g : Graph) (w : World) (x : ℕ) (c now : Cluster) (number waits : ℕ) → IsDriving g w x c now number waits → AllDone g now → IsDriven g w x c now waits
+pub driving_done : (g : Graph) (w : World) (x : ℕ) (c now : Cluster) (number waits : ℕ) →
+    IsDriving g w x c now number waits → AllDone g now →
+    IsDriven g w x c now waits
 driving_done g w x c now number waits h d = record { turns = h.turns; is = h.is; done = d; needed = h.needed }
 
 -- The same of the state as code sees it.
 
-pub takes_at : (g : Graph) (w : World) (ms : List Member) (now : Playing) → play_of g w ms ≡ now → IsPlaying (play_of g w ms) → list_any (λ (m : Member). is_some (next m.node.dispatcher)) ms ≡ true →
+pub takes_at : (g : Graph) (w : World) (ms : List Member) (now : Playing) → play_of g w ms ≡ now →
+    IsPlaying (play_of g w ms) →
+    list_any (λ (m : Member). is_some (next m.node.dispatcher)) ms ≡ true →
     (first : ℕ) →
-    first < length now.graph.nodes → (choose now.graph now.world now.cluster (circle (length now.graph.nodes) first)).took ≡ true
-takes_at g w ms now view p e = subst (λ (now : Playing). (first : ℕ) → first < length now.graph.nodes → (choose now.graph now.world now.cluster (circle (length now.graph.nodes) first)).took ≡ true)
+    first < length now.graph.nodes →
+    (choose now.graph now.world now.cluster (circle (length now.graph.nodes) first)).took ≡ true
+takes_at g w ms now view p e = subst (λ (now : Playing). (first : ℕ) → first < length now.graph.nodes →
+    (choose now.graph now.world now.cluster (circle (length now.graph.nodes) first)).took ≡ true)
     view (someone_takes g w ms p e)
 
-pub left_at : (g : Graph) (w : World) (ms : List Member) (now : Playing) → play_of g w ms ≡ now → IsPlaying (play_of g w ms) → list_any (λ (m : Member). is_some (next m.node.dispatcher)) ms ≡ true →
+pub left_at : (g : Graph) (w : World) (ms : List Member) (now : Playing) → play_of g w ms ≡ now →
+    IsPlaying (play_of g w ms) →
+    list_any (λ (m : Member). is_some (next m.node.dispatcher)) ms ≡ true →
     AllDone now.graph now.cluster → ⊥
 left_at g w ms now view p e = subst (λ (now : Playing). AllDone now.graph now.cluster → ⊥) view (not_done g w ms p e)
 
-pub done_at : (g : Graph) (w : World) (ms : List Member) (now : Playing) → play_of g w ms ≡ now → IsPlaying (play_of g w ms) → list_any (λ (m : Member). is_some (next m.node.dispatcher)) ms ≡ false →
+pub done_at : (g : Graph) (w : World) (ms : List Member) (now : Playing) → play_of g w ms ≡ now →
+    IsPlaying (play_of g w ms) →
+    list_any (λ (m : Member). is_some (next m.node.dispatcher)) ms ≡ false →
     AllDone now.graph now.cluster
 done_at g w ms now view p e = subst (λ (now : Playing). AllDone now.graph now.cluster) view (all_done g w ms p e)
 
 -- the nodes come to so many instants at most
-tables_twice : (ms : List Member) → map (λ (d : Dispatcher). d.table) (map (λ (m : Member). m.node.dispatcher) ms) ≡ tables_of ms
+tables_twice : (ms : List Member) →
+    map (λ (d : Dispatcher). d.table) (map (λ (m : Member). m.node.dispatcher) ms) ≡ tables_of ms
 tables_twice [] = refl
 tables_twice (m ∷ ms) = ap (λ (ts : List NodeTable). m.node.dispatcher.table ∷ ts) (tables_twice ms)
 
-pub most_at : (g : Graph) (w : World) (ms : List Member) (now : Playing) → play_of g w ms ≡ now → IsPlaying (play_of g w ms) → length ms ≤ 16 → remaining now.cluster ≤ 5261328
+pub most_at : (g : Graph) (w : World) (ms : List Member) (now : Playing) → play_of g w ms ≡ now →
+    IsPlaying (play_of g w ms) → length ms ≤ 16 →
+    remaining now.cluster ≤ 5261328
 most_at g w ms now view p few =
     let k = played_of g (tables_of ms) p.formed p.shape p.valid w p.world in
     let r = played_reached k (cluster_of ms) p.played in
     let nodes = length-map ms (λ (m : Member). m.node.dispatcher) in
     subst (λ (now : Playing). remaining now.cluster ≤ 5261328) view
-    (most_remaining g (cluster_of ms) p.limits (omega (arith, few, nodes)) (λ i l. ap (λ (d : Dispatcher). d.table.own) (r.holds i (omega (arith, l, r.nodes))).is)
-    (omega (arith, p.lawful.few, ap (λ (ts : List NodeTable). sum_by (λ (t : NodeTable). column_count (rows_of t)) ts) (tables_twice ms))))
+    (most_remaining g (cluster_of ms) p.limits (omega (arith, few, nodes))
+    (λ i l. ap (λ (d : Dispatcher). d.table.own) (r.holds i (omega (arith, l, r.nodes))).is)
+    (omega (
+      arith,
+      p.lawful.few,
+      ap (λ (ts : List NodeTable). sum_by (λ (t : NodeTable). column_count (rows_of t)) ts) (tables_twice ms),
+    )))
 
-pub drive_step : (old now new : Playing) (x drawn waits drawn' first more : ℕ) → now ≡ record old { cluster = now.cluster } → IsDriving old.graph old.world x old.cluster now.cluster drawn waits →
+pub drive_step : (old now new : Playing) (x drawn waits drawn' first more : ℕ) →
+    now ≡ record old { cluster = now.cluster } →
+    IsDriving old.graph old.world x old.cluster now.cluster drawn waits →
     (AllDone now.graph now.cluster → ⊥) →
     drawn' ≡ next_number drawn → first ≡ first_asked (length now.graph.nodes) drawn' → new ≡ record now
     { cluster = (choose now.graph now.world now.cluster (circle (length now.graph.nodes) first)).cluster } →
     more ≡ (choose now.graph now.world now.cluster (circle (length now.graph.nodes) first)).waits →
-    (new ≡ record old { cluster = new.cluster }) × IsDriving old.graph old.world x old.cluster new.cluster drawn' (waits + more)
+    (new ≡ record old { cluster = new.cluster }) ×
+    IsDriving old.graph old.world x old.cluster new.cluster drawn' (waits + more)
 drive_step old now new x drawn waits drawn' first more same h left d f e m =
     let ge : now.graph ≡ old.graph = ap (λ (p : Playing). p.graph) same in
     let we : now.world ≡ old.world = ap (λ (p : Playing). p.world) same in
     let te : now.tables ≡ old.tables = ap (λ (p : Playing). p.tables) same in
-    let one : choose now.graph now.world now.cluster (circle (length now.graph.nodes) first) ≡ choice old.graph old.world now.cluster drawn' =
-    ap (λ n. choose now.graph now.world now.cluster (circle (length now.graph.nodes) n)) f ∙ (λ i. choice (ge i) (we i) now.cluster drawn') in
+    let one : choose now.graph now.world now.cluster (circle (length now.graph.nodes) first)
+    ≡ choice old.graph old.world now.cluster drawn' =
+    ap (λ n. choose now.graph now.world now.cluster (circle (length now.graph.nodes) n)) f
+    ∙ (λ i. choice (ge i) (we i) now.cluster drawn') in
     let kept : new ≡ record old { cluster = new.cluster } =
     (λ i. record {
       graph = (ap (λ (p : Playing). p.graph) e ∙ ge) i;
@@ -256,6 +320,8 @@ drive_step old now new x drawn waits drawn' first more same h left d f e m =
           new.cluster;
     }) in (
       kept,
-      driving_more old.graph old.world x old.cluster now.cluster new.cluster drawn waits more drawn' h (subst (λ (g : Graph). AllDone g now.cluster → ⊥) ge left) d
-          (ap (λ (p : Playing). p.cluster) e ∙ ap (λ (r : Choice). r.cluster) one) (m ∙ ap (λ (r : Choice). r.waits) one),
+      driving_more old.graph old.world x old.cluster now.cluster new.cluster drawn waits more drawn' h
+          (subst (λ (g : Graph). AllDone g now.cluster → ⊥) ge left) d
+          (ap (λ (p : Playing). p.cluster) e ∙ ap (λ (r : Choice). r.cluster) one)
+          (m ∙ ap (λ (r : Choice). r.waits) one),
     )

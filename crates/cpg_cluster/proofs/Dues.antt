@@ -1,12 +1,14 @@
 -- A play that came to its end did what is due: the due lists exist, and all that was done is orderly as they are.
-use Rattle.std.proofs.Common.{ℕ, suc, ◌≡◌, ◌<◌, ◌∙◌, Bool, true, false, not, cond, ◌==◌, List, [], ◌∷◌, ◌++◌, All, AllPairs, Contains, IsPermutation, filter, get_or, length, refl, sym, ap, subst}
+use Rattle.std.proofs.Common.{ℕ, suc, ◌≡◌, ◌<◌, ◌∙◌, Bool, true, false, not, cond, ◌==◌, List, [], ◌∷◌, ◌++◌, All}
+use Rattle.std.proofs.Common.{AllPairs, Contains, IsPermutation, filter, get_or, length, refl, sym, ap, subst}
 use Rattle.std.proofs.Common.{arith}
 use Rattle.std.specs.List.{flat_map}
 use Rattle.std.specs.Prelude.{IsTrue}
 use Rattle.std.proofs.lemmas.List.Concat.{flat_map-cons}
 use Rattle.std.proofs.lemmas.List.Elements.{All-cons, All-nil}
 use Rattle.std.proofs.lemmas.List.Kept.{AllPairs-cons}
-use Rattle.std.proofs.lemmas.List.Sorted.{list_any-IsPermutation, sum_by-IsPermutation, Contains-permutation, IsPermutation-append, IsPermutation-refl, IsPermutation-sym}
+use Rattle.std.proofs.lemmas.List.Sorted.{list_any-IsPermutation, sum_by-IsPermutation, Contains-permutation}
+use Rattle.std.proofs.lemmas.List.Sorted.{IsPermutation-append, IsPermutation-refl, IsPermutation-sym}
 use Rattle.std.proofs.lemmas.List.Sums.{length-filter}
 use Rattle.cpg_base.specs.Graph.{Graph, producer}
 use Rattle.cpg_base.specs.Numbers.{is_below, numbers_below}
@@ -17,7 +19,8 @@ use Rattle.cpg_base.proofs.Sorted.{inserted, sorted, permutation_sorted}
 use Rattle.cpg_base.specs.Scenario.{Scenario}
 use Rattle.cpg_node.specs.Dispatcher.{Act, Ended}
 use Rattle.cpg_cluster.specs.Cluster.{Cluster, Done, answer}
-use Rattle.cpg_cluster.specs.Correct.{IsCorrect, IsDue, FollowsDue, AreDueEnds, IsOrderly, IsStartAct, IsSendAct, all_asked, asked_of, due_key, end_key, ends_asked, gives_end, gives_input}
+use Rattle.cpg_cluster.specs.Correct.{IsCorrect, IsDue, FollowsDue, AreDueEnds, IsOrderly, IsStartAct, IsSendAct}
+use Rattle.cpg_cluster.specs.Correct.{all_asked, asked_of, due_key, end_key, ends_asked, gives_end, gives_input}
 use Rattle.cpg_cluster.specs.Driving.{AllDone}
 use Rattle.cpg_cluster.specs.Laws.{PlaysThatEndAreAlike}
 use Rattle.cpg_cluster.specs.Playing.{Playing, IsPlaying}
@@ -44,14 +47,18 @@ module _ {X : Type 0} (key : X → List ℕ) where
 
   in_order_inserted : (x : X) (ys : List X) → AllPairs InOrder ys → AllPairs InOrder (inserted precedes x ys)
   in_order_inserted x [] r = AllPairs-cons InOrder x [] (All-nil (InOrder x)) (AllPairs-nil InOrder)
-  in_order_inserted x (y ∷ ys) r = go (is_below (key y) (key x)) refl (in_order_inserted x ys (AllPairs-rest InOrder y ys r))
+  in_order_inserted x (y ∷ ys) r =
+      go (is_below (key y) (key x)) refl (in_order_inserted x ys (AllPairs-rest InOrder y ys r))
     where
       after : All (InOrder y) ys
       after = λ k d l. r 0 (suc k) d (omega arith) (omega arith)
 
-      go : (b : Bool) → is_below (key y) (key x) ≡ b → AllPairs InOrder (inserted precedes x ys) → AllPairs InOrder (cond (not b) (x ∷ y ∷ ys) (y ∷ inserted precedes x ys))
-      go false e ih = AllPairs-cons InOrder x (y ∷ ys) (All-cons (InOrder x) y ys e (λ k d l. not_below_transitive (key x) (key y) (key (get_or ys k d)) e (after k d l))) r
-      go true e ih = AllPairs-cons InOrder y (inserted precedes x ys) (all_inserted (InOrder y) x ys (below_one_way (key y) (key x) e) after) ih
+      go : (b : Bool) → is_below (key y) (key x) ≡ b → AllPairs InOrder (inserted precedes x ys) →
+          AllPairs InOrder (cond (not b) (x ∷ y ∷ ys) (y ∷ inserted precedes x ys))
+      go false e ih = AllPairs-cons InOrder x (y ∷ ys) (All-cons (InOrder x) y ys e
+          (λ k d l. not_below_transitive (key x) (key y) (key (get_or ys k d)) e (after k d l))) r
+      go true e ih = AllPairs-cons InOrder y (inserted precedes x ys)
+          (all_inserted (InOrder y) x ys (below_one_way (key y) (key x) e) after) ih
 
   pub in_order_sorted : (xs : List X) → AllPairs (λ a b. is_below (key b) (key a) ≡ false) (sorted precedes xs)
   in_order_sorted [] = AllPairs-nil InOrder
@@ -59,15 +66,20 @@ module _ {X : Type 0} (key : X → List ℕ) where
 
 -- ---- what is done in another order is as orderly
 
-pieces_permuted : {X : Type 0} (f h : ℕ → List X) (xs : List ℕ) → ((x : ℕ) → Contains xs x → IsPermutation (f x) (h x)) → IsPermutation (flat_map f xs) (flat_map h xs)
+pieces_permuted : {X : Type 0} (f h : ℕ → List X) (xs : List ℕ) →
+    ((x : ℕ) → Contains xs x → IsPermutation (f x) (h x)) →
+    IsPermutation (flat_map f xs) (flat_map h xs)
 pieces_permuted f h [] each = IsPermutation-refl []
 pieces_permuted f h (x ∷ xs) each =
     subst (λ ys. IsPermutation ys (flat_map h (x ∷ xs))) (sym (flat_map-cons f x xs))
     (subst (λ ys. IsPermutation (f x ++ flat_map f xs) ys) (sym (flat_map-cons h x xs))
-    (IsPermutation-append (f x) (h x) (flat_map f xs) (flat_map h xs) (each x (Contains-first x xs)) (pieces_permuted f h xs (λ y m. each y (Contains-rest x xs y m)))))
+    (IsPermutation-append (f x) (h x) (flat_map f xs) (flat_map h xs) (each x (Contains-first x xs))
+    (pieces_permuted f h xs (λ y m. each y (Contains-rest x xs y m)))))
 
-length_filter_permuted : {X : Type 0} (p : X → Bool) (xs ys : List X) → IsPermutation xs ys → length (filter p ys) ≡ length (filter p xs)
-length_filter_permuted p xs ys same = length-filter p ys ∙ sum_by-IsPermutation (λ x. cond (p x) 1 0) xs ys same ∙ sym (length-filter p xs)
+length_filter_permuted : {X : Type 0} (p : X → Bool) (xs ys : List X) → IsPermutation xs ys →
+    length (filter p ys) ≡ length (filter p xs)
+length_filter_permuted p xs ys same =
+    length-filter p ys ∙ sum_by-IsPermutation (λ x. cond (p x) 1 0) xs ys same ∙ sym (length-filter p xs)
 
 module _ (g : Graph) (s : Scenario) (xs ys : List Act) (same : IsPermutation xs ys) where
   back : (a : Act) → Contains ys a → Contains xs a
@@ -83,9 +95,11 @@ module _ (g : Graph) (s : Scenario) (xs ys : List Act) (same : IsPermutation xs 
   orderly_permuted o = record {
     once = λ x l. length_filter_permuted (λ (a : Act). a.item == x) xs ys same ∙ o.once x l;
     released = λ a m. o.released a (starts_back a m);
-    inputs = λ a e m c. subst IsTrue (list_any-IsPermutation (gives_input g s e a.time) xs ys same) (o.inputs a e (starts_back a m) c);
+    inputs = λ a e m c.
+        subst IsTrue (list_any-IsPermutation (gives_input g s e a.time) xs ys same) (o.inputs a e (starts_back a m) c);
     processors = λ a b m n. o.processors a b (starts_back a m) (starts_back b n);
-    produced = λ a m. subst IsTrue (list_any-IsPermutation (gives_end g s (producer g a.item) a.time) xs ys same) (o.produced a (sends_back a m));
+    produced = λ a m. subst IsTrue (list_any-IsPermutation (gives_end g s (producer g a.item) a.time) xs ys same)
+        (o.produced a (sends_back a m));
     slots = λ a m. o.slots a (sends_back a m);
     unshared = λ a b m n. o.unshared a b (sends_back a m) (sends_back b n);
     in_time = λ a m. o.in_time a (starts_back a m);
@@ -118,37 +132,48 @@ module _ (p : Playing) (playing : IsPlaying p) (done : AllDone p.graph p.cluster
   correct = valid_tables_are_correct p.graph p.tables playing.formed playing.shape playing.valid
 
   follows : FollowsDue p.graph p.tables p.world.scenario p.cluster
-  follows = subst (FollowsDue p.graph p.tables p.world.scenario) playing.played.is (correct.plays p.world playing.played.turns playing.world)
+  follows = subst (FollowsDue p.graph p.tables p.world.scenario) playing.played.is
+      (correct.plays p.world playing.played.turns playing.world)
 
   pub acts_are_due : (node : ℕ) → node < length p.graph.nodes → get_or p.cluster.acts node [] ≡ acts_due node
   acts_are_due node l = follows.whole node (acts_due node) l (due node) (done node l)
 
   pub ends_are_due : (node : ℕ) → node < length p.graph.nodes → get_or p.cluster.ends node [] ≡ ends_due node
   ends_are_due node l =
-      let whole = (valid_tables_end_as_planned p.graph p.tables playing.formed playing.shape playing.valid).whole p.world playing.played.turns node (ends_due node) playing.world l (planned node) in
-      subst (λ (c : Cluster). answer p.graph c node ≡ Done → get_or c.ends node [] ≡ ends_due node) playing.played.is whole (done node l)
+      let whole = (valid_tables_end_as_planned p.graph p.tables playing.formed playing.shape playing.valid).whole
+      p.world playing.played.turns node (ends_due node) playing.world l (planned node) in
+      subst (λ (c : Cluster). answer p.graph c node ≡ Done → get_or c.ends node [] ≡ ends_due node) playing.played.is
+      whole (done node l)
 
-  acts_done : (node : ℕ) → node < length p.graph.nodes → IsDue p.graph p.tables p.world.scenario node (get_or p.cluster.acts node [])
+  acts_done : (node : ℕ) → node < length p.graph.nodes →
+      IsDue p.graph p.tables p.world.scenario node (get_or p.cluster.acts node [])
   acts_done node l = subst (IsDue p.graph p.tables p.world.scenario node) (sym (acts_are_due node l)) (due node)
 
-  ends_done : (node : ℕ) → node < length p.graph.nodes → AreDueEnds p.graph p.tables p.world.scenario node (get_or p.cluster.ends node [])
-  ends_done node l = subst (AreDueEnds p.graph p.tables p.world.scenario node) (sym (ends_are_due node l)) (planned node)
+  ends_done : (node : ℕ) → node < length p.graph.nodes →
+      AreDueEnds p.graph p.tables p.world.scenario node (get_or p.cluster.ends node [])
+  ends_done node l =
+      subst (AreDueEnds p.graph p.tables p.world.scenario node) (sym (ends_are_due node l)) (planned node)
 
   pub done_whole : IsWholePlay p.graph p.tables p.world p.cluster
   done_whole = record {
     played = playing.played;
     acts = acts_done;
     ends = ends_done;
-    orderly = orderly_permuted p.graph p.world.scenario (all_asked p.graph p.tables p.world.scenario) (all_acts p.graph p.cluster)
-        (pieces_permuted (asked_of p.tables p.world.scenario) (λ node. get_or p.cluster.acts node []) (numbers_below (length p.graph.nodes))
+    orderly = orderly_permuted p.graph p.world.scenario (all_asked p.graph p.tables p.world.scenario)
+        (all_acts p.graph p.cluster)
+        (pieces_permuted (asked_of p.tables p.world.scenario) (λ node. get_or p.cluster.acts node [])
+        (numbers_below (length p.graph.nodes))
         (λ node m. (acts_done node (numbers-Contains (length p.graph.nodes) node m)).all))
         (correct.orderly p.world.scenario playing.world.scenario);
   }
 
 -- nothing but the state changes in a play
-pub whole_play : (old new : Playing) → new ≡ record old { cluster = new.cluster } → IsPlaying new → AllDone old.graph new.cluster → IsWholePlay old.graph old.tables old.world new.cluster
+pub whole_play : (old new : Playing) → new ≡ record old { cluster = new.cluster } → IsPlaying new →
+    AllDone old.graph new.cluster →
+    IsWholePlay old.graph old.tables old.world new.cluster
 whole_play old new same playing done = subst (λ (p : Playing). IsWholePlay p.graph p.tables p.world new.cluster) same
-    (done_whole new playing (subst (λ (g : Graph). AllDone g new.cluster) (sym (ap (λ (p : Playing). p.graph) same)) done))
+    (done_whole new playing
+    (subst (λ (g : Graph). AllDone g new.cluster) (sym (ap (λ (p : Playing). p.graph) same)) done))
 
 -- what is due doesn't tell how a play came to its end
 pub plays_that_end_are_alike : PlaysThatEndAreAlike

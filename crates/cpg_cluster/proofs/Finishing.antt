@@ -1,5 +1,6 @@
 -- What a node's turn asks for holds in every state that a play reaches.
-use Rattle.std.proofs.Common.{◌≡◌, ◌≢◌, ℕ, ◌+◌, ◌<◌, ◌≤◌, Bool, true, false, cond, ◌&&◌, ◌==◌, List, [], ◌∷◌, ◌++◌, length, map, fold, get_or, Contains, Option, Some, None, refl, sym, ap, ◌∙◌, subst}
+use Rattle.std.proofs.Common.{◌≡◌, ◌≢◌, ℕ, ◌+◌, ◌<◌, ◌≤◌, Bool, true, false, cond, ◌&&◌, ◌==◌, List, [], ◌∷◌, ◌++◌}
+use Rattle.std.proofs.Common.{length, map, fold, get_or, Contains, Option, Some, None, refl, sym, ap, ◌∙◌, subst}
 use Rattle.std.proofs.Common.{arith, inl, inr, eq-eqb, ne_eqb, leb, leb-true, true≢false}
 use Rattle.std.specs.Prelude.{All, IfSome, is_none, is_some}
 use Rattle.std.specs.List.{flat_map}
@@ -9,7 +10,8 @@ use Rattle.cpg_base.specs.Graph.{Graph, process_count, node_of}
 use Rattle.cpg_base.specs.Activity.{value_of}
 use Rattle.cpg_base.specs.Duration.{duration}
 use Rattle.cpg_base.specs.Numbers.{numbers_below}
-use Rattle.cpg_base.proofs.Lists.{Contains-first, Contains-rest, Contains-cases, Contains-nil, Contains-map_parts, Contains-filter_parts, get_or-map-below, numbers-Contains}
+use Rattle.cpg_base.proofs.Lists.{Contains-first, Contains-rest, Contains-cases, Contains-nil, Contains-map_parts}
+use Rattle.cpg_base.proofs.Lists.{Contains-filter_parts, get_or-map-below, numbers-Contains}
 use Rattle.cpg_base.proofs.Ordered.{Rises, Rises-filter, numbers_go_up}
 use Rattle.cpg_base.specs.Scenario.{fault_of}
 use Rattle.cpg_table.specs.Table.{NodeTable, table_at}
@@ -19,7 +21,8 @@ use Rattle.cpg_node.specs.State.{running_in, time_of, MayFinish, MayTurn, EndsAt
 use Rattle.cpg_node.proofs.Next.{zip_with-map, next_is}
 use Rattle.cpg_node.proofs.Turning.{next_reported}
 use Rattle.cpg_table.specs.Items.{own_process}
-use Rattle.cpg_cluster.specs.Cluster.{World, Cluster, dispatcher_at, own_table, ended_of, report_of, reports_now, reported, frames_now}
+use Rattle.cpg_cluster.specs.Cluster.{World, Cluster, dispatcher_at, own_table, ended_of, report_of, reports_now}
+use Rattle.cpg_cluster.specs.Cluster.{reported, frames_now}
 use Rattle.cpg_cluster.specs.Taking.{IsOwnOf, AllFinish}
 use Rattle.cpg_cluster.proofs.Nodes.{Played, node_state, planned, own_of_node}
 use Rattle.cpg_cluster.proofs.Executions.{on_node, few_faults}
@@ -40,44 +43,55 @@ table_finished d [] = refl
 table_finished d (e ∷ es) = table_finished (finished d e) es
 
 -- the execution of a process, where the processes of a node differ
-running_found : (g : Graph) (h : Own → Option Running) (ps : List ℕ) → Rises (λ x y. x < y) ps → (p : ℕ) → Contains ps p →
+running_found : (g : Graph) (h : Own → Option Running) (ps : List ℕ) → Rises (λ x y. x < y) ps → (p : ℕ) →
+    Contains ps p →
     running_in (map (own_process g) ps) (map h (map (own_process g) ps)) p ≡ h (own_process g p)
 running_found g h [] r p c = absurd (Contains-nil p c)
 running_found g h (q ∷ qs) r p c = elim (Contains-cases q qs p c) [
-  | inl e ↦ cond-true (q == p) (h (own_process g q)) (running_in (map (own_process g) qs) (map h (map (own_process g) qs)) p) (eq-eqb q p e) ∙ ap (λ n. h (own_process g n)) e
-  | inr m ↦ cond-false (q == p) (h (own_process g q)) (running_in (map (own_process g) qs) (map h (map (own_process g) qs)) p) (ne_eqb q p (λ e. let l = r.0 p m in absurd (omega (arith, l, e)))) ∙
+  | inl e ↦ cond-true (q == p) (h (own_process g q))
+      (running_in (map (own_process g) qs) (map h (map (own_process g) qs)) p) (eq-eqb q p e)
+      ∙ ap (λ n. h (own_process g n)) e
+  | inr m ↦ cond-false (q == p) (h (own_process g q)) (running_in (map (own_process g) qs)
+      (map h (map (own_process g) qs)) p) (ne_eqb q p (λ e. let l = r.0 p m in absurd (omega (arith, l, e)))) ∙
       running_found g h qs r.1 p m
 ]
 
-module _ {g : Graph} {tables : List NodeTable} {w : World} (k : Played g tables w) (node : ℕ) (l : node < length g.nodes) (heard : List Range) (last : Option ℕ) (time : ℕ)
+module _ {g : Graph} {tables : List NodeTable} {w : World} (k : Played g tables w) (node : ℕ)
+    (l : node < length g.nodes) (heard : List Range) (last : Option ℕ) (time : ℕ)
     (comes : next (node_state g tables w node heard last) ≡ Some time) where
   abbrev table : OwnTable
   table = own_table g node (table_at tables node)
 
   processes_rise : Rises (λ x y. x < y) (processes_on g node)
-  processes_rise = Rises-filter (λ x y. x < y) (λ p. node_of g p == node) (numbers_below (process_count g)) (numbers_go_up (process_count g))
+  processes_rise = Rises-filter (λ x y. x < y) (λ p. node_of g p == node) (numbers_below (process_count g))
+      (numbers_go_up (process_count g))
 
   -- the state in which these executions run
   abbrev state : (Own → Option Running) → Dispatcher
   state h = record { table = table; heard = heard; running = map h (own_of_node g node); last = last }
 
   -- a report of an execution that is over by the time
-  may : (h : Own → Option Running) → next (state h) ≡ Some time → (p : ℕ) → Contains (processes_on g node) p → (run : Running) → h (own_process g p) ≡ Some run →
+  may : (h : Own → Option Running) → next (state h) ≡ Some time → (p : ℕ) → Contains (processes_on g node) p →
+      (run : Running) →
+      h (own_process g p) ≡ Some run →
       planned g tables w last (own_process g p) ≡ Some run →
-      run.report ≡ None → run.start + get_or w.lengths p 0 ≤ time → MayFinish (state h) (run.start + get_or w.lengths p 0) (ended_of g w (own_process g p))
+      run.report ≡ None → run.start + get_or w.lengths p 0 ≤ time →
+      MayFinish (state h) (run.start + get_or w.lengths p 0) (ended_of g w (own_process g p))
   may h n p on run is plan none over =
       let m = (on_node k node l heard last time (next_is (node_state g tables w node heard last) time comes) p on).0 in
       let few = few_faults k node l heard last time (next_is (node_state g tables w node heard last) time comes) p m in
       let long = k.world.lengths p m in
       let own = own_found k node l p on in
       let span : time_of (state h) p (fault_of w.scenario p) ≡ duration g p (fault_of w.scenario p) =
-      ap (λ (o : Own). get_or o.times (fault_of w.scenario p) 0) own ∙ get_or-map-below (duration g p) (g.faults + 1) (fault_of w.scenario p) 0 (omega (arith, few)) in
+      ap (λ (o : Own). get_or o.times (fault_of w.scenario p) 0) own
+      ∙ get_or-map-below (duration g p) (g.faults + 1) (fault_of w.scenario p) 0 (omega (arith, few)) in
       record {
         run = run;
         runs = running_found g h (processes_on g node) processes_rise p on ∙ is;
         unreported = none;
         few = few;
-        plain = λ e. ap (λ o. is_some o && value_of g w.scenario.values p) (sym (ap (λ (o : Own). o.condition) own) ∙ e);
+        plain =
+            λ e. ap (λ o. is_some o && value_of g w.scenario.values p) (sym (ap (λ (o : Own). o.condition) own) ∙ e);
         started = omega (arith, long);
         in_time = omega (arith, long, span);
         later = unreported k last p run plan none;
@@ -88,12 +102,15 @@ module _ {g : Graph} {tables : List NodeTable} {w : World} (k : Played g tables 
   after : (Own → Option Running) → ℕ → Own → Option Running
   after h p o = with_report (ended_of g w (own_process g p)) o (h o)
 
-  state_after : (h : Own → Option Running) (p : ℕ) → finished (state h) (ended_of g w (own_process g p)) ≡ state (after h p)
+  state_after : (h : Own → Option Running) (p : ℕ) →
+      finished (state h) (ended_of g w (own_process g p)) ≡ state (after h p)
   unfolding after
-  state_after h p = ap (λ rs. record { table = table; heard = heard; running = rs; last = last }) (zip_with-map (with_report (ended_of g w (own_process g p))) h (own_of_node g node))
+  state_after h p = ap (λ rs. record { table = table; heard = heard; running = rs; last = last })
+      (zip_with-map (with_report (ended_of g w (own_process g p))) h (own_of_node g node))
 
   next_after : (h : Own → Option Running) (p : ℕ) → next (state h) ≡ Some time → next (state (after h p)) ≡ Some time
-  next_after h p n = ap next (sym (state_after h p)) ∙ next_reported (ended_of g w (own_process g p)) table heard (map h (own_of_node g node)) last ∙ n
+  next_after h p n = ap next (sym (state_after h p))
+      ∙ next_reported (ended_of g w (own_process g p)) table heard (map h (own_of_node g node)) last ∙ n
 
   kept : (h : Own → Option Running) (p q : ℕ) → q ≢ p → after h p (own_process g q) ≡ h (own_process g q)
   unfolding after
@@ -101,31 +118,39 @@ module _ {g : Graph} {tables : List NodeTable} {w : World} (k : Played g tables 
     where
       other : (o : Option Running) → with_report (ended_of g w (own_process g p)) (own_process g q) o ≡ o
       other None = refl
-      other (Some run) = cond-false (q == p) (Some (record run { report = Some (ended_of g w (own_process g p)) })) (Some run) (ne_eqb q p ne)
+      other (Some run) = cond-false (q == p) (Some (record run { report = Some (ended_of g w (own_process g p)) }))
+          (Some run) (ne_eqb q p ne)
 
   no_report : (o : Option Ended) → is_none o ≡ true → o ≡ None
   no_report None t = refl
   no_report (Some r) t = absurd (true≢false (sym t))
 
   -- the report of one more process
-  one_more : (h : Own → Option Running) → next (state h) ≡ Some time → (p : ℕ) → Contains (processes_on g node) p → h (own_process g p) ≡ planned g tables w last (own_process g p) →
+  one_more : (h : Own → Option Running) → next (state h) ≡ Some time → (p : ℕ) → Contains (processes_on g node) p →
+      h (own_process g p) ≡ planned g tables w last (own_process g p) →
       (rest : List (ℕ × Ended)) →
-      AllFinish (state h) rest → AllFinish (state (after h p)) rest → AllFinish (state h) (report_of g w time (own_process g p) (planned g tables w last (own_process g p)) ++ rest)
+      AllFinish (state h) rest → AllFinish (state (after h p)) rest →
+      AllFinish (state h) (report_of g w time (own_process g p) (planned g tables w last (own_process g p)) ++ rest)
   one_more h n p on same rest before then = go (planned g tables w last (own_process g p)) refl
     where
-      go : (o : Option Running) → planned g tables w last (own_process g p) ≡ o → AllFinish (state h) (report_of g w time (own_process g p) o ++ rest)
+      go : (o : Option Running) → planned g tables w last (own_process g p) ≡ o →
+          AllFinish (state h) (report_of g w time (own_process g p) o ++ rest)
       go None e = before
       go (Some run) e = test (is_none run.report && leb (run.start + get_or w.lengths p 0) time) refl
         where
           test : (b : Bool) → (is_none run.report && leb (run.start + get_or w.lengths p 0) time) ≡ b →
-              AllFinish (state h) (cond b ((run.start + get_or w.lengths p 0, ended_of g w (own_process g p)) ∷ []) [] ++ rest)
+              AllFinish (state h)
+              (cond b ((run.start + get_or w.lengths p 0, ended_of g w (own_process g p)) ∷ []) [] ++ rest)
           test false _ = before
           test true b =
-              let q = and_parts (is_none run.report) (leb (run.start + get_or w.lengths p 0) time) b in
-              (may h n p on run (same ∙ e) e (no_report run.report q.0) (leb-true _ _ q.1), subst (λ d. AllFinish d rest) (sym (state_after h p)) then)
+              let q = and_parts (is_none run.report) (leb (run.start + get_or w.lengths p 0) time) b in (
+                may h n p on run (same ∙ e) e (no_report run.report q.0) (leb-true _ _ q.1),
+                subst (λ d. AllFinish d rest) (sym (state_after h p)) then,
+              )
 
   -- what is left of the processes, each as it runs
-  all_from : (h : Own → Option Running) → next (state h) ≡ Some time → (ps : List ℕ) → Rises (λ x y. x < y) ps → ((p : ℕ) → Contains ps p → Contains (processes_on g node) p) →
+  all_from : (h : Own → Option Running) → next (state h) ≡ Some time → (ps : List ℕ) → Rises (λ x y. x < y) ps →
+      ((p : ℕ) → Contains ps p → Contains (processes_on g node) p) →
       ((p : ℕ) → Contains ps p → h (own_process g p) ≡ planned g tables w last (own_process g p)) →
       AllFinish (state h) (flat_map (λ o. report_of g w time o (planned g tables w last o)) (map (own_process g) ps))
   all_from h n [] r on same = tt
@@ -135,25 +160,34 @@ module _ {g : Graph} {tables : List NodeTable} {w : World} (k : Played g tables 
       (all_from (after h p) (next_after h p n) ps r.1 (λ q c. on q (Contains-rest p ps q c))
       (λ q c. kept h p q (λ e. let m = r.0 q c in absurd (omega (arith, m, e))) ∙ same q (Contains-rest p ps q c)))
 
-  pub all_finish : AllFinish (node_state g tables w node heard last) (reports_now g w (node_state g tables w node heard last) time)
+  pub all_finish : AllFinish (node_state g tables w node heard last)
+      (reports_now g w (node_state g tables w node heard last) time)
   all_finish = subst (AllFinish (node_state g tables w node heard last))
-      (sym (ap (flat_map (λ rs. rs)) (zip_with-map (report_of g w time) (planned g tables w last) (own_of_node g node)) ∙
+      (sym
+      (ap (flat_map (λ rs. rs)) (zip_with-map (report_of g w time) (planned g tables w last) (own_of_node g node)) ∙
       flat_id (λ o. report_of g w time o (planned g tables w last o)) (own_of_node g node)))
       (all_from (planned g tables w last) comes (processes_on g node) processes_rise (λ p c. c) (λ p c. refl))
 
 -- the same in a state that a play reaches
-module _ {g : Graph} {tables : List NodeTable} {w : World} (k : Played g tables w) (c : Cluster) (r : Reached g tables w c) (a : ℕ) (l : a < length g.nodes) (time : ℕ)
+module _ {g : Graph} {tables : List NodeTable} {w : World} (k : Played g tables w) (c : Cluster)
+    (r : Reached g tables w c) (a : ℕ) (l : a < length g.nodes) (time : ℕ)
     (e : next (dispatcher_at c a) ≡ Some time) where
   pub may_finish : AllFinish (dispatcher_at c a) (reports_now g w (dispatcher_at c a) time)
-  may_finish = let n = r.holds a l in subst (λ d. AllFinish d (reports_now g w d time)) (sym n.is) (all_finish k a l n.heard n.last time (ap next (sym n.is) ∙ e))
+  may_finish = let n = r.holds a l in
+      subst (λ d. AllFinish d (reports_now g w d time)) (sym n.is)
+      (all_finish k a l n.heard n.last time (ap next (sym n.is) ∙ e))
 
   pub next_ready : next (reported g w (dispatcher_at c a) time) ≡ Some time
-  next_ready = next_finished (dispatcher_at c a) (map (λ (r : ℕ × Ended). r.1) (reports_now g w (dispatcher_at c a) time)) ∙ e
+  next_ready =
+      next_finished (dispatcher_at c a) (map (λ (r : ℕ × Ended). r.1) (reports_now g w (dispatcher_at c a) time)) ∙ e
 
   pub table_ready : (reported g w (dispatcher_at c a) time).table ≡ own_table g a (table_at tables a)
-  table_ready = table_finished (dispatcher_at c a) (map (λ (r : ℕ × Ended). r.1) (reports_now g w (dispatcher_at c a) time)) ∙ ap (λ (d : Dispatcher). d.table) (r.holds a l).is
+  table_ready =
+      table_finished (dispatcher_at c a) (map (λ (r : ℕ × Ended). r.1) (reports_now g w (dispatcher_at c a) time))
+      ∙ ap (λ (d : Dispatcher). d.table) (r.holds a l).is
 
-  pub may_turn : MayTurn (reported g w (dispatcher_at c a) time) [] (frames_now g w c (reported g w (dispatcher_at c a) time) time)
+  pub may_turn : MayTurn (reported g w (dispatcher_at c a) time) []
+      (frames_now g w c (reported g w (dispatcher_at c a) time) time)
   may_turn =
       let d = reported g w (dispatcher_at c a) time in
       let frames = frames_now g w c d time in
@@ -163,11 +197,16 @@ module _ {g : Graph} {tables : List NodeTable} {w : World} (k : Played g tables 
         ends = All-nil (EndsAt d time);
         arrive = All-weaker (Contains frames) (ArrivesAt d time) (λ f h.
             let p = frame_parts k c r.holds a l d table_ready time f h in
-            record { there = frame_column k c r.holds a l d table_ready time f p; arrives = frame_time k c r.holds a l d table_ready time f p }) frames (All-contains_itself frames);
+            record {
+              there = frame_column k c r.holds a l d table_ready time f p;
+              arrives = frame_time k c r.holds a l d table_ready time f p;
+            }) frames (All-contains_itself frames);
       }
 
   pub own_known : All (IsOwnOf g) (dispatcher_at c a).table.own
-  own_known = subst (All (IsOwnOf g)) (sym (ap (λ (d : Dispatcher). d.table.own) (r.holds a l).is)) (All-weaker (Contains (own_of_node g a)) (IsOwnOf g) (λ o h.
+  own_known = subst (All (IsOwnOf g)) (sym (ap (λ (d : Dispatcher). d.table.own) (r.holds a l).is))
+      (All-weaker (Contains (own_of_node g a)) (IsOwnOf g) (λ o h.
       let q = Contains-map_parts (own_process g) (processes_on g a) o h in
       let p = Contains-filter_parts (λ p. node_of g p == a) (numbers_below (process_count g)) q.0 q.1 in
-      subst (IsOwnOf g) q.2 (record { known = numbers-Contains (process_count g) q.0 p.0; condition = refl })) (own_of_node g a) (All-contains_itself (own_of_node g a)))
+      subst (IsOwnOf g) q.2 (record { known = numbers-Contains (process_count g) q.0 p.0; condition = refl }))
+      (own_of_node g a) (All-contains_itself (own_of_node g a)))

@@ -1,10 +1,12 @@
 -- What nodes have noted of items is what they have done of them.
-use Rattle.std.proofs.Common.{◌≡◌, ◌≢◌, ℕ, ◌+◌, ◌<◌, Bool, true, false, cond, ◌&&◌, ◌==◌, List, [], ◌∷◌, length, map, filter, fold, get_or, replicate, Contains, Option, Some, None, refl, sym, ap, ◌∙◌}
+use Rattle.std.proofs.Common.{◌≡◌, ◌≢◌, ℕ, ◌+◌, ◌<◌, Bool, true, false, cond, ◌&&◌, ◌==◌, List, [], ◌∷◌, length, map}
+use Rattle.std.proofs.Common.{filter, fold, get_or, replicate, Contains, Option, Some, None, refl, sym, ap, ◌∙◌}
 use Rattle.std.proofs.Common.{subst, arith, inl, inr, eq-eqb, ne_eqb}
 use Rattle.std.specs.Prelude.{All, option_to_list}
 use Rattle.std.specs.Option.{option_map_or}
 use Rattle.std.proofs.lemmas.Bool.{cases_eq, cond-true, cond-false}
-use Rattle.std.proofs.lemmas.List.{get_or-map, length-map, length-set, get_or-set_same, get_or-set_other, get_or-replicate, length-replicate}
+use Rattle.std.proofs.lemmas.List.{get_or-map, length-map, length-set, get_or-set_same, get_or-set_other}
+use Rattle.std.proofs.lemmas.List.{get_or-replicate, length-replicate}
 use Rattle.std.proofs.lemmas.Option.{slice_get-get_or}
 use Rattle.cpg_base.specs.Graph.{Graph, item_count}
 use Rattle.cpg_base.proofs.Lists.{Contains-first, Contains-rest, filter_none}
@@ -24,65 +26,87 @@ use Rattle.cpg_cluster.proofs.Stepping.{tables_of, play_of}
 use Rattle.cpg_cluster.proofs.Opening.{hears_items}
 
 -- acts of other items leave what is noted of an item
-others_noted : (x : ℕ) (acts : List Act) (noted : List (Option Act)) → ((a : Act) → Contains acts a → a.item ≢ x) → get_or (fold note noted acts) x None ≡ get_or noted x None
+others_noted : (x : ℕ) (acts : List Act) (noted : List (Option Act)) → ((a : Act) → Contains acts a → a.item ≢ x) →
+    get_or (fold note noted acts) x None ≡ get_or noted x None
 others_noted x [] noted h = refl
 others_noted x (a ∷ acts) noted h = others_noted x acts (note noted a) (λ b m. h b (Contains-rest a acts b m)) ∙
     get_or-set_other noted a.item x (Some a) None (λ e. h a (Contains-first a acts) (sym e))
 
 -- the act of an item is noted, if all acts are of different items
-noted_once : (x : ℕ) (acts : List Act) (noted : List (Option Act)) → Rises (λ (a b : Act). a.item ≢ b.item) acts → x < length noted → get_or noted x None ≡ None →
+noted_once : (x : ℕ) (acts : List Act) (noted : List (Option Act)) → Rises (λ (a b : Act). a.item ≢ b.item) acts →
+    x < length noted →
+    get_or noted x None ≡ None →
     filter (λ (a : Act). a.item == x) acts ≡ option_to_list (get_or (fold note noted acts) x None)
 noted_once x [] noted r l n = sym (ap option_to_list n)
 noted_once x (a ∷ acts) noted r l n = elim (cases_eq a.item x) [
-  | inl e ↦ cond-true (a.item == x) (a ∷ filter (λ (a : Act). a.item == x) acts) (filter (λ (a : Act). a.item == x) acts) (eq-eqb a.item x e)
-      ∙ ap (λ (l : List Act). a ∷ l) (filter_none (λ (a : Act). a.item == x) acts (λ b m. ne_eqb b.item x (λ f. r.0 b m (e ∙ sym f))))
+  | inl e ↦ cond-true (a.item == x) (a ∷ filter (λ (a : Act). a.item == x) acts)
+      (filter (λ (a : Act). a.item == x) acts) (eq-eqb a.item x e)
+      ∙ ap (λ (l : List Act). a ∷ l)
+      (filter_none (λ (a : Act). a.item == x) acts (λ b m. ne_eqb b.item x (λ f. r.0 b m (e ∙ sym f))))
       ∙ sym (ap option_to_list (others_noted x acts (note noted a) (λ b m f. r.0 b m (e ∙ sym f)) ∙ here e))
-  | inr ne ↦ cond-false (a.item == x) (a ∷ filter (λ (a : Act). a.item == x) acts) (filter (λ (a : Act). a.item == x) acts) (ne_eqb a.item x ne)
-      ∙ noted_once x acts (note noted a) r.1 (omega (arith, l, length-set noted a.item (Some a))) (get_or-set_other noted a.item x (Some a) None (λ e. ne (sym e)) ∙ n)
+  | inr ne ↦ cond-false (a.item == x) (a ∷ filter (λ (a : Act). a.item == x) acts)
+      (filter (λ (a : Act). a.item == x) acts) (ne_eqb a.item x ne)
+      ∙ noted_once x acts (note noted a) r.1 (omega (arith, l, length-set noted a.item (Some a)))
+      (get_or-set_other noted a.item x (Some a) None (λ e. ne (sym e)) ∙ n)
 ]
   where
     here : a.item ≡ x → get_or (note noted a) x None ≡ Some a
-    here e = ap (λ z. get_or (note noted a) z None) (sym e) ∙ get_or-set_same noted a.item (Some a) None (omega (arith, l, e))
+    here e = ap (λ z. get_or (note noted a) z None) (sym e)
+        ∙ get_or-set_same noted a.item (Some a) None (omega (arith, l, e))
 
-both_pass : {X : Type 0} (p q : X → Bool) (xs : List X) → filter (λ x. p x && q x) (filter p xs) ≡ filter (λ x. p x && q x) xs
+both_pass : {X : Type 0} (p q : X → Bool) (xs : List X) →
+    filter (λ x. p x && q x) (filter p xs) ≡ filter (λ x. p x && q x) xs
 both_pass p q [] = refl
 both_pass p q (x ∷ xs) = go (p x) refl (both_pass p q xs)
   where
     go : (b : Bool) → p x ≡ b → filter (λ x. p x && q x) (filter p xs) ≡ filter (λ x. p x && q x) xs →
-        filter (λ x. p x && q x) (cond b (x ∷ filter p xs) (filter p xs)) ≡ cond (b && q x) (x ∷ filter (λ x. p x && q x) xs) (filter (λ x. p x && q x) xs)
+        filter (λ x. p x && q x) (cond b (x ∷ filter p xs) (filter p xs))
+        ≡ cond (b && q x) (x ∷ filter (λ x. p x && q x) xs) (filter (λ x. p x && q x) xs)
     go true e ih = λ i. cond (e i && q x) (x ∷ ih i) (ih i)
     go false e ih = ih
 
 -- frames come from what is noted
-frames_noted : (value : Bool) (x slot time : ℕ) (acts : List Act) (noted : Option Act) → filter (λ (a : Act). a.item == x) acts ≡ option_to_list noted →
+frames_noted : (value : Bool) (x slot time : ℕ) (acts : List Act) (noted : Option Act) →
+    filter (λ (a : Act). a.item == x) acts ≡ option_to_list noted →
     frames_from value x slot time (option_to_list noted) ≡ frames_from value x slot time acts
 frames_noted value x slot time acts noted h = ap (frames_from value x slot time) (sym h)
-    ∙ ap (λ (l : List Act). map (λ (act : Act). record { item = act.item; column = act.column; value = value }) l) (both_pass (λ (a : Act). a.item == x) (λ (a : Act). a.time + slot == time) acts)
+    ∙ ap (λ (l : List Act). map (λ (act : Act). record { item = act.item; column = act.column; value = value }) l)
+    (both_pass (λ (a : Act). a.item == x) (λ (a : Act). a.time + slot == time) acts)
 
-pub sender_frames : (ms : List Member) (sender : ℕ) (m : Member) (value : Bool) (x time : ℕ) (noted : List (Option Act)) → sender < length ms → m ≡ get_or ms sender m → HasNoted m x →
+pub sender_frames : (ms : List Member) (sender : ℕ) (m : Member) (value : Bool) (x time : ℕ)
+    (noted : List (Option Act)) → sender < length ms → m ≡ get_or ms sender m → HasNoted m x →
     noted ≡ m.noted.items →
     frames_from value x m.slot time (option_to_list (get_or noted x None)) ≡ frames_of_member ms value x time sender
-sender_frames ms sender m value x time noted l at has is = ap (λ (ns : List (Option Act)). frames_from value x m.slot time (option_to_list (get_or ns x None))) is
+sender_frames ms sender m value x time noted l at has is =
+    ap (λ (ns : List (Option Act)). frames_from value x m.slot time (option_to_list (get_or ns x None))) is
     ∙ frames_noted value x m.slot time m.acts.items (get_or m.noted.items x None) has
-    ∙ sym (ap (λ (o : Option Member). option_map_or (λ (m : Member). frames_from value x m.slot time m.acts.items) o []) (slice_get-get_or ms sender m l ∙ ap (λ (m : Member). Some m) (sym at)))
+    ∙ sym (ap (λ (o : Option Member). option_map_or (λ (m : Member). frames_from value x m.slot time m.acts.items) o [])
+    (slice_get-get_or ms sender m l ∙ ap (λ (m : Member). Some m) (sym at)))
 
 module _ (g : Graph) (w : World) (ms : List Member) (p : IsPlaying (play_of g w ms)) where
   -- in a play each node has noted what it has done
   pub all_noted : AllFit g ms → (i x : ℕ) (d : Member) → i < length ms → x < item_count g → HasNoted (get_or ms i d) x
   all_noted fits i x d l within =
       let k = played_of g (tables_of ms) p.formed p.shape p.valid w p.world in
-      let on : i < length g.nodes = omega (arith, l, p.shape.count, length-map ms (λ (m : Member). m.node.dispatcher.table)) in
+      let on : i < length g.nodes =
+      omega (arith, l, p.shape.count, length-map ms (λ (m : Member). m.node.dispatcher.table)) in
       let n = (played_reached k (cluster_of ms) p.played).holds i on in
-      let is : get_or (cluster_of ms).acts i [] ≡ (get_or ms i d).acts.items = get_or-map (λ (m : Member). m.acts.items) ms i d [] l in
+      let is : get_or (cluster_of ms).acts i [] ≡ (get_or ms i d).acts.items =
+      get_or-map (λ (m : Member). m.acts.items) ms i d [] l in
       noted_once x (get_or ms i d).acts.items (replicate (item_count g) None)
-      (subst (Rises (λ (a b : Act). a.item ≢ b.item)) is (acts_apart k i on n.last (get_or (cluster_of ms).acts i []) n.done))
-      (omega (arith, within, length-replicate {A = Option Act} (item_count g) None)) (get_or-replicate (item_count g) x None None within)
+      (subst (Rises (λ (a b : Act). a.item ≢ b.item)) is
+      (acts_apart k i on n.last (get_or (cluster_of ms).acts i []) n.done))
+      (omega (arith, within, length-replicate {A = Option Act} (item_count g) None))
+      (get_or-replicate (item_count g) x None None within)
       ∙ ap (λ (s : List (Option Act)). option_to_list (get_or s x None)) (sym (fits i d l).noted)
 
   -- what a node hears is of items that there are
-  pub hears_there : (a : ℕ) (m : Member) → m ≡ get_or ms a m → a < length ms → All (λ (row : Row). row.item < item_count g) m.node.dispatcher.table.hears
+  pub hears_there : (a : ℕ) (m : Member) → m ≡ get_or ms a m → a < length ms →
+      All (λ (row : Row). row.item < item_count g) m.node.dispatcher.table.hears
   hears_there a m at l =
-      let table : table_at (tables_of ms) a ≡ m.node.dispatcher.table = get_or-map (λ (m : Member). m.node.dispatcher.table) ms a m empty_table l ∙
+      let table : table_at (tables_of ms) a ≡ m.node.dispatcher.table =
+      get_or-map (λ (m : Member). m.node.dispatcher.table) ms a m empty_table l ∙
       ap (λ (m : Member). m.node.dispatcher.table) (sym at) in
       subst (λ (t : NodeTable). All (λ (row : Row). row.item < item_count g) t.hears) table
-      (hears_items g (tables_of ms) p.valid a (omega (arith, l, length-map ms (λ (m : Member). m.node.dispatcher.table))))
+      (hears_items g (tables_of ms) p.valid a
+      (omega (arith, l, length-map ms (λ (m : Member). m.node.dispatcher.table))))

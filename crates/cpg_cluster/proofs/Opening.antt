@@ -1,9 +1,12 @@
 -- A cluster before its first turns.
-use Rattle.std.proofs.Common.{◌≡◌, ℕ, ◌+◌, ◌<◌, false, List, [], ◌∷◌, ◌++◌, length, map, filter, get_or, replicate, Contains, None, drop, sym, ap, ◌∙◌, subst, arith, inl, inr}
+use Rattle.std.proofs.Common.{◌≡◌, ℕ, ◌+◌, ◌<◌, false, List, [], ◌∷◌, ◌++◌, length, map, filter, get_or, replicate}
+use Rattle.std.proofs.Common.{Contains, None, drop, sym, ap, ◌∙◌, subst, arith, inl, inr}
 use Rattle.std.specs.Prelude.{All}
 use Rattle.std.proofs.lemmas.Bool.{cases_eq}
 use Rattle.std.proofs.lemmas.List.FromFn.{length-range_with_len}
-use Rattle.std.proofs.lemmas.List.{length-append, get_or_append_left, get_or_push, get_or-map, length-map, get_or_default, get_or-replicate, length-replicate, same_lists, get_or-drop, drop-drop}
+use Rattle.std.proofs.lemmas.List.{length-append, get_or_append_left, get_or_push, get_or-map, length-map}
+use Rattle.std.proofs.lemmas.List.{get_or_default, get_or-replicate, length-replicate, same_lists, get_or-drop}
+use Rattle.std.proofs.lemmas.List.{drop-drop}
 use Rattle.std.proofs.lemmas.List.Elements.{All-weaker, All-contains_itself}
 use Rattle.std.proofs.lemmas.Option.{slice_get-get_or}
 use Rattle.cpg_base.specs.Graph.{Graph, home, item_count, item_at, process_count, is_heard_by}
@@ -38,55 +41,78 @@ get_member [] i l = absurd (omega arith)
 get_member (m ∷ ms) i l = m
 
 -- one more node is open
-pub open_more : (g : Graph) (tables : List NodeTable) (n : ℕ) (ms : List Member) (m : Member) → AreOpen g tables n ms → IsOpen g n (table_at tables n) m → AreOpen g tables (n + 1) (ms ++ m ∷ [])
+pub open_more : (g : Graph) (tables : List NodeTable) (n : ℕ) (ms : List Member) (m : Member) → AreOpen g tables n ms →
+    IsOpen g n (table_at tables n) m →
+    AreOpen g tables (n + 1) (ms ++ m ∷ [])
 open_more g tables n ms m a o = record {
   count = omega (arith, length-append ms (m ∷ []), a.count);
   each = λ i d l. elim (cases_eq i n) [
-    | inl e ↦ subst (λ i. IsOpen g i (table_at tables i) (get_or (ms ++ m ∷ []) i d)) (sym e) (subst (IsOpen g n (table_at tables n)) (sym (get_or_push ms m d n a.count)) o)
-    | inr ne ↦ subst (IsOpen g i (table_at tables i)) (sym (get_or_append_left ms (m ∷ []) d i (omega (arith, a.count)))) (a.each i d (omega arith))
+    | inl e ↦ subst (λ i. IsOpen g i (table_at tables i) (get_or (ms ++ m ∷ []) i d)) (sym e)
+        (subst (IsOpen g n (table_at tables n)) (sym (get_or_push ms m d n a.count)) o)
+    | inr ne ↦ subst (IsOpen g i (table_at tables i))
+        (sym (get_or_append_left ms (m ∷ []) d i (omega (arith, a.count)))) (a.each i d (omega arith))
   ];
 }
 
 -- the first of the tables that are left is the next node's
-pub open_next : (g : Graph) (tables : List NodeTable) (n number after : ℕ) (t : NodeTable) (rest : List NodeTable) (ms : List Member) (m : Member) → AreOpen g tables n ms → drop n tables ≡ t ∷ rest →
+pub open_next : (g : Graph) (tables : List NodeTable) (n number after : ℕ) (t : NodeTable) (rest : List NodeTable)
+    (ms : List Member) (m : Member) → AreOpen g tables n ms →
+    drop n tables ≡ t ∷ rest →
     number ≡ n → after ≡ n + 1
     → IsOpen g number t m → AreOpen g tables after (ms ++ m ∷ []) × (drop after tables ≡ rest)
 open_next g tables n number after t rest ms m a left is next o =
-    let at : table_at tables n ≡ t = ap (λ i. get_or tables i empty_table) (omega arith) ∙ (sym (get_or-drop n tables 0 empty_table) ∙ ap (λ ts. get_or ts 0 empty_table) left) in
-    let more = open_more g tables n ms m a (subst (λ t. IsOpen g n t m) (sym at) (subst (λ n. IsOpen g n t m) is o)) in
-    (subst (λ k. AreOpen g tables k (ms ++ m ∷ [])) (sym next) more, ap (λ k. drop k tables) next ∙ (sym (drop-drop 1 n tables) ∙ ap (drop 1) left))
+    let at : table_at tables n ≡ t = ap (λ i. get_or tables i empty_table) (omega arith)
+    ∙ (sym (get_or-drop n tables 0 empty_table) ∙ ap (λ ts. get_or ts 0 empty_table) left) in
+    let more =
+    open_more g tables n ms m a (subst (λ t. IsOpen g n t m) (sym at) (subst (λ n. IsOpen g n t m) is o)) in (
+      subst (λ k. AreOpen g tables k (ms ++ m ∷ [])) (sym next) more,
+      ap (λ k. drop k tables) next ∙ (sym (drop-drop 1 n tables) ∙ ap (drop 1) left),
+    )
 
 -- what a node hears by valid tables
-pub hears_items : (g : Graph) (tables : List NodeTable) → IsValid g tables → (i : ℕ) → i < length tables → HearsItems g (table_at tables i)
-hears_items g tables v i l = subst (All (λ (row : Row). row.item < item_count g)) (sym (v.hears i (table_at tables i) (slice_get-get_or tables i empty_table l)))
+pub hears_items : (g : Graph) (tables : List NodeTable) → IsValid g tables → (i : ℕ) → i < length tables →
+    HearsItems g (table_at tables i)
+hears_items g tables v i l = subst (All (λ (row : Row). row.item < item_count g))
+    (sym (v.hears i (table_at tables i) (slice_get-get_or tables i empty_table l)))
     (All-weaker (Contains (hear_rows g tables i)) (λ (row : Row). row.item < item_count g) (λ row c.
-    let q = Contains-map_parts (hear_row g tables) (filter (λ x. is_heard_by g i (item_at g x)) (numbers_below (item_count g))) row c in
+    let q = Contains-map_parts (hear_row g tables)
+    (filter (λ x. is_heard_by g i (item_at g x)) (numbers_below (item_count g))) row c in
     let p = Contains-filter_parts (λ x. is_heard_by g i (item_at g x)) (numbers_below (item_count g)) q.0 q.1 in
-    subst (λ (row : Row). row.item < item_count g) q.2 (numbers-Contains (item_count g) q.0 p.0)) (hear_rows g tables i) (All-contains_itself (hear_rows g tables i)))
+    subst (λ (row : Row). row.item < item_count g) q.2 (numbers-Contains (item_count g) q.0 p.0)) (hear_rows g tables i)
+    (All-contains_itself (hear_rows g tables i)))
 
-module _ (g : Graph) (tables : List NodeTable) (w : World) (within : IsWithinLimits g) (of : AreTablesOf (head_of g) tables) (ms : List Member) (open' : AreOpen g tables (length tables) ms) where
-  table_here : (i : ℕ) (d : Member) → i < length tables → (get_or ms i d).node.dispatcher ≡ initial_dispatcher (table_at tables i)
+module _ (g : Graph) (tables : List NodeTable) (w : World) (within : IsWithinLimits g)
+    (of : AreTablesOf (head_of g) tables) (ms : List Member) (open' : AreOpen g tables (length tables) ms) where
+  table_here : (i : ℕ) (d : Member) → i < length tables →
+      (get_or ms i d).node.dispatcher ≡ initial_dispatcher (table_at tables i)
   table_here i d l = ap (λ (s : NodeState). s.dispatcher) (open'.each i d l).node
 
   pub tables_are : tables_of ms ≡ tables
-  tables_are = same_lists (tables_of ms) tables (length-map ms (λ (m : Member). m.node.dispatcher.table) ∙ open'.count) (λ i t l.
+  tables_are =
+      same_lists (tables_of ms) tables (length-map ms (λ (m : Member). m.node.dispatcher.table) ∙ open'.count) (λ i t l.
       let k : i < length ms = omega (arith, l, length-map ms (λ (m : Member). m.node.dispatcher.table)) in
-      get_or-map (λ (m : Member). m.node.dispatcher.table) ms i (get_member ms i k) t k ∙ ap (λ (d : Dispatcher). d.table) (table_here i (get_member ms i k) (omega (arith, k, open'.count)))
+      get_or-map (λ (m : Member). m.node.dispatcher.table) ms i (get_member ms i k) t k
+      ∙ ap (λ (d : Dispatcher). d.table) (table_here i (get_member ms i k) (omega (arith, k, open'.count)))
       ∙ get_or_default tables i empty_table t (omega (arith, k, open'.count)))
 
   nodes_are : (cluster_of ms).nodes ≡ dispatchers_from g 0 tables
-  nodes_are = same_lists (cluster_of ms).nodes (dispatchers_from g 0 tables) (length-map ms (λ (m : Member). m.node.dispatcher) ∙ open'.count ∙ sym (dispatchers_count g 0 tables)) (λ i d l.
+  nodes_are = same_lists (cluster_of ms).nodes (dispatchers_from g 0 tables)
+      (length-map ms (λ (m : Member). m.node.dispatcher) ∙ open'.count ∙ sym (dispatchers_count g 0 tables)) (λ i d l.
       let k : i < length ms = omega (arith, l, length-map ms (λ (m : Member). m.node.dispatcher)) in
       let t : i < length tables = omega (arith, k, open'.count) in
-      get_or-map (λ (m : Member). m.node.dispatcher) ms i (get_member ms i k) d k ∙ table_here i (get_member ms i k) t ∙ ap initial_dispatcher (sym (own_is g tables within of i t)) ∙
+      get_or-map (λ (m : Member). m.node.dispatcher) ms i (get_member ms i k) d k ∙ table_here i (get_member ms i k) t
+      ∙ ap initial_dispatcher (sym (own_is g tables within of i t)) ∙
       sym (dispatchers_at g 0 tables i i d empty_table t (omega arith)))
 
   -- nothing has been done
-  none_are : {X : Type 0} (f : Member → List X) → ((i : ℕ) (d : Member) → i < length tables → f (get_or ms i d) ≡ []) → map f ms ≡ replicate (length tables) []
-  none_are f h = same_lists (map f ms) (replicate (length tables) []) (length-map ms f ∙ open'.count ∙ sym (length-replicate (length tables) [])) (λ i d l.
+  none_are : {X : Type 0} (f : Member → List X) → ((i : ℕ) (d : Member) → i < length tables → f (get_or ms i d) ≡ []) →
+      map f ms ≡ replicate (length tables) []
+  none_are f h = same_lists (map f ms) (replicate (length tables) [])
+      (length-map ms f ∙ open'.count ∙ sym (length-replicate (length tables) [])) (λ i d l.
       let k : i < length ms = omega (arith, l, length-map ms f) in
       let t : i < length tables = omega (arith, k, open'.count) in
-      get_or-map f ms i (get_member ms i k) d k ∙ h i (get_member ms i k) t ∙ sym (get_or-replicate (length tables) i [] d t))
+      get_or-map f ms i (get_member ms i k) d k ∙ h i (get_member ms i k) t
+      ∙ sym (get_or-replicate (length tables) i [] d t))
 
   pub cluster_is : cluster_of ms ≡ initial_cluster g tables
   cluster_is = λ i. record {
@@ -100,16 +126,19 @@ module _ (g : Graph) (tables : List NodeTable) (w : World) (within : IsWithinLim
   play_is = λ i. record { graph = g; tables = tables_are i; world = w; cluster = cluster_is i }
 
   pub playing_open : WellFormed g → IsValid g tables → IsWorld g w → IsPlaying (play_of g w ms)
-  playing_open f v o = subst IsPlaying (sym play_is) (record { limits = within; formed = f; lawful = of; shape = has_shape g within tables of; valid = v; world = o; played = played_open g tables w })
+  playing_open f v o = subst IsPlaying (sym play_is)
+      (record { limits = within; formed = f; lawful = of; shape = has_shape g within tables of; valid = v; world = o; played = played_open g tables w })
 
   pub fits_open : AllFit g ms
   fits_open i d l =
       let o = open'.each i d (omega (arith, l, open'.count)) in
-      let t : (get_or ms i d).node.dispatcher.table ≡ table_at tables i = ap (λ (s : NodeState). s.dispatcher.table) o.node in
+      let t : (get_or ms i d).node.dispatcher.table ≡ table_at tables i =
+      ap (λ (s : NodeState). s.dispatcher.table) o.node in
       record {
         senders = o.senders ∙ ap (λ (t : NodeTable). map (λ (row : Row). home g row.item) t.hears) (sym t);
         slot = o.slot;
-        arrivals = subst (λ (t : NodeTable). AreIndexed t.hears (get_or ms i d).senders.items (length g.nodes) (get_or ms i d).arrivals.items) (sym t) o.arrivals;
+        arrivals = subst (λ (t : NodeTable). AreIndexed t.hears (get_or ms i d).senders.items (length g.nodes)
+            (get_or ms i d).arrivals.items) (sym t) o.arrivals;
         noted = o.noted ∙ ap (noted_of (item_count g)) (sym o.acts);
         acts = omega (arith, o.acts_room, ap (λ (t : NodeTable). length t.sends + length t.starts) t);
         ends = omega (arith, o.ends_room, ap (λ (t : NodeTable). length t.own) t);
@@ -117,15 +146,20 @@ module _ (g : Graph) (tables : List NodeTable) (w : World) (within : IsWithinLim
       }
 
 -- valid tables play correctly
-pub correct_open : (g : Graph) (tables : List NodeTable) → IsWithinLimits g → AreTablesOf (head_of g) tables → WellFormed g → IsValid g tables → IsCorrect g tables
+pub correct_open : (g : Graph) (tables : List NodeTable) → IsWithinLimits g → AreTablesOf (head_of g) tables →
+    WellFormed g → IsValid g tables →
+    IsCorrect g tables
 correct_open g tables within of f v = valid_tables_are_correct g tables f (has_shape g within tables of) v
 
 -- full lengths are lawful
-pub full_world : (g : Graph) (s : Scenario) → WellFormed g → IsScenario g s → IsWorld g (record { scenario = s; lengths = full_lengths g s })
+pub full_world : (g : Graph) (s : Scenario) → WellFormed g → IsScenario g s →
+    IsWorld g (record { scenario = s; lengths = full_lengths g s })
 full_world g s f is = record {
   scenario = is;
-  count = length-map (numbers_below (process_count g)) (λ p. duration g p (fault_of s p)) ∙ length-range_with_len 0 (process_count g);
+  count = length-map (numbers_below (process_count g)) (λ p. duration g p (fault_of s p))
+      ∙ length-range_with_len 0 (process_count g);
   lengths = λ p l. let at = get_or-map-below (λ p. duration g p (fault_of s p)) (process_count g) p 0 l in
-      let work = f.works p (record { name = []; node = 0; wcet = 0; parts = 1; alpha = 0; chi = 0; mu = 0; join = false; frozen = false; release = 0; deadline = None }) l in
+      let work = f.works p
+      (record { name = []; node = 0; wcet = 0; parts = 1; alpha = 0; chi = 0; mu = 0; join = false; frozen = false; release = 0; deadline = None }) l in
       (omega (arith, at, work), omega (arith, at));
 }

@@ -9,9 +9,12 @@ use Rattle.cpg_table.proofs.GraphTables.{suits_graph}
 use Rattle.cpg_cluster.specs.Cluster.{own_table}
 
 -- each table says of the graph what its node needs
-pub own_is : (g : Graph) (tables : List NodeTable) → IsWithinLimits g → AreTablesOf (head_of g) tables → (i : ℕ) → i < length tables → own_table g i (table_at tables i) ≡ table_at tables i
+pub own_is : (g : Graph) (tables : List NodeTable) → IsWithinLimits g → AreTablesOf (head_of g) tables → (i : ℕ) →
+    i < length tables →
+    own_table g i (table_at tables i) ≡ table_at tables i
 own_is g tables within of i l =
-    let s = suits_graph g within tables of i (let many : length tables ≡ length g.nodes = of.count in omega (arith, l, many)) in
+    let s = suits_graph g within tables of i (let many : length tables ≡ length g.nodes = of.count in
+    omega (arith, l, many)) in
     λ j. record {
       faults = sym s.faults j;
       first_broadcast = sym s.first_broadcast j;

@@ -1,5 +1,6 @@
 -- What a node has reported in a play: each process once at most, at its actual end.
-use Rattle.std.proofs.Common.{◌≡◌, ◌≢◌, ℕ, ◌+◌, ◌<◌, ◌≤◌, Bool, true, false, cond, ◌&&◌, ◌==◌, List, [], ◌∷◌, ◌++◌, length, map, get_or, Contains, Option, Some, None, refl, sym, ap, ◌∙◌, subst, arith}
+use Rattle.std.proofs.Common.{◌≡◌, ◌≢◌, ℕ, ◌+◌, ◌<◌, ◌≤◌, Bool, true, false, cond, ◌&&◌, ◌==◌, List, [], ◌∷◌, ◌++◌}
+use Rattle.std.proofs.Common.{length, map, get_or, Contains, Option, Some, None, refl, sym, ap, ◌∙◌, subst, arith}
 use Rattle.std.proofs.Common.{inl, inr, true≢false, leb, leb-true, le-leb}
 use Rattle.std.specs.Prelude.{is_none}
 use Rattle.std.specs.List.{flat_map}
@@ -17,7 +18,9 @@ use Rattle.cpg_table.proofs.Settings.{Match, match_once}
 use Rattle.cpg_node.specs.Dispatcher.{Dispatcher, Own, Range, Running, Ended, next}
 use Rattle.cpg_node.proofs.Next.{by, not_by, still_by, zip_with-map, NextIs, next_is}
 use Rattle.cpg_table.specs.Items.{own_process}
-use Rattle.cpg_cluster.specs.Cluster.{World, Cluster, Answer, Took, Waits, Done as IsDone, ended_of, report_of, reports_now, initial_cluster, dispatcher_at, take_turn, step_by, step, play, answer}
+use Rattle.cpg_cluster.specs.Cluster.{World, Cluster, Answer, Took, Waits, Done as IsDone, ended_of, report_of}
+use Rattle.cpg_cluster.specs.Cluster.{reports_now, initial_cluster, dispatcher_at, take_turn, step_by, step, play}
+use Rattle.cpg_cluster.specs.Cluster.{answer}
 use Rattle.cpg_cluster.specs.Cluster.{IsPlayed}
 use Rattle.cpg_cluster.proofs.Nodes.{Played, node_state, planned, own_of_node}
 use Rattle.cpg_cluster.proofs.Lawful.{runs_since, unreported}
@@ -34,16 +37,20 @@ pub record OneReport (g : Graph) (tables : List NodeTable) (w : World) (node : �
   pub is : q.1.process ≡ process
 
 -- a node has reported at most one execution of each process, all by the last turn
-pub record HasReported (g : Graph) (tables : List NodeTable) (w : World) (node : ℕ) (last : Option ℕ) (reports : List (ℕ × Ended)) : Type 0 where
+pub record HasReported (g : Graph) (tables : List NodeTable) (w : World) (node : ℕ) (last : Option ℕ)
+    (reports : List (ℕ × Ended)) : Type 0 where
   pub only : (q : ℕ × Ended) → Contains reports q → OneReport g tables w node q × (by last q.0 ≡ true)
   pub apart : Rises (λ (a b : ℕ × Ended). a.1.process ≢ b.1.process) reports
 
 -- the reports of a process
-single : (g : Graph) (w : World) (time : ℕ) (o : Own) (run : Option Running) → Rises (λ (a b : ℕ × Ended). a.1.process ≢ b.1.process) (report_of g w time o run)
+single : (g : Graph) (w : World) (time : ℕ) (o : Own) (run : Option Running) →
+    Rises (λ (a b : ℕ × Ended). a.1.process ≢ b.1.process) (report_of g w time o run)
 single g w time o None = tt
 single g w time o (Some run) = go (is_none run.report && leb (run.start + get_or w.lengths o.process 0) time)
   where
-    go : (b : Bool) → Rises (λ (a b : ℕ × Ended). a.1.process ≢ b.1.process) (cond b ((run.start + get_or w.lengths o.process 0, ended_of g w o) ∷ []) [])
+    go : (b : Bool) →
+        Rises (λ (a b : ℕ × Ended). a.1.process ≢ b.1.process)
+        (cond b ((run.start + get_or w.lengths o.process 0, ended_of g w o) ∷ []) [])
     go true = (λ y m. absurd (Contains-nil y m), tt)
     go false = tt
 
@@ -55,7 +62,9 @@ record Told (g : Graph) (w : World) (time : ℕ) (o : Own) (run : Option Running
   over : it.start + get_or w.lengths o.process 0 ≤ time
   is : q ≡ (it.start + get_or w.lengths o.process 0, ended_of g w o)
 
-told : (g : Graph) (w : World) (time : ℕ) (o : Own) (run : Option Running) (q : ℕ × Ended) → Contains (report_of g w time o run) q → Told g w time o run q
+told : (g : Graph) (w : World) (time : ℕ) (o : Own) (run : Option Running) (q : ℕ × Ended) →
+    Contains (report_of g w time o run) q →
+    Told g w time o run q
 told g w time o None q h = absurd (Contains-nil q h)
 told g w time o (Some run) q h = go (is_none run.report && leb (run.start + get_or w.lengths o.process 0) time) refl h
   where
@@ -64,7 +73,8 @@ told g w time o (Some run) q h = go (is_none run.report && leb (run.start + get_
     no_report (Some r) t = absurd (true≢false (sym t))
 
     go : (b : Bool) → (is_none run.report && leb (run.start + get_or w.lengths o.process 0) time) ≡ b →
-        Contains (cond b ((run.start + get_or w.lengths o.process 0, ended_of g w o) ∷ []) []) q → Told g w time o (Some run) q
+        Contains (cond b ((run.start + get_or w.lengths o.process 0, ended_of g w o) ∷ []) []) q →
+        Told g w time o (Some run) q
     go false _ h = absurd (Contains-nil q h)
     go true b h =
         let p = and_parts (is_none run.report) (leb (run.start + get_or w.lengths o.process 0) time) b in
@@ -74,31 +84,47 @@ told g w time o (Some run) q h = go (is_none run.report && leb (run.start + get_
           none = no_report run.report p.0;
           over = leb-true _ _ p.1;
           is =
-              elim (Contains-cases (run.start + get_or w.lengths o.process 0, ended_of g w o) [] q h) [ inl s ↦ sym s | inr n ↦ absurd (Contains-nil q n) ];
+              elim (Contains-cases (run.start + get_or w.lengths o.process 0, ended_of g w o) [] q h) [
+                | inl s ↦ sym s
+                | inr n ↦ absurd (Contains-nil q n)
+              ];
         }
 
-module _ {g : Graph} {tables : List NodeTable} {w : World} (k : Played g tables w) (node : ℕ) (last : Option ℕ) (time : ℕ) where
+module _ {g : Graph} {tables : List NodeTable} {w : World} (k : Played g tables w) (node : ℕ) (last : Option ℕ)
+    (time : ℕ) where
   -- the reports by the time
   abbrev now : List (ℕ × Ended)
   now = flat_map (λ o. report_of g w time o (planned g tables w last o)) (own_of_node g node)
 
   now_parts : (q : ℕ × Ended) → Contains now q → OneReport g tables w node q × (by last q.0 ≡ false) × (q.0 ≤ time)
   now_parts q h =
-      let a = Contains-flat_map_parts (λ o. report_of g w time o (planned g tables w last o)) (own_of_node g node) q h in
+      let a =
+      Contains-flat_map_parts (λ o. report_of g w time o (planned g tables w last o)) (own_of_node g node) q h in
       let b = Contains-map_parts (own_process g) (processes_on g node) a.0 a.1 in
-      let t = told g w time (own_process g b.0) (planned g tables w last (own_process g b.0)) q (subst (λ o. Contains (report_of g w time o (planned g tables w last o)) q) (sym b.2) a.2) in
+      let t = told g w time (own_process g b.0) (planned g tables w last (own_process g b.0)) q
+      (subst (λ o. Contains (report_of g w time o (planned g tables w last o)) q) (sym b.2) a.2) in
       let r = runs_since k last b.0 t.it t.runs in
       let at : t.it.start + get_or w.lengths b.0 0 ≡ q.0 = sym (ap (λ (q : ℕ × Ended). q.0) t.is) in (
-        record { process = b.0; on = b.1; column = r.column; match = r.match; time = ap (λ n. n + get_or w.lengths b.0 0) r.start ∙ at; is = ap (λ (q : ℕ × Ended). q.1.process) t.is },
-        ap (by last) (sym at) ∙ not_by last (t.it.start + get_or w.lengths b.0 0) (unreported k last b.0 t.it t.runs t.none),
+        record {
+          process = b.0;
+          on = b.1;
+          column = r.column;
+          match = r.match;
+          time = ap (λ n. n + get_or w.lengths b.0 0) r.start ∙ at;
+          is = ap (λ (q : ℕ × Ended). q.1.process) t.is;
+        },
+        ap (by last) (sym at)
+            ∙ not_by last (t.it.start + get_or w.lengths b.0 0) (unreported k last b.0 t.it t.runs t.none),
         omega (arith, at, t.over),
       )
 
-  of_own : (o : Own) (q : ℕ × Ended) → Contains (report_of g w time o (planned g tables w last o)) q → q.1.process ≡ o.process
+  of_own : (o : Own) (q : ℕ × Ended) → Contains (report_of g w time o (planned g tables w last o)) q →
+      q.1.process ≡ o.process
   of_own o q h = ap (λ (q : ℕ × Ended). q.1.process) (told g w time o (planned g tables w last o) q h).is
 
   own_apart : (ps : List ℕ) → Rises (λ x y. x < y) ps →
-      Rises (λ (x y : Own). (a b : ℕ × Ended) → Contains (report_of g w time x (planned g tables w last x)) a → Contains (report_of g w time y (planned g tables w last y)) b →
+      Rises (λ (x y : Own). (a b : ℕ × Ended) → Contains (report_of g w time x (planned g tables w last x)) a →
+      Contains (report_of g w time y (planned g tables w last y)) b →
       a.1.process ≢ b.1.process) (map (own_process g) ps)
   own_apart [] h = tt
   own_apart (p ∷ ps) h = (
@@ -113,11 +139,15 @@ module _ {g : Graph} {tables : List NodeTable} {w : World} (k : Played g tables 
 
   now_apart : Rises (λ (a b : ℕ × Ended). a.1.process ≢ b.1.process) now
   now_apart =
-      Rises-flat_map (λ (a b : ℕ × Ended). a.1.process ≢ b.1.process) (λ o. report_of g w time o (planned g tables w last o)) (own_of_node g node)
+      Rises-flat_map (λ (a b : ℕ × Ended). a.1.process ≢ b.1.process)
+      (λ o. report_of g w time o (planned g tables w last o)) (own_of_node g node)
       (λ o _. single g w time o (planned g tables w last o))
-      (own_apart (processes_on g node) (Rises-filter (λ x y. x < y) (λ p. node_of g p == node) (numbers_below (process_count g)) (numbers_go_up (process_count g))))
+      (own_apart (processes_on g node) (Rises-filter (λ x y. x < y) (λ p. node_of g p == node)
+      (numbers_below (process_count g)) (numbers_go_up (process_count g))))
 
-  pub reports_more : (heard : List Range) → NextIs (node_state g tables w node heard last) time → (reports : List (ℕ × Ended)) → HasReported g tables w node last reports →
+  pub reports_more : (heard : List Range) → NextIs (node_state g tables w node heard last) time →
+      (reports : List (ℕ × Ended)) →
+      HasReported g tables w node last reports →
       HasReported g tables w node (Some time) (reports ++ now)
   reports_more heard next reports d = record {
     only = λ q h. elim (Contains-append_cases reports now q h) [
@@ -128,7 +158,8 @@ module _ {g : Graph} {tables : List NodeTable} {w : World} (k : Played g tables 
         let x = d.only a m in
         let y = now_parts b n in
         let same : x.0.process ≡ y.0.process = sym x.0.is ∙ e ∙ y.0.is in
-        let one = match_once k.setting y.0.process x.0.column y.0.column (subst (λ p. Match tables w.scenario p x.0.column) same x.0.match) y.0.match in
+        let one = match_once k.setting y.0.process x.0.column y.0.column
+        (subst (λ p. Match tables w.scenario p x.0.column) same x.0.match) y.0.match in
         let times : a.0 ≡ b.0 = sym x.0.time ∙ (λ i. (one i).time + get_or w.lengths (same i) 0) ∙ y.0.time in
         true≢false (sym x.1 ∙ ap (by last) times ∙ y.1));
   }
@@ -136,62 +167,81 @@ module _ {g : Graph} {tables : List NodeTable} {w : World} (k : Played g tables 
 module _ {g : Graph} {tables : List NodeTable} {w : World} (k : Played g tables w) where
   pub record ReportsHold (c : Cluster) : Type 0 where
     pub count : length c.reports ≡ length g.nodes
-    pub each : (node : ℕ) → node < length g.nodes → HasReported g tables w node (dispatcher_at c node).last (get_or c.reports node [])
+    pub each : (node : ℕ) → node < length g.nodes →
+        HasReported g tables w node (dispatcher_at c node).last (get_or c.reports node [])
 
   -- what a node reports before its turn at a time
-  now_is : (c : Cluster) (r : Reached g tables w c) (a : ℕ) (l : a < length g.nodes) (time : ℕ) → reports_now g w (dispatcher_at c a) time ≡ now k a (r.holds a l).last time
+  now_is : (c : Cluster) (r : Reached g tables w c) (a : ℕ) (l : a < length g.nodes) (time : ℕ) →
+      reports_now g w (dispatcher_at c a) time ≡ now k a (r.holds a l).last time
   now_is c r a l time =
       let last = (r.holds a l).last in
-      ap (λ d. reports_now g w d time) (r.holds a l).is ∙ ap (flat_map (λ rs. rs)) (zip_with-map (report_of g w time) (planned g tables w last) (own_of_node g a))
+      ap (λ d. reports_now g w d time) (r.holds a l).is
+      ∙ ap (flat_map (λ rs. rs)) (zip_with-map (report_of g w time) (planned g tables w last) (own_of_node g a))
       ∙ flat_id (λ o. report_of g w time o (planned g tables w last o)) (own_of_node g a)
 
   -- what a node reports is of different processes
   pub reports_apart : (c : Cluster) → Reached g tables w c → (a : ℕ) → a < length g.nodes → (time : ℕ) →
       Rises (λ (x y : ℕ × Ended). x.1.process ≢ y.1.process) (reports_now g w (dispatcher_at c a) time)
-  reports_apart c r a l time = subst (Rises (λ (x y : ℕ × Ended). x.1.process ≢ y.1.process)) (sym (now_is c r a l time)) (now_apart k a (r.holds a l).last time)
+  reports_apart c r a l time = subst (Rises (λ (x y : ℕ × Ended). x.1.process ≢ y.1.process))
+      (sym (now_is c r a l time)) (now_apart k a (r.holds a l).last time)
 
   -- each report is that of an execution
-  pub report_is : (c : Cluster) (r : Reached g tables w c) (a : ℕ) → a < length g.nodes → (time : ℕ) (q : ℕ × Ended) → Contains (reports_now g w (dispatcher_at c a) time) q → OneReport g tables w a q
-  report_is c r a l time q h = (now_parts k a (r.holds a l).last time q (subst (λ rs. Contains rs q) (now_is c r a l time) h)).0
+  pub report_is : (c : Cluster) (r : Reached g tables w c) (a : ℕ) → a < length g.nodes → (time : ℕ) (q : ℕ × Ended) →
+      Contains (reports_now g w (dispatcher_at c a) time) q →
+      OneReport g tables w a q
+  report_is c r a l time q h =
+      (now_parts k a (r.holds a l).last time q (subst (λ rs. Contains rs q) (now_is c r a l time) h)).0
 
   hold_open : ReportsHold (initial_cluster g tables)
   hold_open = record {
     count = length-replicate (length tables) [] ∙ k.setting.shape.count;
     each = λ node l.
-        let none = get_or-replicate {A = List (ℕ × Ended)} (length tables) node [] [] (omega (arith, k.setting.shape.count)) in
-        subst (HasReported g tables w node (dispatcher_at (initial_cluster g tables) node).last) (sym none) (record { only = λ q h. absurd (Contains-nil q h); apart = tt });
+        let none =
+        get_or-replicate {A = List (ℕ × Ended)} (length tables) node [] [] (omega (arith, k.setting.shape.count)) in
+        subst (HasReported g tables w node (dispatcher_at (initial_cluster g tables) node).last) (sym none)
+        (record { only = λ q h. absurd (Contains-nil q h); apart = tt });
   }
 
   module _ (c : Cluster) (r : Reached g tables w c) (h : ReportsHold c) where
     hold_here : (a time : ℕ) → (l : a < length g.nodes) → answer g c a ≡ Took → next (dispatcher_at c a) ≡ Some time →
-        HasReported g tables w a (dispatcher_at (take_turn g w c a time) a).last (get_or (take_turn g w c a time).reports a [])
+        HasReported g tables w a (dispatcher_at (take_turn g w c a time) a).last
+        (get_or (take_turn g w c a time).reports a [])
     hold_here a time l e n =
         let within : a < length c.nodes = omega (arith, r.nodes) in
         let counted : a < length c.reports = omega (arith, h.count) in
         let free = free_from k c r a time e n in
         let m = r.holds a l in
         let coming = next_is (node_state g tables w a m.heard m.last) time (sym (ap next m.is) ∙ n) in
-        let before = subst (λ o. HasReported g tables w a o (get_or c.reports a [])) (ap (λ (d : Dispatcher). d.last) m.is) (h.each a l) in
+        let before = subst (λ o. HasReported g tables w a o (get_or c.reports a []))
+        (ap (λ (d : Dispatcher). d.last) m.is) (h.each a l) in
         let after = reports_more k a m.last time m.heard coming (get_or c.reports a []) before in
-        let last = ap (λ (d : Dispatcher). d.last) (get_or-set_same c.nodes a _ _ within ∙ turn_is k c r a l time n free) in
-        let reports = get_or-set_same c.reports a _ [] counted ∙ ap (λ rs. get_or c.reports a [] ++ rs) (now_is c r a l time) in
-        subst (λ o. HasReported g tables w a o (get_or (take_turn g w c a time).reports a [])) (sym last) (subst (HasReported g tables w a (Some time)) (sym reports) after)
+        let last =
+        ap (λ (d : Dispatcher). d.last) (get_or-set_same c.nodes a _ _ within ∙ turn_is k c r a l time n free) in
+        let reports =
+        get_or-set_same c.reports a _ [] counted ∙ ap (λ rs. get_or c.reports a [] ++ rs) (now_is c r a l time) in
+        subst (λ o. HasReported g tables w a o (get_or (take_turn g w c a time).reports a [])) (sym last)
+        (subst (HasReported g tables w a (Some time)) (sym reports) after)
 
-    hold_turn : (a time : ℕ) → answer g c a ≡ Took → next (dispatcher_at c a) ≡ Some time → ReportsHold (take_turn g w c a time)
+    hold_turn : (a time : ℕ) → answer g c a ≡ Took → next (dispatcher_at c a) ≡ Some time →
+        ReportsHold (take_turn g w c a time)
     hold_turn a time e n = record {
       count = length-set c.reports a _ ∙ h.count;
       each = λ node l. elim (cases_eq node a) [
-        | inl is ↦ subst (λ node. HasReported g tables w node (dispatcher_at (take_turn g w c a time) node).last (get_or (take_turn g w c a time).reports node [])) (sym is)
+        | inl is ↦ subst (λ node. HasReported g tables w node (dispatcher_at (take_turn g w c a time) node).last
+            (get_or (take_turn g w c a time).reports node [])) (sym is)
             (hold_here a time (subst (λ n. n < length g.nodes) is l) e n)
-        | inr ne ↦ subst (λ o. HasReported g tables w node o (get_or (take_turn g w c a time).reports node [])) (sym (ap (λ (d : Dispatcher). d.last) (get_or-set_other c.nodes a node _ _ ne)))
-            (subst (HasReported g tables w node (dispatcher_at c node).last) (sym (get_or-set_other c.reports a node _ [] ne)) (h.each node l))
+        | inr ne ↦ subst (λ o. HasReported g tables w node o (get_or (take_turn g w c a time).reports node []))
+            (sym (ap (λ (d : Dispatcher). d.last) (get_or-set_other c.nodes a node _ _ ne)))
+            (subst (HasReported g tables w node (dispatcher_at c node).last)
+            (sym (get_or-set_other c.reports a node _ [] ne)) (h.each node l))
       ];
     }
 
     hold_step : (a : ℕ) → ReportsHold (step g w c a)
     hold_step a = go (answer g c a) (next (dispatcher_at c a)) refl refl
       where
-        go : (ans : Answer) (o : Option ℕ) → answer g c a ≡ ans → next (dispatcher_at c a) ≡ o → ReportsHold (step_by g w c a ans o)
+        go : (ans : Answer) (o : Option ℕ) → answer g c a ≡ ans → next (dispatcher_at c a) ≡ o →
+            ReportsHold (step_by g w c a ans o)
         go Took (Some time) e n = hold_turn a time e n
         go Took None e n = h
         go (Waits b) o e n = h

@@ -22,8 +22,8 @@ last_arrival tables = greatest (flat_map (λ (t : NodeTable). times_in t.hears) 
 abbrev pub cycle_step : Graph → ℕ
 cycle_step g = max (round g) 1
 
--- A time after which the tables may be used again. It is a whole number of rounds, and at least the deadline and the last
--- arrival.
+-- A time after which the tables may be used again. It is a whole number of rounds, and at least the deadline and the
+-- last arrival.
 pub record IsCycle (g : Graph) (tables : List NodeTable) (time : ℕ) : Type 0 where
   pub some : 1 ≤ time
   pub rounds : ℕ
@@ -42,17 +42,22 @@ pub record IsLeastCycle (g : Graph) (tables : List NodeTable) (time : ℕ) : Typ
 abbrev pub LeastCyclesAreLeast : Type 0
 LeastCyclesAreLeast = (g : Graph) (tables : List NodeTable) → IsLeastCycle g tables (least_cycle g tables)
 
--- All that nodes do is over by a time: each execution that started, both as planned and as reported, and each frame, which
--- arrives at the end of its slot.
+-- All that nodes do is over by a time: each execution that started, both as planned and as reported, and each frame,
+-- which arrives at the end of its slot.
 pub record IsOverBy (g : Graph) (s : Scenario) (c : Cluster) (time : ℕ) : Type 0 where
-  pub starts : (node : ℕ) (a : Act) → node < length g.nodes → Contains (get_or c.acts node []) a → a.item < process_count g → end_of_act g s a ≤ time
-  pub sends : (node : ℕ) (a : Act) → node < length g.nodes → Contains (get_or c.acts node []) a → process_count g ≤ a.item → arrival_of_act g a ≤ time
+  pub starts : (node : ℕ) (a : Act) → node < length g.nodes → Contains (get_or c.acts node []) a →
+      a.item < process_count g →
+      end_of_act g s a ≤ time
+  pub sends : (node : ℕ) (a : Act) → node < length g.nodes → Contains (get_or c.acts node []) a →
+      process_count g ≤ a.item →
+      arrival_of_act g a ≤ time
   pub ends : (node : ℕ) (e : ℕ × Ended) → node < length g.nodes → Contains (get_or c.ends node []) e → e.0 ≤ time
   pub reports : (node : ℕ) (e : ℕ × Ended) → node < length g.nodes → Contains (get_or c.reports node []) e → e.0 ≤ time
 
 -- In every state of every play of valid tables, all that nodes do is over at the end of a cycle.
 abbrev pub CyclesHoldAll : Type 0
-CyclesHoldAll = (g : Graph) (tables : List NodeTable) (time : ℕ) → WellFormed g → HasShape g tables → IsValid g tables → IsCycle g tables time →
+CyclesHoldAll = (g : Graph) (tables : List NodeTable) (time : ℕ) → WellFormed g → HasShape g tables → IsValid g tables →
+    IsCycle g tables time →
     (w : World) (turns : List ℕ) → IsWorld g w → IsOverBy g w.scenario (play g w (initial_cluster g tables) turns) time
 
 -- a time at which a slot of the node starts
@@ -65,19 +70,24 @@ pub record HasSlotsAt (g : Graph) (node begin : ℕ) : Type 0 where
   pub earlier : (time : ℕ) → IsOccurrence g node (begin + time) → IsOccurrence g node time
 
 abbrev pub CyclesHaveTheSameSlots : Type 0
-CyclesHaveTheSameSlots = (g : Graph) (tables : List NodeTable) (time cycle node : ℕ) → WellFormed g → IsCycle g tables time →
+CyclesHaveTheSameSlots =
+    (g : Graph) (tables : List NodeTable) (time cycle node : ℕ) → WellFormed g → IsCycle g tables time →
     IsTrue (list_any (λ s. s.node == node) g.slots) → HasSlotsAt g node (cycle * time)
 
--- What nodes do in a cycle is over before they do anything in a later one. An execution, or a frame, of the first is over
--- before an act of the second on any node. So two executions on one processor, or two frames in slots, are apart.
+-- What nodes do in a cycle is over before they do anything in a later one. An execution, or a frame, of the first is
+-- over before an act of the second on any node. So two executions on one processor, or two frames in slots, are apart.
 pub record AreApart (g : Graph) (s : Scenario) (one other : Cluster) (begin later : ℕ) : Type 0 where
-  pub executions : (node there : ℕ) (a b : Act) → node < length g.nodes → Contains (get_or one.acts node []) a → Contains (get_or other.acts there []) b →
+  pub executions : (node there : ℕ) (a b : Act) → node < length g.nodes → Contains (get_or one.acts node []) a →
+      Contains (get_or other.acts there []) b →
       a.item < process_count g → begin + end_of_act g s a ≤ later + b.time
-  pub frames : (node there : ℕ) (a b : Act) → node < length g.nodes → Contains (get_or one.acts node []) a → Contains (get_or other.acts there []) b →
+  pub frames : (node there : ℕ) (a b : Act) → node < length g.nodes → Contains (get_or one.acts node []) a →
+      Contains (get_or other.acts there []) b →
       process_count g ≤ a.item → begin + arrival_of_act g a ≤ later + b.time
 
 -- Cycles that begin at multiples of such a time are apart, whatever their worlds and plays.
 abbrev pub CyclesAreApart : Type 0
-CyclesAreApart = (g : Graph) (tables : List NodeTable) (time : ℕ) → WellFormed g → HasShape g tables → IsValid g tables → IsCycle g tables time →
+CyclesAreApart = (g : Graph) (tables : List NodeTable) (time : ℕ) → WellFormed g → HasShape g tables →
+    IsValid g tables → IsCycle g tables time →
     (w v : World) (turns others : List ℕ) (cycle later : ℕ) → IsWorld g w → IsWorld g v → cycle < later →
-    AreApart g w.scenario (play g w (initial_cluster g tables) turns) (play g v (initial_cluster g tables) others) (cycle * time) (later * time)
+    AreApart g w.scenario (play g w (initial_cluster g tables) turns) (play g v (initial_cluster g tables) others)
+    (cycle * time) (later * time)

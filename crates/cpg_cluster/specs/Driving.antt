@@ -1,6 +1,7 @@
--- A play that is driven to its end. A number decides which node is asked first; then the others are asked round the circle
--- until one takes its turn.
-use Rattle.std.specs.Prelude.{ℕ, zero, suc, ◌≡◌, ◌<◌, ◌+◌, ◌^◌, ◌%◌, ◌/◌, Bool, true, false, List, [], ◌∷◌, map, length, sum_by}
+-- A play that is driven to its end. A number decides which node is asked first; then the others are asked round the
+-- circle until one takes its turn.
+use Rattle.std.specs.Prelude.{ℕ, zero, suc, ◌≡◌, ◌<◌, ◌+◌, ◌^◌, ◌%◌, ◌/◌, Bool, true, false, List, [], ◌∷◌, map, length}
+use Rattle.std.specs.Prelude.{sum_by}
 use Rattle.cpg_base.specs.Graph.{Graph}
 use Rattle.cpg_base.specs.Draws.{next_number}
 use Rattle.cpg_base.specs.Numbers.{numbers_below}
@@ -42,7 +43,9 @@ choice g w c x = choose g w c (circle (length g.nodes) (first_asked (length g.no
 -- the state after this many choices, made by the numbers that follow one, and how many nodes waited
 abbrev pub driven : Graph → World → ℕ → ℕ → Cluster → Cluster × ℕ
 driven g w zero x c = (c, 0)
-driven g w (suc turns) x c = let one = choice g w c (next_number x) in let rest = driven g w turns (next_number x) one.cluster in (rest.0, one.waits + rest.1)
+driven g w (suc turns) x c = let one = choice g w c (next_number x) in
+    let rest = driven g w turns (next_number x) one.cluster in
+    (rest.0, one.waits + rest.1)
 
 -- every node is done
 abbrev pub AllDone : Graph → Cluster → Type 0

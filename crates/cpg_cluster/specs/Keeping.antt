@@ -1,5 +1,7 @@
 -- The invariant of a cluster between its calls.
-use Rattle.std.specs.Prelude.{ℕ, ◌≡◌, ◌≤◌, ◌<◌, ◌+◌, ◌&&◌, ◌==◌, Bool, cond, IsPermutation, nat_le, List, [], Option, Some, None, option_to_list, slice_get, slice_set, length, map, filter, fold, replicate, get_or, All}
+use Rattle.std.specs.Prelude.{ℕ, ◌≡◌, ◌≤◌, ◌<◌, ◌+◌, ◌&&◌, ◌==◌, Bool, cond, IsPermutation, nat_le, List, [], Option}
+use Rattle.std.specs.Prelude.{Some, None, option_to_list, slice_get, slice_set, length, map, filter, fold, replicate}
+use Rattle.std.specs.Prelude.{get_or, All}
 use Rattle.std.specs.List.{flat_map, list_any}
 use Rattle.std.specs.List.Sorted.{IsNonDecreasingBy}
 use Rattle.std.specs.Option.{option_map_or}
@@ -16,7 +18,8 @@ use Rattle.cpg_cluster.specs.declared.member.Member.{Member}
 
 -- whether a frame that arrives at this time may still be sent by a node, given that node's next instant and slot
 abbrev pub waits_until : ℕ → Option ℕ → ℕ → ℕ → Bool
-waits_until time comes slot arrival = nat_le arrival time && list_any (λ u. nat_le (u + slot) arrival) (option_to_list comes)
+waits_until time comes slot arrival =
+    nat_le arrival time && list_any (λ u. nat_le (u + slot) arrival) (option_to_list comes)
 
 -- whether a column's frame may
 abbrev pub waits_for : ℕ → Option ℕ → ℕ → Column → Bool
@@ -28,19 +31,23 @@ waits_by other time comes slot row sender = (sender == other) && list_any (waits
 
 -- whether a node waits on another, given the other's next instant and slot
 abbrev pub waits_between : ℕ → Member → ℕ → Member → Bool
-waits_between time m other o = list_any (λ w. w) (zip_with (waits_by other time (next o.node.dispatcher) o.slot) m.node.dispatcher.table.hears m.senders.items)
+waits_between time m other o = list_any (λ w. w)
+    (zip_with (waits_by other time (next o.node.dispatcher) o.slot) m.node.dispatcher.table.hears m.senders.items)
 
 -- the frames of the acts of an item of a sender, if there is one
 abbrev pub frames_of_member : List Member → Bool → ℕ → ℕ → ℕ → List Frame
-frames_of_member members value x time sender = option_map_or (λ (m : Member). frames_from value x m.slot time m.acts.items) (slice_get members sender) []
+frames_of_member members value x time sender =
+    option_map_or (λ (m : Member). frames_from value x m.slot time m.acts.items) (slice_get members sender) []
 
 -- the frames of a row
 abbrev pub frames_of_sender : Graph → List Bool → List Member → ℕ → Row → ℕ → List Frame
-frames_of_sender g values members time row sender = frames_of_member members (value_of_item values (item_at g row.item)) row.item time sender
+frames_of_sender g values members time row sender =
+    frames_of_member members (value_of_item values (item_at g row.item)) row.item time sender
 
 -- the frames that arrive, given rows and their senders
 abbrev pub frames_by : Graph → List Bool → List Member → ℕ → List Row → List ℕ → List Frame
-frames_by g values members time rows senders = flat_map (λ fs. fs) (zip_with (frames_of_sender g values members time) rows senders)
+frames_by g values members time rows senders =
+    flat_map (λ fs. fs) (zip_with (frames_of_sender g values members time) rows senders)
 
 -- the arrival times of the columns of one sender, row by row
 abbrev pub times_by : ℕ → Row → ℕ → List ℕ

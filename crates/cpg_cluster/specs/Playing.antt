@@ -9,10 +9,12 @@ use Rattle.cpg_table.specs.Table.{NodeTable}
 use Rattle.cpg_table.specs.Shape.{HasShape}
 use Rattle.cpg_table.specs.Valid.{IsValid}
 use Rattle.cpg_node.specs.Dispatcher.{Act, next}
-use Rattle.cpg_cluster.specs.Cluster.{World, Cluster, Answer, Took, Waits, Done, initial_cluster, dispatcher_at, step, IsPlayed}
+use Rattle.cpg_cluster.specs.Cluster.{World, Cluster, Answer, Took, Waits, Done, initial_cluster, dispatcher_at, step}
+use Rattle.cpg_cluster.specs.Cluster.{IsPlayed}
 use Rattle.cpg_cluster.specs.Correct.{IsWorld, IsDue}
 use Rattle.cpg_cluster.specs.declared.answered.AskStep.{AskStep}
-use Rattle.cpg_cluster.specs.declared.answered.AskStep.TheVariants.{Took as StepTook, Waits as StepWaits, Done as StepDone}
+use Rattle.cpg_cluster.specs.declared.answered.AskStep.TheVariants.{Took as StepTook, Waits as StepWaits}
+use Rattle.cpg_cluster.specs.declared.answered.AskStep.TheVariants.{Done as StepDone}
 
 -- the graph, its tables, what happens, and what the nodes have done
 pub record Playing : Type 0 where
@@ -29,8 +31,8 @@ opened g tables w = record { graph = g; tables = tables; world = w; cluster = in
 abbrev pub stepped : Playing → ℕ → Playing
 stepped p node = record p { cluster = step p.graph p.world p.cluster node }
 
--- the graph is within the limits, the tables are valid and lawful for it, the world is one of it, and some play reaches the
--- state
+-- the graph is within the limits, the tables are valid and lawful for it, the world is one of it, and some play reaches
+-- the state
 pub record IsPlaying (p : Playing) : Type 0 where
   pub limits : IsWithinLimits p.graph
   pub formed : WellFormed p.graph
@@ -44,11 +46,13 @@ pub record IsPlaying (p : Playing) : Type 0 where
 pub record HasLeastInstant (p : Playing) (node : ℕ) : Type 0 where
   pub time : ℕ
   pub comes : next (dispatcher_at p.cluster node) ≡ Some time
-  pub least : (other moment : ℕ) → other < length p.graph.nodes → next (dispatcher_at p.cluster other) ≡ Some moment → time ≤ moment
+  pub least : (other moment : ℕ) → other < length p.graph.nodes → next (dispatcher_at p.cluster other) ≡ Some moment →
+      time ≤ moment
 
 -- a node has done all that is due on it
 abbrev pub HasDoneAll : Playing → ℕ → Type 0
-HasDoneAll p node = (acts : List Act) → IsDue p.graph p.tables p.world.scenario node acts → get_or p.cluster.acts node [] ≡ acts
+HasDoneAll p node =
+    (acts : List Act) → IsDue p.graph p.tables p.world.scenario node acts → get_or p.cluster.acts node [] ≡ acts
 
 -- the answer of a node that is asked
 abbrev pub answer_of : AskStep → Answer

@@ -1,5 +1,6 @@
 -- The parts of a node's turn, as code takes them.
-use Rattle.std.specs.Prelude.{ℕ, ◌≡◌, ◌<◌, ◌+◌, ◌&&◌, ◌==◌, Bool, false, List, [], ◌∷◌, Option, fold, map, filter, get_or}
+use Rattle.std.specs.Prelude.{ℕ, ◌≡◌, ◌<◌, ◌+◌, ◌&&◌, ◌==◌, Bool, false, List, [], ◌∷◌, Option, fold, map, filter}
+use Rattle.std.specs.Prelude.{get_or}
 use Rattle.std.specs.List.{flat_map}
 use Rattle.cpg_base.specs.Graph.{Graph, process_count, condition_of}
 use Rattle.cpg_base.specs.declared.item.Item.{Item}
@@ -31,7 +32,8 @@ reports_by g w time own runs = flat_map (λ rs. rs) (zip_with (report_of g w tim
 
 -- the planned ends at the time
 abbrev pub ends_by : ℕ → List Own → List (Option Running) → List (ℕ × Ended)
-ends_by time own runs = map {A = Ended} {B = ℕ × Ended} (λ e. (time, e)) (flat_map (λ es. es) (zip_with (due_reports_of time) own runs))
+ends_by time own runs =
+    map {A = Ended} {B = ℕ × Ended} (λ e. (time, e)) (flat_map (λ es. es) (zip_with (due_reports_of time) own runs))
 
 -- executions may finish at their times, one after another
 abbrev pub AllFinish : Dispatcher → List (ℕ × Ended) → Type 0

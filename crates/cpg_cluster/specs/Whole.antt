@@ -12,8 +12,8 @@ use Rattle.cpg_cluster.specs.Correct.{IsDue, AreDueEnds, IsOrderly}
 abbrev pub all_acts : Graph → Cluster → List Act
 all_acts g c = flat_map (λ node. get_or c.acts node []) (numbers_below (length g.nodes))
 
--- The acts of each node are what is due on it, and its ends are the planned ones, each in order. So each active item was done
--- once, after its inputs, alone on its processor and in its slot, and ended by its due.
+-- The acts of each node are what is due on it, and its ends are the planned ones, each in order. So each active item
+-- was done once, after its inputs, alone on its processor and in its slot, and ended by its due.
 pub record IsWholePlay (g : Graph) (tables : List NodeTable) (w : World) (c : Cluster) : Type 0 where
   pub played : IsPlayed g tables w c
   pub acts : (node : ℕ) → node < length g.nodes → IsDue g tables w.scenario node (get_or c.acts node [])

@@ -1,5 +1,6 @@
 -- Lists of known length by their elements, and lists read by blocks.
-use Rattle.std.proofs.Common.{ℕ, ◌≡◌, Bool, true, cond, List, ◌++◌, length, get_or, take, drop, map, refl, sym, ap, ◌∙◌, append_assoc}
+use Rattle.std.proofs.Common.{ℕ, ◌≡◌, Bool, true, cond, List, ◌++◌, length, get_or, take, drop, map, refl, sym, ap, ◌∙◌}
+use Rattle.std.proofs.Common.{append_assoc}
 use Rattle.std.specs.List.{flat_map}
 use Rattle.std.proofs.lemmas.List.FromFn.{fill_by_all}
 use Rattle.std.proofs.lemmas.Grind.{flat_map-append}
@@ -8,14 +9,18 @@ use Rattle.cpg_base.specs.Numbers.{numbers_below}
 use Rattle.cpg_cube.specs.declared.literal.Literal.{Literal}
 use Rattle.cpg_codec.specs.Spelling.{literal_bytes}
 
-pub elements : {X : Type 0} (xs : List X) (n : ℕ) (d : X) → length xs ≡ n → xs ≡ map (λ k. get_or xs k d) (numbers_below n)
+pub elements : {X : Type 0} (xs : List X) (n : ℕ) (d : X) → length xs ≡ n →
+    xs ≡ map (λ k. get_or xs k d) (numbers_below n)
 elements xs n d e = fill_by_all (λ k. get_or xs k d) xs n d e (λ k l. refl)
 
 -- a block moved from what is left to what is there
-pub block_moved : {X A : Type 0} (f : X → List A) (all old new : List A) (left rest : List X) (n : ℕ) → all ≡ old ++ flat_map f left → new ≡ old ++ flat_map f (take n left) → rest ≡ drop n left →
+pub block_moved : {X A : Type 0} (f : X → List A) (all old new : List A) (left rest : List X) (n : ℕ) →
+    all ≡ old ++ flat_map f left → new ≡ old ++ flat_map f (take n left) →
+    rest ≡ drop n left →
     all ≡ new ++ flat_map f rest
 block_moved f all old new left rest n e is r =
-    e ∙ ap (λ ls. old ++ flat_map f ls) (sym (take-append-drop n left)) ∙ ap (λ bs. old ++ bs) (flat_map-append f (take n left) (drop n left))
+    e ∙ ap (λ ls. old ++ flat_map f ls) (sym (take-append-drop n left))
+    ∙ ap (λ bs. old ++ bs) (flat_map-append f (take n left) (drop n left))
     ∙ sym (append_assoc old (flat_map f (take n left)) (flat_map f (drop n left)))
     ∙ sym (ap (λ bs. bs ++ flat_map f rest) is ∙ ap (λ ls. (old ++ flat_map f (take n left)) ++ flat_map f ls) r)
 
@@ -23,8 +28,10 @@ block_moved f all old new left rest n e is r =
 pub appended : (old new piece : List ℕ) (b : Bool) → new ≡ cond b (old ++ piece) old → b ≡ true → new ≡ old ++ piece
 appended old new piece b e on = e ∙ ap (λ c. cond c (old ++ piece) old) on
 
-pub eight_bytes : (ls : List Literal) (d : Literal) → length ls ≡ 8 → flat_map literal_bytes (map (λ k. get_or ls k d) (numbers_below 8)) ≡ flat_map literal_bytes ls
+pub eight_bytes : (ls : List Literal) (d : Literal) → length ls ≡ 8 →
+    flat_map literal_bytes (map (λ k. get_or ls k d) (numbers_below 8)) ≡ flat_map literal_bytes ls
 eight_bytes ls d e = ap (flat_map literal_bytes) (sym (elements ls 8 d e))
 
-pub four_bytes : (ls : List Literal) (d : Literal) → length ls ≡ 4 → flat_map literal_bytes (map (λ k. get_or ls k d) (numbers_below 4)) ≡ flat_map literal_bytes ls
+pub four_bytes : (ls : List Literal) (d : Literal) → length ls ≡ 4 →
+    flat_map literal_bytes (map (λ k. get_or ls k d) (numbers_below 4)) ≡ flat_map literal_bytes ls
 four_bytes ls d e = ap (flat_map literal_bytes) (sym (elements ls 4 d e))

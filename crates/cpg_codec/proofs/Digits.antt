@@ -1,5 +1,6 @@
 -- A number byte by byte, for loops in code.
-use Rattle.std.proofs.Common.{◌≡◌, ℕ, zero, suc, ◌+◌, ◌*◌, ◌-◌, ◌/◌, ◌^◌, ◌<◌, ◌≤◌, true, false, ltb, leb, List, [], ◌∷◌, ◌++◌, length, get_or, take, drop, Ok, Err, refl, sym, ap, subst, ◌∙◌, arith}
+use Rattle.std.proofs.Common.{◌≡◌, ℕ, zero, suc, ◌+◌, ◌*◌, ◌-◌, ◌/◌, ◌^◌, ◌<◌, ◌≤◌, true, false, ltb, leb, List, []}
+use Rattle.std.proofs.Common.{◌∷◌, ◌++◌, length, get_or, take, drop, Ok, Err, refl, sym, ap, subst, ◌∙◌, arith}
 use Rattle.std.specs.Int.{w64, from_be_bytes, to_be_bytes}
 use Rattle.std.proofs.lemmas.Bool.{lt-ltb, le-ltb, le-leb, lt-leb, and_from, and_left, and_right}
 use Rattle.std.proofs.lemmas.Nat.{be_bytes_8, mul-le, pow-add}
@@ -12,49 +13,65 @@ use Rattle.cpg_codec.proofs.Numbers.{field_reads}
 
 -- ---- one digit
 
-digit_good : (low high w n b : ℕ) (rest : List ℕ) → b < 256 → low < (n * 256 + b + 1) * 256 ^ w → (n * 256 + b) * 256 ^ w ≤ high →
+digit_good : (low high w n b : ℕ) (rest : List ℕ) → b < 256 → low < (n * 256 + b + 1) * 256 ^ w →
+    (n * 256 + b) * 256 ^ w ≤ high →
     read_digits (within low high) (suc w) n (b ∷ rest) ≡ read_digits (within low high) w (n * 256 + b) rest
 unfolding read_digits
 digit_good low high w n b rest lt lo le =
-    let t : digit_may (within low high) w n b ≡ true = and_from (ltb b 256) (within low high ((n * 256 + b) * 256 ^ w) ((n * 256 + b + 1) * 256 ^ w)) (lt-ltb b 256 lt)
-    (and_from (ltb low ((n * 256 + b + 1) * 256 ^ w)) (leb ((n * 256 + b) * 256 ^ w) high) (lt-ltb low ((n * 256 + b + 1) * 256 ^ w) lo) (le-leb ((n * 256 + b) * 256 ^ w) high le)) in
+    let t : digit_may (within low high) w n b ≡ true =
+    and_from (ltb b 256) (within low high ((n * 256 + b) * 256 ^ w) ((n * 256 + b + 1) * 256 ^ w)) (lt-ltb b 256 lt)
+    (and_from (ltb low ((n * 256 + b + 1) * 256 ^ w)) (leb ((n * 256 + b) * 256 ^ w) high)
+    (lt-ltb low ((n * 256 + b + 1) * 256 ^ w) lo) (le-leb ((n * 256 + b) * 256 ^ w) high le)) in
     rw t refl
 
-digit_under : (low high w n b : ℕ) (rest : List ℕ) → (n * 256 + b + 1) * 256 ^ w ≤ low → read_digits (within low high) (suc w) n (b ∷ rest) ≡ Err (suc (length rest))
+digit_under : (low high w n b : ℕ) (rest : List ℕ) → (n * 256 + b + 1) * 256 ^ w ≤ low →
+    read_digits (within low high) (suc w) n (b ∷ rest) ≡ Err (suc (length rest))
 unfolding read_digits
 digit_under low high w n b rest le =
-    let t : digit_may (within low high) w n b ≡ false = and_right (ltb b 256) (within low high ((n * 256 + b) * 256 ^ w) ((n * 256 + b + 1) * 256 ^ w))
-    (and_left (ltb low ((n * 256 + b + 1) * 256 ^ w)) (leb ((n * 256 + b) * 256 ^ w) high) (le-ltb low ((n * 256 + b + 1) * 256 ^ w) le)) in
+    let t : digit_may (within low high) w n b ≡ false =
+    and_right (ltb b 256) (within low high ((n * 256 + b) * 256 ^ w) ((n * 256 + b + 1) * 256 ^ w))
+    (and_left (ltb low ((n * 256 + b + 1) * 256 ^ w)) (leb ((n * 256 + b) * 256 ^ w) high)
+    (le-ltb low ((n * 256 + b + 1) * 256 ^ w) le)) in
     rw t refl
 
-digit_bad : (low high w n b : ℕ) (rest : List ℕ) → high < (n * 256 + b) * 256 ^ w → read_digits (within low high) (suc w) n (b ∷ rest) ≡ Err (suc (length rest))
+digit_bad : (low high w n b : ℕ) (rest : List ℕ) → high < (n * 256 + b) * 256 ^ w →
+    read_digits (within low high) (suc w) n (b ∷ rest) ≡ Err (suc (length rest))
 unfolding read_digits
 digit_bad low high w n b rest lt =
-    let t : digit_may (within low high) w n b ≡ false = and_right (ltb b 256) (within low high ((n * 256 + b) * 256 ^ w) ((n * 256 + b + 1) * 256 ^ w))
-    (and_right (ltb low ((n * 256 + b + 1) * 256 ^ w)) (leb ((n * 256 + b) * 256 ^ w) high) (lt-leb ((n * 256 + b) * 256 ^ w) high lt)) in
+    let t : digit_may (within low high) w n b ≡ false =
+    and_right (ltb b 256) (within low high ((n * 256 + b) * 256 ^ w) ((n * 256 + b + 1) * 256 ^ w))
+    (and_right (ltb low ((n * 256 + b + 1) * 256 ^ w)) (leb ((n * 256 + b) * 256 ^ w) high)
+    (lt-leb ((n * 256 + b) * 256 ^ w) high lt)) in
     rw t refl
 
 -- ---- the same at a slice, if k digits are left
 
-pub digit_goes_on : (low high k w n : ℕ) (bytes : List ℕ) → k ≡ suc w → 1 ≤ length bytes → get_or bytes 0 0 < 256 → low < (n * 256 + get_or bytes 0 0 + 1) * 256 ^ w →
+pub digit_goes_on : (low high k w n : ℕ) (bytes : List ℕ) → k ≡ suc w → 1 ≤ length bytes → get_or bytes 0 0 < 256 →
+    low < (n * 256 + get_or bytes 0 0 + 1) * 256 ^ w →
     (n * 256 + get_or bytes 0 0) * 256 ^ w ≤ high
-    → read_digits (within low high) k n bytes ≡ read_digits (within low high) w (n * 256 + get_or bytes 0 0) (take (length bytes - 1) (drop 1 bytes))
+    → read_digits (within low high) k n bytes
+    ≡ read_digits (within low high) w (n * 256 + get_or bytes 0 0) (take (length bytes - 1) (drop 1 bytes))
 digit_goes_on low high k w n [] e some lt lo le = absurd (omega arith)
 digit_goes_on low high k w n (b ∷ rest) e some lt lo le =
-    rw e (digit_good low high w n b rest lt lo le ∙ ap (read_digits (within low high) w (n * 256 + b)) (sym (take_rest rest))) where
+    rw e (digit_good low high w n b rest lt lo le
+    ∙ ap (read_digits (within low high) w (n * 256 + b)) (sym (take_rest rest))) where
       take_rest : (rest : List ℕ) → take (suc (length rest) - 1) rest ≡ rest
       take_rest rest = let e : suc (length rest) - 1 ≡ length rest = omega arith in rw e (take-length rest)
 
-pub digit_stops : (low high k w n : ℕ) (bytes : List ℕ) → k ≡ suc w → 1 ≤ length bytes → high < (n * 256 + get_or bytes 0 0) * 256 ^ w → read_digits (within low high) k n bytes ≡ Err (length bytes)
+pub digit_stops : (low high k w n : ℕ) (bytes : List ℕ) → k ≡ suc w → 1 ≤ length bytes →
+    high < (n * 256 + get_or bytes 0 0) * 256 ^ w →
+    read_digits (within low high) k n bytes ≡ Err (length bytes)
 digit_stops low high k w n [] e some lt = absurd (omega arith)
 digit_stops low high k w n (b ∷ rest) e some lt = rw e (digit_bad low high w n b rest lt)
 
-pub digit_falls_short : (low high k w n : ℕ) (bytes : List ℕ) → k ≡ suc w → 1 ≤ length bytes → (n * 256 + get_or bytes 0 0 + 1) * 256 ^ w ≤ low →
+pub digit_falls_short : (low high k w n : ℕ) (bytes : List ℕ) → k ≡ suc w → 1 ≤ length bytes →
+    (n * 256 + get_or bytes 0 0 + 1) * 256 ^ w ≤ low →
     read_digits (within low high) k n bytes ≡ Err (length bytes)
 digit_falls_short low high k w n [] e some le = absurd (omega arith)
 digit_falls_short low high k w n (b ∷ rest) e some le = rw e (digit_under low high w n b rest le)
 
-pub digit_none : (low high k w n : ℕ) (bytes : List ℕ) → k ≡ suc w → length bytes < 1 → read_digits (within low high) k n bytes ≡ Err 0
+pub digit_none : (low high k w n : ℕ) (bytes : List ℕ) → k ≡ suc w → length bytes < 1 →
+    read_digits (within low high) k n bytes ≡ Err 0
 unfolding read_digits
 digit_none low high k w n [] e none = rw e refl
 digit_none low high k w n (b ∷ rest) e none = absurd (omega arith)
@@ -67,14 +84,16 @@ digit_done low high k n bytes e = rw e refl
 
 pub pow_bytes : (w : ℕ) → 2 ^ (8 * w) ≡ 256 ^ w
 pow_bytes zero = refl
-pow_bytes (suc w) = let e : 8 * suc w ≡ 8 * w + 8 = omega arith in rw (e, pow-add 2 (8 * w) 8, pow_bytes w) (sym (pow-suc 256 w))
+pow_bytes (suc w) = let e : 8 * suc w ≡ 8 * w + 8 = omega arith in
+    rw (e, pow-add 2 (8 * w) 8, pow_bytes w) (sym (pow-suc 256 w))
 
 pub above_shift : (high w m : ℕ) → high / 2 ^ (8 * w) < m → high < m * 256 ^ w
 above_shift high w m h =
     let p : 1 ≤ 256 ^ w = one-le-pow w 256 (omega arith) in
     let q : high / 256 ^ w < m = rw (← pow_bytes w) h in
     let r : high < high / 256 ^ w * 256 ^ w + 256 ^ w = lt-div-mul-add p in
-    let s : (high / 256 ^ w + 1) * 256 ^ w ≤ m * 256 ^ w = mul-le (high / 256 ^ w + 1) (256 ^ w) m (256 ^ w) (omega arith) (omega arith) in
+    let s : (high / 256 ^ w + 1) * 256 ^ w ≤ m * 256 ^ w =
+    mul-le (high / 256 ^ w + 1) (256 ^ w) m (256 ^ w) (omega arith) (omega arith) in
     omega (arith, r, s)
 
 pub within_shift : (high w m : ℕ) → m ≤ high / 2 ^ (8 * w) → m * 256 ^ w ≤ high
@@ -105,7 +124,8 @@ abbrev pub IsBytes : List ℕ → Type 0
 IsBytes bytes = (i : ℕ) → get_or bytes i 0 < 256
 
 abbrev pub first_8 : List ℕ → List ℕ
-first_8 bytes = get_or bytes 0 0 ∷ get_or bytes 1 0 ∷ get_or bytes 2 0 ∷ get_or bytes 3 0 ∷ get_or bytes 4 0 ∷ get_or bytes 5 0 ∷ get_or bytes 6 0 ∷ get_or bytes 7 0 ∷ []
+first_8 bytes = get_or bytes 0 0 ∷ get_or bytes 1 0 ∷ get_or bytes 2 0 ∷ get_or bytes 3 0 ∷ get_or bytes 4 0
+    ∷ get_or bytes 5 0 ∷ get_or bytes 6 0 ∷ get_or bytes 7 0 ∷ []
 
 abbrev one_more : List ℕ → List ℕ → Type 0
 one_more bytes front = bytes ≡ front ++ drop 8 bytes
@@ -132,17 +152,24 @@ first_fits bytes fits (suc (suc (suc (suc (suc (suc zero)))))) = fits 6
 first_fits bytes fits (suc (suc (suc (suc (suc (suc (suc zero))))))) = fits 7
 first_fits bytes fits (suc (suc (suc (suc (suc (suc (suc (suc i)))))))) = omega arith
 
-pub long_found : (low high n : ℕ) (bytes : List ℕ) → low ≤ high → high < 2 ^ 64 → 8 ≤ length bytes → IsBytes bytes → n ≡ from_be_bytes w64 (first_8 bytes) → (low ≤ n) × (n ≤ high)
+pub long_found : (low high n : ℕ) (bytes : List ℕ) → low ≤ high → high < 2 ^ 64 → 8 ≤ length bytes → IsBytes bytes →
+    n ≡ from_be_bytes w64 (first_8 bytes) →
+    (low ≤ n) × (n ≤ high)
     → read_number 8 (within low high) bytes ≡ Ok (n, take (length bytes - 8) (drop 8 bytes))
 long_found low high n bytes some top long fits e le =
     let r = field_reads 8 low high some (omega arith) in
     let s : to_be_bytes w64 n ≡ first_8 bytes = be_bytes_8 (first_8 bytes) n refl (first_fits bytes fits) e in
-    let p : bytes ≡ to_be_bytes w64 n ++ drop 8 bytes = eight bytes long ∙ ap (λ (t : List ℕ). t ++ drop 8 bytes) (sym s) in
-    ap (read_number 8 (within low high)) p ∙ r.again n (drop 8 bytes) le ∙ ap (λ (t : List ℕ). Ok (n, t)) (sym (rest_of 8 bytes))
+    let p : bytes ≡ to_be_bytes w64 n ++ drop 8 bytes =
+    eight bytes long ∙ ap (λ (t : List ℕ). t ++ drop 8 bytes) (sym s) in
+    ap (read_number 8 (within low high)) p ∙ r.again n (drop 8 bytes) le
+    ∙ ap (λ (t : List ℕ). Ok (n, t)) (sym (rest_of 8 bytes))
 
-pub number_only : (w low high : ℕ) (bytes : List ℕ) (n : ℕ) (rest : List ℕ) → low ≤ high → high < 256 ^ w → read_number w (within low high) bytes ≡ Ok (n, rest) → (low ≤ n) × (n ≤ high)
+pub number_only : (w low high : ℕ) (bytes : List ℕ) (n : ℕ) (rest : List ℕ) → low ≤ high → high < 256 ^ w →
+    read_number w (within low high) bytes ≡ Ok (n, rest) →
+    (low ≤ n) × (n ≤ high)
 number_only w low high bytes n rest some top e = ((field_reads w low high some top).takes bytes n rest e).0
 
 -- the field's number is that of std
-pub field_is_long : (a b c d e f g h : ℕ) → field 0 8 (a ∷ b ∷ c ∷ d ∷ e ∷ f ∷ g ∷ h ∷ []) ≡ from_be_bytes w64 (a ∷ b ∷ c ∷ d ∷ e ∷ f ∷ g ∷ h ∷ [])
+pub field_is_long : (a b c d e f g h : ℕ) →
+    field 0 8 (a ∷ b ∷ c ∷ d ∷ e ∷ f ∷ g ∷ h ∷ []) ≡ from_be_bytes w64 (a ∷ b ∷ c ∷ d ∷ e ∷ f ∷ g ∷ h ∷ [])
 field_is_long a b c d e f g h = omega arith

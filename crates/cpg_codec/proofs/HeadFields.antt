@@ -1,5 +1,6 @@
 -- The fields of a head.
-use Rattle.std.proofs.Common.{◌≡◌, ℕ, zero, suc, ◌+◌, ◌-◌, ◌^◌, ◌<◌, ◌≤◌, Bool, true, false, cond, eqb, ltb, List, [], ◌∷◌, ◌++◌, length, Option, Some, None, refl, sym, ap, subst, ◌∙◌, append_assoc}
+use Rattle.std.proofs.Common.{◌≡◌, ℕ, zero, suc, ◌+◌, ◌-◌, ◌^◌, ◌<◌, ◌≤◌, Bool, true, false, cond, eqb, ltb, List, []}
+use Rattle.std.proofs.Common.{◌∷◌, ◌++◌, length, Option, Some, None, refl, sym, ap, subst, ◌∙◌, append_assoc}
 use Rattle.std.proofs.Common.{arith, inl, inr, ◌⊎◌, ◌↔◌}
 use Rattle.std.specs.Prelude.{IfSome, IsTrue}
 use Rattle.std.specs.List.{flat_map, AllByRecursion}
@@ -11,13 +12,17 @@ use Rattle.cpg_base.specs.Name.{IsName, is_name_byte}
 use Rattle.cpg_head.specs.Head.{Head, IsHeadEdge, version_of}
 use Rattle.cpg_head.specs.declared.head_parts.Extra.{Extra}
 use Rattle.cpg_codec.specs.Reading.{byte_by, within, down}
-use Rattle.cpg_codec.specs.Spelling.{Written, written, magic, bit, byte, name_bytes, deadline_number, extra_bytes, process_bytes, edge_bytes, head_bytes}
-use Rattle.cpg_codec.specs.Grammar.{read_name, read_time, deadline_may, read_deadline, read_extra, read_place, read_process, read_processes, read_edge, limit, head_from, read_head}
+use Rattle.cpg_codec.specs.Spelling.{Written, written, magic, bit, byte, name_bytes, deadline_number, extra_bytes}
+use Rattle.cpg_codec.specs.Spelling.{process_bytes, edge_bytes, head_bytes}
+use Rattle.cpg_codec.specs.Grammar.{read_name, read_time, deadline_may, read_deadline, read_extra, read_place}
+use Rattle.cpg_codec.specs.Grammar.{read_process, read_processes, read_edge, limit, head_from, read_head}
 use Rattle.cpg_codec.specs.Packs.{IsPackHead}
 use Rattle.cpg_codec.proofs.Laws.{Reads, pure_reads, seq, adapt, byte_reads}
 use Rattle.cpg_codec.proofs.Numbers.{IsChoice, within_chooses, number_reads, field_reads, small_reads}
 use Rattle.cpg_codec.proofs.Lists.{each_reads, times_reads, down_is}
-use Rattle.cpg_codec.proofs.WrittenHeads.{IsExtraOf, IsWritten, none_of, AreProcesses, version_made, written_made, made_lawful, written_length, head_again, head_processes, version_within, limit_some}
+use Rattle.cpg_codec.proofs.WrittenHeads.{IsExtraOf, IsWritten, none_of, AreProcesses, version_made, written_made}
+use Rattle.cpg_codec.proofs.WrittenHeads.{made_lawful, written_length, head_again, head_processes, version_within}
+use Rattle.cpg_codec.proofs.WrittenHeads.{limit_some}
 use Rattle.cpg_codec.proofs.WrittenHeads.{limit_most, processes_limit, edges_limit}
 
 -- ---- names
@@ -31,9 +36,11 @@ unfolding read_name
 name_reads =
     adapt
     (seq length (small_reads 1 32 (omega arith) (omega arith))
-    (λ c fc. times_reads (λ b. is_name_byte b ≡ true) (λ b. b ∷ []) (byte_by is_name_byte) c (λ _. byte_reads is_name_byte 65 refl))
+    (λ c fc. times_reads (λ b. is_name_byte b ≡ true) (λ b. b ∷ []) (byte_by is_name_byte) c
+    (λ _. byte_reads is_name_byte 65 refl))
     (λ c x fc fx. fx.0))
-    (λ x h. record { some = h.0.0; short = h.0.1; plain = All-from_recursion (λ (b : ℕ). IsTrue (is_name_byte b)) x h.1.1 })
+    (λ x h.
+    record { some = h.0.0; short = h.0.1; plain = All-from_recursion (λ (b : ℕ). IsTrue (is_name_byte b)) x h.1.1 })
     (λ x h. ((h.some, h.short), (refl, recursion_from_All (λ (b : ℕ). IsTrue (is_name_byte b)) x h.plain)))
     (λ x h. ap (λ (t : List ℕ). length x ∷ t) (singles x))
 
@@ -41,7 +48,8 @@ name_reads =
 
 pub time_reads : Reads (λ t. t < 2 ^ 60) (to_be_bytes w64) read_time
 unfolding read_time
-time_reads = adapt (field_reads 8 0 1152921504606846975 (omega arith) (omega arith)) (λ t h. omega (arith, h.1)) (λ t h. (omega arith, omega arith)) (λ t h. refl)
+time_reads = adapt (field_reads 8 0 1152921504606846975 (omega arith) (omega arith)) (λ t h. omega (arith, h.1))
+    (λ t h. (omega arith, omega arith)) (λ t h. refl)
 
 abbrev pub IsOwn : Option ℕ → Type 0
 IsOwn o = IfSome o (λ (d : ℕ). d ≤ 1000000000)
@@ -52,12 +60,16 @@ IsDeadlineNumber n = ((0 ≤ n) × (n ≤ 1000000000)) ⊎ ((1844674407370955161
 deadline_chooses : IsChoice IsDeadlineNumber deadline_may
 unfolding IsDeadlineNumber
 deadline_chooses = record {
-  found = λ from below lt e. elim (or_cases (within 0 1000000000 from below) (within 18446744073709551615 18446744073709551615 from below) e) [
-    | inl h ↦ let f = (within_chooses 0 1000000000 (omega arith)).found from below lt h in (f.0, f.1, f.2, inl f.3)
-    | inr h ↦ let f = (within_chooses 18446744073709551615 18446744073709551615 (omega arith)).found from below lt h in (f.0, f.1, f.2, inr f.3)
-  ];
+  found = λ from below lt e.
+      elim (or_cases (within 0 1000000000 from below) (within 18446744073709551615 18446744073709551615 from below) e) [
+        | inl h ↦ let f = (within_chooses 0 1000000000 (omega arith)).found from below lt h in (f.0, f.1, f.2, inl f.3)
+        | inr h ↦ let f =
+            (within_chooses 18446744073709551615 18446744073709551615 (omega arith)).found from below lt h in
+            (f.0, f.1, f.2, inr f.3)
+      ];
   all = λ from below n a b l. elim l [
-    | inl h ↦ or_left (within 0 1000000000 from below) (within 18446744073709551615 18446744073709551615 from below) ((within_chooses 0 1000000000 (omega arith)).all from below n a b h)
+    | inl h ↦ or_left (within 0 1000000000 from below) (within 18446744073709551615 18446744073709551615 from below)
+        ((within_chooses 0 1000000000 (omega arith)).all from below n a b h)
     | inr h ↦ or_right (within 0 1000000000 from below) (within 18446744073709551615 18446744073709551615 from below)
         ((within_chooses 18446744073709551615 18446744073709551615 (omega arith)).all from below n a b h)
   ];
@@ -81,12 +93,16 @@ deadline_to : (o : Option ℕ) → IsDeadlineNumber (deadline_number o) → o �
 unfolding IsDeadlineNumber
 deadline_to None h e = tt
 deadline_to (Some d) (inl h) e = h.1
-deadline_to (Some d) (inr h) e = let k : d ≡ 18446744073709551615 = omega (arith, h.0, h.1) in absurd (let q : Some d ≡ None = e ∙ rw k refl in cc)
+deadline_to (Some d) (inr h) e = let k : d ≡ 18446744073709551615 = omega (arith, h.0, h.1) in
+    absurd (let q : Some d ≡ None = e ∙ rw k refl in cc)
 
 deadline_from : (o : Option ℕ) → IsOwn o → IsDeadlineNumber (deadline_number o) × (o ≡ chosen (deadline_number o))
 unfolding IsDeadlineNumber
 deadline_from None h = (inr (omega arith, omega arith), refl)
-deadline_from (Some d) h = (inl (omega arith, h), let k : eqb d 18446744073709551615 ≡ false = ne_eqb d 18446744073709551615 (λ e. omega arith) in rw k refl)
+deadline_from (Some d) h = (
+  inl (omega arith, h),
+  let k : eqb d 18446744073709551615 ≡ false = ne_eqb d 18446744073709551615 (λ e. omega arith) in rw k refl,
+)
 
 deadline_zero : IsDeadlineNumber 0
 unfolding IsDeadlineNumber
@@ -96,7 +112,8 @@ pub deadline_reads : Reads IsOwn (λ o. to_be_bytes w64 (deadline_number o)) rea
 unfolding read_deadline
 deadline_reads =
     adapt
-    (seq deadline_number (number_reads IsDeadlineNumber deadline_may deadline_chooses 8 0 deadline_zero deadline_fits) (λ n fn. pure_reads (chosen n)) (λ n o fn e. ap deadline_number e ∙ chosen_back n))
+    (seq deadline_number (number_reads IsDeadlineNumber deadline_may deadline_chooses 8 0 deadline_zero deadline_fits)
+    (λ n fn. pure_reads (chosen n)) (λ n o fn e. ap deadline_number e ∙ chosen_back n))
     (λ o h. deadline_to o h.0 h.1) deadline_from (λ o h. append-nil (to_be_bytes w64 (deadline_number o)))
 
 -- ---- what version 2 adds
@@ -112,17 +129,22 @@ deadline_of (Some e) = e.deadline
 abbrev make_extra : ℕ → Option ℕ → Option Extra
 make_extra r d = Some (record { release = r; deadline = d })
 
-extra_some_to : (x : Option Extra) → ((0 ≤ release_of x) × (release_of x ≤ 1000000000)) × (IsOwn (deadline_of x) × (x ≡ make_extra (release_of x) (deadline_of x))) → IsExtraOf 2 x
+extra_some_to : (x : Option Extra) → ((0 ≤ release_of x) × (release_of x ≤ 1000000000)) ×
+    (IsOwn (deadline_of x) × (x ≡ make_extra (release_of x) (deadline_of x))) → IsExtraOf 2 x
 extra_some_to None h = absurd (let e : None ≡ make_extra 0 None = h.1.1 in cc)
 extra_some_to (Some e) h = (refl, record { release = h.0.1; deadline = h.1.0 })
 
-extra_some_from : (x : Option Extra) → IsExtraOf 2 x → ((0 ≤ release_of x) × (release_of x ≤ 1000000000)) × (IsOwn (deadline_of x) × (x ≡ make_extra (release_of x) (deadline_of x)))
+extra_some_from : (x : Option Extra) → IsExtraOf 2 x →
+    ((0 ≤ release_of x) × (release_of x ≤ 1000000000)) ×
+    (IsOwn (deadline_of x) × (x ≡ make_extra (release_of x) (deadline_of x)))
 extra_some_from None h = absurd (omega (arith, h))
 extra_some_from (Some e) h = ((omega arith, h.1.release), (h.1.deadline, refl))
 
-extra_some_spell : (x : Option Extra) → IsExtraOf 2 x → to_be_bytes w64 (release_of x) ++ (to_be_bytes w64 (deadline_number (deadline_of x)) ++ []) ≡ extra_bytes x
+extra_some_spell : (x : Option Extra) → IsExtraOf 2 x →
+    to_be_bytes w64 (release_of x) ++ (to_be_bytes w64 (deadline_number (deadline_of x)) ++ []) ≡ extra_bytes x
 extra_some_spell None h = absurd (omega (arith, h))
-extra_some_spell (Some e) h = ap (λ (t : List ℕ). to_be_bytes w64 e.release ++ t) (append-nil (to_be_bytes w64 (deadline_number e.deadline)))
+extra_some_spell (Some e) h =
+    ap (λ (t : List ℕ). to_be_bytes w64 e.release ++ t) (append-nil (to_be_bytes w64 (deadline_number e.deadline)))
 
 extra_none_to : (x : Option Extra) → x ≡ None → IsExtraOf 1 x
 extra_none_to x e = rw e refl
@@ -151,7 +173,8 @@ extra_reads (suc (suc (suc n))) a b = absurd (omega arith)
 regroup_5 : (a b c d e : List ℕ) → a ++ (b ++ (c ++ (d ++ (e ++ [])))) ≡ a ++ b ++ c ++ d ++ e
 regroup_5 a b c d e = simp (append_assoc, append-nil)
 
-regroup_9 : (a b c d e f g h i : List ℕ) → a ++ (b ++ (c ++ (d ++ (e ++ (f ++ (g ++ (h ++ (i ++ [])))))))) ≡ a ++ b ++ c ++ d ++ e ++ f ++ g ++ h ++ i
+regroup_9 : (a b c d e f g h i : List ℕ) →
+    a ++ (b ++ (c ++ (d ++ (e ++ (f ++ (g ++ (h ++ (i ++ [])))))))) ≡ a ++ b ++ c ++ d ++ e ++ f ++ g ++ h ++ i
 regroup_9 a b c d e f g h i = simp (append_assoc, append-nil)
 
 flag_is : (b : Bool) → eqb (bit b) 1 ≡ b
@@ -188,15 +211,21 @@ flag_end ones = elim (cases_Bool (ltb ones 32)) [
 abbrev make_process : List ℕ → ℕ → ℕ → List ℕ → Option Extra → Written
 make_process n a c ts e = record { process = record { name = n; node = a; condition = eqb c 1; times = ts }; extra = e }
 
-same_process : (w : Written) → w ≡ make_process w.process.name w.process.node (bit w.process.condition) w.process.times w.extra
-same_process w = ap (λ (c : Bool). record { process = record { name = w.process.name; node = w.process.node; condition = c; times = w.process.times }; extra = w.extra })
+same_process : (w : Written) →
+    w ≡ make_process w.process.name w.process.node (bit w.process.condition) w.process.times w.extra
+same_process w = ap (λ (c : Bool). record {
+  process = record { name = w.process.name; node = w.process.node; condition = c; times = w.process.times };
+  extra = w.extra;
+})
     (sym (flag_is w.process.condition))
 
 -- a process behind `ones` processes with a condition
 abbrev pub FitsBehind : ℕ → ℕ → ℕ → ℕ → Written → Type 0
 FitsBehind version faults nodes ones w = IsWritten version faults nodes w × (ones + bit w.process.condition ≤ 32)
 
-pub place_reads : (nodes ones : ℕ) → 0 < nodes → nodes ≤ 256 → Reads (λ (p : ℕ × ℕ). (p.0 ≤ nodes - 1) × (p.1 ≤ cond (ltb ones 32) 1 0)) (λ (p : ℕ × ℕ). byte p.0 ++ byte p.1) (read_place nodes ones)
+pub place_reads : (nodes ones : ℕ) → 0 < nodes → nodes ≤ 256 →
+    Reads (λ (p : ℕ × ℕ). (p.0 ≤ nodes - 1) × (p.1 ≤ cond (ltb ones 32) 1 0)) (λ (p : ℕ × ℕ). byte p.0 ++ byte p.1)
+    (read_place nodes ones)
 unfolding read_place
 place_reads nodes ones some few =
     adapt
@@ -215,17 +244,24 @@ unfolding read_process
 process_reads version faults nodes ones v1 v2 some few le =
     adapt
     (seq (λ (w : Written). w.process.name) name_reads
-    (λ n fn. seq (λ (w : Written). (w.process.node, bit w.process.condition)) (place_reads nodes ones some (omega arith))
-    (λ a fa. seq (λ (w : Written). w.process.times) (times_reads (λ t. t < 2 ^ 60) (to_be_bytes w64) read_time (faults + 1) (λ _. time_reads))
+    (λ n fn.
+    seq (λ (w : Written). (w.process.node, bit w.process.condition)) (place_reads nodes ones some (omega arith))
+    (λ a fa. seq (λ (w : Written). w.process.times)
+    (times_reads (λ t. t < 2 ^ 60) (to_be_bytes w64) read_time (faults + 1) (λ _. time_reads))
     (λ ts fts. seq (λ (w : Written). w.extra) (extra_reads version v1 v2)
     (λ e fe. pure_reads (make_process n a.0 a.1 ts e))
     (λ e w fe h. ap (λ (q : Written). q.extra) h))
     (λ ts w fts h. ap (λ (q : Written). q.process.times) h.1))
-    (λ a w fa h. ap (λ (q : Written). (q.process.node, bit q.process.condition)) h.1.1 ∙ ap (λ (c : ℕ). (a.0, c)) (flag_back a.1 ones fa.1)))
+    (λ a w fa h. ap (λ (q : Written). (q.process.node, bit q.process.condition)) h.1.1
+    ∙ ap (λ (c : ℕ). (a.0, c)) (flag_back a.1 ones fa.1)))
     (λ n w fn h. ap (λ (q : Written). q.process.name) h.1.1.1))
     (λ w h. (
       record {
-        process = record { node = omega (arith, h.1.0.0); count = h.1.1.0.0; times = All-from_recursion (λ (t : ℕ). t < 2 ^ 60) w.process.times h.1.1.0.1 };
+        process = record {
+          node = omega (arith, h.1.0.0);
+          count = h.1.1.0.0;
+          times = All-from_recursion (λ (t : ℕ). t < 2 ^ 60) w.process.times h.1.1.0.1;
+        };
         name = h.0;
         extra =
             h.1.1.1.0;
@@ -236,26 +272,37 @@ process_reads version faults nodes ones v1 v2 some few le =
       h.0.name,
       (
         (omega (arith, h.0.process.node), (flag_limit ones w.process.condition le).1 h.1),
-        ((h.0.process.count, recursion_from_All (λ (t : ℕ). t < 2 ^ 60) w.process.times h.0.process.times), (h.0.extra, same_process w)),
+        (
+          (h.0.process.count, recursion_from_All (λ (t : ℕ). t < 2 ^ 60) w.process.times h.0.process.times),
+          (h.0.extra, same_process w),
+        ),
       ),
     ))
-    (λ w h. regroup_5 (name_bytes w.process.name) (byte w.process.node) (byte (bit w.process.condition)) (flat_map (to_be_bytes w64) w.process.times) (extra_bytes w.extra))
+    (λ w h. regroup_5 (name_bytes w.process.name) (byte w.process.node) (byte (bit w.process.condition))
+    (flat_map (to_be_bytes w64) w.process.times) (extra_bytes w.extra))
 
-pub processes_reads : (version faults nodes count : ℕ) → 1 ≤ version → version ≤ 2 → nodes ≤ 16 → count ≤ limit nodes 128 →
-    Reads (AreProcesses version faults nodes count 0) (flat_map process_bytes) (read_processes version faults nodes count)
+pub processes_reads : (version faults nodes count : ℕ) → 1 ≤ version → version ≤ 2 → nodes ≤ 16 →
+    count ≤ limit nodes 128 →
+    Reads (AreProcesses version faults nodes count 0) (flat_map process_bytes)
+    (read_processes version faults nodes count)
 unfolding read_processes
 processes_reads version faults nodes count v1 v2 few le =
     adapt
-    (each_reads (λ (ones : ℕ) (w : Written). ones + bit w.process.condition) (λ (left : ℕ) ones. read_process version faults nodes ones)
-    (λ ls ones. (ones ≤ 32) × (0 < length ls → 0 < nodes)) (λ l ls ones. FitsBehind version faults nodes ones) process_bytes (λ ls ones ws. AreProcesses version faults nodes (length ls) ones ws)
+    (each_reads (λ (ones : ℕ) (w : Written). ones + bit w.process.condition)
+    (λ (left : ℕ) ones. read_process version faults nodes ones)
+    (λ ls ones. (ones ≤ 32) × (0 < length ls → 0 < nodes)) (λ l ls ones. FitsBehind version faults nodes ones)
+    process_bytes (λ ls ones ws. AreProcesses version faults nodes (length ls) ones ws)
     (λ l ls ones i. process_reads version faults nodes ones v1 v2 (i.1 (omega arith)) few i.0)
     (λ l ls ones w i f. (f.1, λ h. i.1 (omega arith)))
     (λ ones i. record { count_is = refl; each = tt; conditions = omega (arith, i.0) })
     (λ ones w ws g. absurd (let h : suc (length ws) ≡ 0 = g.count_is in omega arith))
     (λ l ls ones g. absurd (let h : 0 ≡ suc (length ls) = g.count_is in omega arith))
-    (λ l ls ones w ws i f g. record { count_is = ap suc g.count_is; each = (f.0, g.each); conditions = omega (arith, g.conditions) })
-    (λ l ls ones w ws i g. let h : suc (length ws) ≡ suc (length ls) = g.count_is in
-    ((g.each.0, omega (arith, g.conditions)), record { count_is = omega arith; each = g.each.1; conditions = omega (arith, g.conditions) }))
+    (λ l ls ones w ws i f g.
+    record { count_is = ap suc g.count_is; each = (f.0, g.each); conditions = omega (arith, g.conditions) })
+    (λ l ls ones w ws i g. let h : suc (length ws) ≡ suc (length ls) = g.count_is in (
+      (g.each.0, omega (arith, g.conditions)),
+      record { count_is = omega arith; each = g.each.1; conditions = omega (arith, g.conditions) },
+    ))
     (down count) 0 (omega arith, λ h. limit_some nodes 128 count le (omega (arith, down_is count))))
     (λ ws g. record { count_is = g.count_is ∙ down_is count; each = g.each; conditions = g.conditions })
     (λ ws g. record { count_is = g.count_is ∙ sym (down_is count); each = g.each; conditions = g.conditions })
@@ -263,7 +310,8 @@ processes_reads version faults nodes count v1 v2 few le =
 
 -- ---- edges
 
-pub edge_reads : (processes : ℕ) → 0 < processes → processes ≤ 256 → Reads (IsHeadEdge processes) edge_bytes (read_edge processes)
+pub edge_reads : (processes : ℕ) → 0 < processes → processes ≤ 256 →
+    Reads (IsHeadEdge processes) edge_bytes (read_edge processes)
 unfolding read_edge
 edge_reads processes some few =
     adapt
@@ -281,8 +329,10 @@ edge_reads processes some few =
 head_spell : (h : Head) → to_be_bytes w32 magic ++
     (byte (version_of h) ++ (byte h.faults ++
     (byte (length h.nodes) ++ (flat_map name_bytes h.nodes ++
-    (byte (length h.processes) ++ (flat_map process_bytes (written h) ++ (to_be_bytes w16 (length h.edges) ++ (flat_map edge_bytes h.edges ++ [])))))))) ≡ head_bytes h
-head_spell h = regroup_9 (to_be_bytes w32 magic) (byte (version_of h)) (byte h.faults) (byte (length h.nodes)) (flat_map name_bytes h.nodes) (byte (length h.processes))
+    (byte (length h.processes) ++ (flat_map process_bytes (written h)
+    ++ (to_be_bytes w16 (length h.edges) ++ (flat_map edge_bytes h.edges ++ [])))))))) ≡ head_bytes h
+head_spell h = regroup_9 (to_be_bytes w32 magic) (byte (version_of h)) (byte h.faults) (byte (length h.nodes))
+    (flat_map name_bytes h.nodes) (byte (length h.processes))
     (flat_map process_bytes (written h)) (to_be_bytes w16 (length h.edges)) (flat_map edge_bytes h.edges)
 
 -- the fields in their order, as they stand in a head
@@ -301,7 +351,8 @@ from_parts : (h : Head) → Parts h → IsPackHead h
 from_parts h p =
     let n = written_length h in
     subst IsPackHead (sym p.same)
-    (made_lawful (version_of h) h.faults h.nodes (written h) h.edges p.version.1 p.faults p.few_nodes p.nodes (omega (arith, n, p.few, limit_most (length h.nodes) 128))
+    (made_lawful (version_of h) h.faults h.nodes (written h) h.edges p.version.1 p.faults p.few_nodes p.nodes
+    (omega (arith, n, p.few, limit_most (length h.nodes) 128))
     (subst (λ (c : ℕ). AreProcesses (version_of h) h.faults (length h.nodes) c 0 (written h)) (sym n) p.processes)
     (omega (arith, p.few_edges, limit_most (length h.processes) 256))
     (subst (λ (c : ℕ). AllByRecursion (IsHeadEdge c) h.edges) (sym n) p.edges))
@@ -328,10 +379,13 @@ head_reads =
     (λ v fv. seq (λ (h : Head). h.faults) (small_reads 0 8 (omega arith) (omega arith))
     (λ k fk. seq (λ (h : Head). length h.nodes) (small_reads 0 16 (omega arith) (omega arith))
     (λ n fn. seq (λ (h : Head). h.nodes) (times_reads IsName name_bytes read_name n (λ _. name_reads))
-    (λ ns fns. seq (λ (h : Head). length h.processes) (small_reads 0 (limit n 128) (omega arith) (omega (arith, limit_most n 128)))
+    (λ ns fns. seq (λ (h : Head). length h.processes)
+    (small_reads 0 (limit n 128) (omega arith) (omega (arith, limit_most n 128)))
     (λ c fc. seq written (processes_reads v k n c fv.0 fv.1 fn.1 fc.1)
-    (λ ws fws. seq (λ (h : Head). length h.edges) (field_reads 2 0 (limit c 256) (omega arith) (omega (arith, limit_most c 256)))
-    (λ e fe. seq (λ (h : Head). h.edges) (times_reads (IsHeadEdge c) edge_bytes (read_edge c) e (λ some. edge_reads c (limit_some c 256 e fe.1 some) (omega (arith, fc.1, limit_most n 128))))
+    (λ ws fws. seq (λ (h : Head). length h.edges)
+    (field_reads 2 0 (limit c 256) (omega arith) (omega (arith, limit_most c 256)))
+    (λ e fe. seq (λ (h : Head). h.edges) (times_reads (IsHeadEdge c) edge_bytes (read_edge c) e
+    (λ some. edge_reads c (limit_some c 256 e fe.1 some) (omega (arith, fc.1, limit_most n 128))))
     (λ es fes. pure_reads (head_from v k ns ws es))
     (λ es h fes q. ap (λ (x : Head). x.edges) q))
     (λ e h fe q. q.0.0))

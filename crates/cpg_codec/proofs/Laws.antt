@@ -1,9 +1,12 @@
 -- What a reader is, and that readers one after another are readers.
-use Rattle.std.proofs.Common.{◌≡◌, ℕ, suc, Bool, true, false, cond, List, [], ◌∷◌, ◌++◌, length, Result, Ok, Err, refl, sym, ap, subst, ◌∙◌, append_assoc, inl, inr, ◌⊎◌}
+use Rattle.std.proofs.Common.{◌≡◌, ℕ, suc, Bool, true, false, cond, List, [], ◌∷◌, ◌++◌, length, Result, Ok, Err, refl}
+use Rattle.std.proofs.Common.{sym, ap, subst, ◌∙◌, append_assoc, inl, inr, ◌⊎◌}
 use Rattle.cpg_codec.specs.Reading.{Reader, pure, onward, ◌>>=◌, byte_by}
 
--- where a reader stops: behind the good bytes, which some value's spelling begins with; the byte after them stops it whatever follows
-pub record Stop {A : Type 0} (Fits : A → Type 0) (spell : A → List ℕ) (read : Reader A) (bytes : List ℕ) (left : ℕ) : Type 0 where
+-- where a reader stops: behind the good bytes, which some value's spelling begins with; the byte after them stops it
+-- whatever follows
+pub record Stop {A : Type 0} (Fits : A → Type 0) (spell : A → List ℕ) (read : Reader A) (bytes : List ℕ)
+    (left : ℕ) : Type 0 where
   pub good : List ℕ
   pub bad : List ℕ
   pub whole : bytes ≡ good ++ bad
@@ -22,11 +25,13 @@ pub record Reads {A : Type 0} (Fits : A → Type 0) (spell : A → List ℕ) (re
   pub again : (x : A) (rest : List ℕ) → Fits x → read (spell x ++ rest) ≡ Ok (x, rest)
   pub stops : (bytes : List ℕ) (left : ℕ) → read bytes ≡ Err left → Stop Fits spell read bytes left
 
-pub onward_ok : {A B : Type 0} (f : A → Reader B) (r : Result (A × List ℕ) ℕ) (y : B × List ℕ) → onward f r ≡ Ok y → (x : A × List ℕ) × (r ≡ Ok x) × (f x.0 x.1 ≡ Ok y)
+pub onward_ok : {A B : Type 0} (f : A → Reader B) (r : Result (A × List ℕ) ℕ) (y : B × List ℕ) → onward f r ≡ Ok y →
+    (x : A × List ℕ) × (r ≡ Ok x) × (f x.0 x.1 ≡ Ok y)
 onward_ok f (Ok x) y e = (x, refl, e)
 onward_ok f (Err d) y e = absurd cc
 
-pub onward_err : {A B : Type 0} (f : A → Reader B) (r : Result (A × List ℕ) ℕ) (left : ℕ) → onward f r ≡ Err left → (r ≡ Err left) ⊎ ((x : A × List ℕ) × (r ≡ Ok x) × (f x.0 x.1 ≡ Err left))
+pub onward_err : {A B : Type 0} (f : A → Reader B) (r : Result (A × List ℕ) ℕ) (left : ℕ) → onward f r ≡ Err left →
+    (r ≡ Err left) ⊎ ((x : A × List ℕ) × (r ≡ Ok x) × (f x.0 x.1 ≡ Err left))
 onward_err f (Ok x) left e = inr (x, refl, e)
 onward_err f (Err d) left e = inl cc
 
@@ -40,13 +45,16 @@ pub pure_reads : {A : Type 0} (x : A) → Reads (λ y. y ≡ x) (λ y. []) (pure
 pure_reads x = record {
   some = x;
   some_fits = refl;
-  takes = λ bytes y rest e. let h = ok_is (x, bytes) (y, rest) e in (sym (ap (λ (p : _ × List ℕ). p.0) h), ap (λ (p : _ × List ℕ). p.1) h);
+  takes = λ bytes y rest e. let h = ok_is (x, bytes) (y, rest) e in
+      (sym (ap (λ (p : _ × List ℕ). p.0) h), ap (λ (p : _ × List ℕ). p.1) h);
   again = λ y rest h. rw h refl;
   stops = λ bytes left e. absurd cc;
 }
 
-module _ {A X : Type 0} (F1 : A → Type 0) (s1 : A → List ℕ) (r1 : Reader A) (F2 : A → X → Type 0) (s2 : A → X → List ℕ) (r2 : A → Reader X) (first : X → A)
-    (one : Reads F1 s1 r1) (two : (a : A) → F1 a → Reads (F2 a) (s2 a) (r2 a)) (same : (a : A) (x : X) → F1 a → F2 a x → first x ≡ a) where
+module _ {A X : Type 0} (F1 : A → Type 0) (s1 : A → List ℕ) (r1 : Reader A) (F2 : A → X → Type 0) (s2 : A → X → List ℕ)
+    (r2 : A → Reader X) (first : X → A)
+    (one : Reads F1 s1 r1) (two : (a : A) → F1 a → Reads (F2 a) (s2 a) (r2 a))
+    (same : (a : A) (x : X) → F1 a → F2 a x → first x ≡ a) where
   abbrev pub Both : X → Type 0
   Both x = F1 (first x) × F2 (first x) x
 
@@ -70,11 +78,14 @@ module _ {A X : Type 0} (F1 : A → Type 0) (s1 : A → List ℕ) (r1 : Reader A
         value = l.some;
         fits = from_first s.value l.some s.fits l.some_fits;
         more = s.more ++ s2 s.value l.some;
-        goes_on = both_is s.value l.some s.fits l.some_fits ∙ ap (λ (t : List ℕ). t ++ s2 s.value l.some) s.goes_on ∙ append_assoc s.good s.more (s2 s.value l.some);
+        goes_on = both_is s.value l.some s.fits l.some_fits ∙ ap (λ (t : List ℕ). t ++ s2 s.value l.some) s.goes_on
+            ∙ append_assoc s.good s.more (s2 s.value l.some);
         stays = λ b tail after e. ap (onward r2) (s.stays b tail after e);
       }
 
-  stop_second : (bytes : List ℕ) (left : ℕ) (a : A) (rest : List ℕ) → F1 a → bytes ≡ s1 a ++ rest → Stop (F2 a) (s2 a) (r2 a) rest left → Stop Both both (r1 >>= r2) bytes left
+  stop_second : (bytes : List ℕ) (left : ℕ) (a : A) (rest : List ℕ) → F1 a → bytes ≡ s1 a ++ rest →
+      Stop (F2 a) (s2 a) (r2 a) rest left →
+      Stop Both both (r1 >>= r2) bytes left
   stop_second bytes left a rest fa parts s =
       record {
         good = s1 a ++ s.good;
@@ -84,40 +95,51 @@ module _ {A X : Type 0} (F1 : A → Type 0) (s1 : A → List ℕ) (r1 : Reader A
         value = s.value;
         fits = from_first a s.value fa s.fits;
         more = s.more;
-        goes_on = both_is a s.value fa s.fits ∙ ap (λ (t : List ℕ). s1 a ++ t) s.goes_on ∙ sym (append_assoc (s1 a) s.good s.more);
-        stays = λ b tail after e. ap (λ (t : List ℕ). onward r2 (r1 t)) (append_assoc (s1 a) s.good (b ∷ after)) ∙ ap (onward r2) (one.again a (s.good ++ b ∷ after) fa) ∙ s.stays b tail after e;
+        goes_on = both_is a s.value fa s.fits ∙ ap (λ (t : List ℕ). s1 a ++ t) s.goes_on
+            ∙ sym (append_assoc (s1 a) s.good s.more);
+        stays = λ b tail after e. ap (λ (t : List ℕ). onward r2 (r1 t)) (append_assoc (s1 a) s.good (b ∷ after))
+            ∙ ap (onward r2) (one.again a (s.good ++ b ∷ after) fa) ∙ s.stays b tail after e;
       }
 
   pub then_reads : Reads Both both (r1 >>= r2)
   then_reads = record {
     some = (two one.some one.some_fits).some;
-    some_fits = from_first one.some (two one.some one.some_fits).some one.some_fits (two one.some one.some_fits).some_fits;
+    some_fits =
+        from_first one.some (two one.some one.some_fits).some one.some_fits (two one.some one.some_fits).some_fits;
     takes = λ bytes x rest e.
         let o = onward_ok r2 (r1 bytes) (x, rest) e in
         let t = one.takes bytes o.0.0 o.0.1 o.1 in
-        let u = (two o.0.0 t.0).takes o.0.1 x rest o.2 in
-        (from_first o.0.0 x t.0 u.0, t.1 ∙ ap (λ (l : List ℕ). s1 o.0.0 ++ l) u.1 ∙ sym (append_assoc (s1 o.0.0) (s2 o.0.0 x) rest) ∙ ap (λ (l : List ℕ). l ++ rest) (sym (both_is o.0.0 x t.0 u.0)));
+        let u = (two o.0.0 t.0).takes o.0.1 x rest o.2 in (
+          from_first o.0.0 x t.0 u.0,
+          t.1 ∙ ap (λ (l : List ℕ). s1 o.0.0 ++ l) u.1 ∙ sym (append_assoc (s1 o.0.0) (s2 o.0.0 x) rest)
+              ∙ ap (λ (l : List ℕ). l ++ rest) (sym (both_is o.0.0 x t.0 u.0)),
+        );
     again = λ x rest h.
-        ap (λ (t : List ℕ). onward r2 (r1 t)) (append_assoc (s1 (first x)) (s2 (first x) x) rest) ∙ ap (onward r2) (one.again (first x) (s2 (first x) x ++ rest) h.0) ∙
+        ap (λ (t : List ℕ). onward r2 (r1 t)) (append_assoc (s1 (first x)) (s2 (first x) x) rest)
+        ∙ ap (onward r2) (one.again (first x) (s2 (first x) x ++ rest) h.0) ∙
         (two (first x) h.0).again x rest h.1;
     stops = λ bytes left e. elim (onward_err r2 (r1 bytes) left e) [
       | inl d ↦ stop_first bytes left (one.stops bytes left d)
-      | inr o ↦ let t = one.takes bytes o.0.0 o.0.1 o.1 in stop_second bytes left o.0.0 o.0.1 t.0 t.1 ((two o.0.0 t.0).stops o.0.1 left o.2)
+      | inr o ↦ let t = one.takes bytes o.0.0 o.0.1 o.1 in
+          stop_second bytes left o.0.0 o.0.1 t.0 t.1 ((two o.0.0 t.0).stops o.0.1 left o.2)
     ];
   }
 
 -- the same, where antt finds what the parts are
-pub seq : {A X : Type 0} {F1 : A → Type 0} {s1 : A → List ℕ} {r1 : Reader A} {F2 : A → X → Type 0} {s2 : A → X → List ℕ} {r2 : A → Reader X} (first : X → A)
+pub seq : {A X : Type 0} {F1 : A → Type 0} {s1 : A → List ℕ} {r1 : Reader A} {F2 : A → X → Type 0} {s2 : A → X → List ℕ}
+    {r2 : A → Reader X} (first : X → A)
     → Reads F1 s1 r1 → ((a : A) → F1 a → Reads (F2 a) (s2 a) (r2 a)) → ((a : A) (x : X) → F1 a → F2 a x → first x ≡ a)
     → Reads (λ x. F1 (first x) × F2 (first x) x) (λ x. s1 (first x) ++ s2 (first x) x) (r1 >>= r2)
 seq {A} {X} {F1} {s1} {r1} {F2} {s2} {r2} first one two same = then_reads F1 s1 r1 F2 s2 r2 first one two same
 
 -- the same reader by other words
-pub adapt : {A : Type 0} {F G : A → Type 0} {s t : A → List ℕ} {r : Reader A} → Reads F s r → ((x : A) → F x → G x) → ((x : A) → G x → F x) → ((x : A) → G x → s x ≡ t x) → Reads G t r
+pub adapt : {A : Type 0} {F G : A → Type 0} {s t : A → List ℕ} {r : Reader A} → Reads F s r → ((x : A) → F x → G x) →
+    ((x : A) → G x → F x) → ((x : A) → G x → s x ≡ t x) → Reads G t r
 adapt {A} {F} {G} {s} {t} {r} l to from same = record {
   some = l.some;
   some_fits = to l.some l.some_fits;
-  takes = λ bytes x rest e. let u = l.takes bytes x rest e in (to x u.0, u.1 ∙ ap (λ (k : List ℕ). k ++ rest) (same x (to x u.0)));
+  takes = λ bytes x rest e. let u = l.takes bytes x rest e in
+      (to x u.0, u.1 ∙ ap (λ (k : List ℕ). k ++ rest) (same x (to x u.0)));
   again = λ x rest h. ap r (ap (λ (k : List ℕ). k ++ rest) (sym (same x h))) ∙ l.again x rest (from x h);
   stops = λ bytes left e. let s0 = l.stops bytes left e in record {
     good = s0.good;
@@ -139,22 +161,39 @@ byte_step ok b bytes h = rw h refl
 byte_stop : (ok : ℕ → Bool) (b : ℕ) (bytes : List ℕ) → ok b ≡ false → byte_by ok (b ∷ bytes) ≡ Err (suc (length bytes))
 byte_stop ok b bytes h = rw h refl
 
-byte_took : (ok : ℕ → Bool) (b : ℕ) (bytes : List ℕ) (c : ℕ) (rest : List ℕ) (t : Bool) → t ≡ ok b → cond {A = Result (ℕ × List ℕ) ℕ} t (Ok (b, bytes)) (Err (suc (length bytes))) ≡ done (c, rest) →
+byte_took : (ok : ℕ → Bool) (b : ℕ) (bytes : List ℕ) (c : ℕ) (rest : List ℕ) (t : Bool) → t ≡ ok b →
+    cond {A = Result (ℕ × List ℕ) ℕ} t (Ok (b, bytes)) (Err (suc (length bytes))) ≡ done (c, rest) →
     (ok c ≡ true) × (b ∷ bytes ≡ c ∷ rest)
-byte_took ok b bytes c rest true h e = let k = ok_is (b, bytes) (c, rest) e in (subst (λ (x : ℕ). ok x ≡ true) (ap (λ (p : ℕ × List ℕ). p.0) k) (sym h), ap (λ (p : ℕ × List ℕ). p.0 ∷ p.1) k)
+byte_took ok b bytes c rest true h e = let k = ok_is (b, bytes) (c, rest) e in
+    (subst (λ (x : ℕ). ok x ≡ true) (ap (λ (p : ℕ × List ℕ). p.0) k) (sym h), ap (λ (p : ℕ × List ℕ). p.0 ∷ p.1) k)
 byte_took ok b bytes c rest false h e = absurd cc
 
-byte_not : (ok : ℕ → Bool) (b : ℕ) (bytes : List ℕ) (left : ℕ) (t : Bool) → t ≡ ok b → cond {A = Result (ℕ × List ℕ) ℕ} t (Ok (b, bytes)) (Err (suc (length bytes))) ≡ Err left → (ok b ≡ false) ×
+byte_not : (ok : ℕ → Bool) (b : ℕ) (bytes : List ℕ) (left : ℕ) (t : Bool) → t ≡ ok b →
+    cond {A = Result (ℕ × List ℕ) ℕ} t (Ok (b, bytes)) (Err (suc (length bytes))) ≡ Err left →
+    (ok b ≡ false) ×
     (left ≡ suc (length bytes))
 byte_not ok b bytes left true h e = absurd cc
 byte_not ok b bytes left false h e = (sym h, cc)
 
-byte_takes : (ok : ℕ → Bool) (bytes : List ℕ) (c : ℕ) (rest : List ℕ) → byte_by ok bytes ≡ Ok (c, rest) → (ok c ≡ true) × (bytes ≡ c ∷ rest)
+byte_takes : (ok : ℕ → Bool) (bytes : List ℕ) (c : ℕ) (rest : List ℕ) → byte_by ok bytes ≡ Ok (c, rest) →
+    (ok c ≡ true) × (bytes ≡ c ∷ rest)
 byte_takes ok [] c rest e = absurd cc
 byte_takes ok (b ∷ bytes) c rest e = byte_took ok b bytes c rest (ok b) refl e
 
-byte_stops : (ok : ℕ → Bool) (some : ℕ) (fits : ok some ≡ true) (bytes : List ℕ) (left : ℕ) → byte_by ok bytes ≡ Err left → Stop (λ b. ok b ≡ true) (λ b. b ∷ []) (byte_by ok) bytes left
-byte_stops ok some fits [] left e = record { good = []; bad = []; whole = refl; left_is = cc; value = some; fits = fits; more = some ∷ []; goes_on = refl; stays = λ b tail after h. absurd cc }
+byte_stops : (ok : ℕ → Bool) (some : ℕ) (fits : ok some ≡ true) (bytes : List ℕ) (left : ℕ) →
+    byte_by ok bytes ≡ Err left →
+    Stop (λ b. ok b ≡ true) (λ b. b ∷ []) (byte_by ok) bytes left
+byte_stops ok some fits [] left e = record {
+  good = [];
+  bad = [];
+  whole = refl;
+  left_is = cc;
+  value = some;
+  fits = fits;
+  more = some ∷ [];
+  goes_on = refl;
+  stays = λ b tail after h. absurd cc;
+}
 byte_stops ok some fits (b ∷ bytes) left e =
     let n = byte_not ok b bytes left (ok b) refl e in
     record {

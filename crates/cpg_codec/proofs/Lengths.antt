@@ -1,5 +1,6 @@
 -- How long a spelling is at most.
-use Rattle.std.proofs.Common.{◌≡◌, ℕ, ◌+◌, ◌-◌, ◌*◌, max, ◌≤◌, Bool, true, false, cond, eqb, ltb, not, List, [], ◌∷◌, ◌++◌, length, Option, None, Some, refl, sym, ap, ◌∙◌, arith}
+use Rattle.std.proofs.Common.{◌≡◌, ℕ, ◌+◌, ◌-◌, ◌*◌, max, ◌≤◌, Bool, true, false, cond, eqb, ltb, not, List, [], ◌∷◌}
+use Rattle.std.proofs.Common.{◌++◌, length, Option, None, Some, refl, sym, ap, ◌∙◌, arith}
 use Rattle.std.specs.Prelude.{All, unwrap_or, sum_by}
 use Rattle.std.specs.List.{flat_map, AllByRecursion}
 use Rattle.std.specs.Int.{w16, w32, w64, to_be_bytes}
@@ -14,14 +15,16 @@ use Rattle.cpg_head.specs.Head.{Head, IsHead, IsHeadProcess, version_of}
 use Rattle.cpg_head.specs.declared.head_parts.HeadProcess.{HeadProcess}
 use Rattle.cpg_head.specs.declared.head_parts.Extra.{Extra}
 use Rattle.cpg_table.specs.declared.space.VariableSpace.{VariableSpace}
-use Rattle.cpg_table.specs.Items.{numbers_where, conditioned, starts_of, sends_of, hears_of, leaves, enters, first_message, first_broadcast}
+use Rattle.cpg_table.specs.Items.{numbers_where, conditioned, starts_of, sends_of, hears_of, leaves, enters}
+use Rattle.cpg_table.specs.Items.{first_message, first_broadcast}
 use Rattle.cpg_table.specs.Lawful.{IsLawfulColumn, IsLawfulRow, IsTableOf, column_count, rows_of, space_of}
 use Rattle.cpg_table.specs.Table.{Row, NodeTable, table_at}
 use Rattle.cpg_cube.specs.Column.{Column}
 use Rattle.cpg_codec.specs.Grammar.{IsSpace, fault_end}
 use Rattle.cpg_codec.specs.Lengths.{AllShort}
 use Rattle.cpg_codec.specs.Packs.{IsPackHead}
-use Rattle.cpg_codec.specs.Spelling.{head_bytes, name_bytes, process_bytes, extra_bytes, edge_bytes, literal_bytes, column_bytes, row_bytes, table_bytes, byte, bit, deadline_number, magic, Written}
+use Rattle.cpg_codec.specs.Spelling.{head_bytes, name_bytes, process_bytes, extra_bytes, edge_bytes, literal_bytes}
+use Rattle.cpg_codec.specs.Spelling.{column_bytes, row_bytes, table_bytes, byte, bit, deadline_number, magic, Written}
 use Rattle.cpg_codec.specs.Spelling.{written, written_by}
 use Rattle.cpg_codec.proofs.TableFields.{head_space}
 use Rattle.cpg_codec.proofs.ColumnFields.{few_fault, literals_room, column_literals}
@@ -29,23 +32,33 @@ use Rattle.cpg_codec.proofs.ColumnFields.{few_fault, literals_room, column_liter
 -- ---- pieces
 
 -- pieces of at most so many bytes each
-pieces : {X : Type 0} (f : X → List ℕ) (most : ℕ) (xs : List X) → AllByRecursion (λ x. length (f x) ≤ most) xs → length (flat_map f xs) ≤ length xs * most
+pieces : {X : Type 0} (f : X → List ℕ) (most : ℕ) (xs : List X) → AllByRecursion (λ x. length (f x) ≤ most) xs →
+    length (flat_map f xs) ≤ length xs * most
 pieces f most [] h = omega arith
 pieces f most (x ∷ xs) h =
     let rest = pieces f most xs h.1 in
-    let parts : length (flat_map f (x ∷ xs)) ≡ length (f x) + length (flat_map f xs) = ap length (flat_map-cons f x xs) ∙ length-append (f x) (flat_map f xs) in
+    let parts : length (flat_map f (x ∷ xs)) ≡ length (f x) + length (flat_map f xs) =
+    ap length (flat_map-cons f x xs) ∙ length-append (f x) (flat_map f xs) in
     omega (arith, rest, parts, h.0)
 
-all_pieces : {X : Type 0} (P : X → Type 0) (f : X → List ℕ) (most : ℕ) (xs : List X) → ((x : X) → P x → length (f x) ≤ most) → All P xs → length (flat_map f xs) ≤ length xs * most
-all_pieces P f most xs each h = pieces f most xs (recursion_from_All (λ x. length (f x) ≤ most) xs (All-weaker P (λ x. length (f x) ≤ most) each xs h))
+all_pieces : {X : Type 0} (P : X → Type 0) (f : X → List ℕ) (most : ℕ) (xs : List X) →
+    ((x : X) → P x → length (f x) ≤ most) → All P xs →
+    length (flat_map f xs) ≤ length xs * most
+all_pieces P f most xs each h = pieces f most xs
+    (recursion_from_All (λ x. length (f x) ≤ most) xs (All-weaker P (λ x. length (f x) ≤ most) each xs h))
 
 three : (a b c : List ℕ) → length (a ++ b ++ c) ≡ length a + length b + length c
 three a b c = let l = length-append (a ++ b) c in let m = length-append a b in omega (arith, l, m)
 
 five : (a b c d e : List ℕ) → length (a ++ b ++ c ++ d ++ e) ≡ length a + length b + length c + length d + length e
-five a b c d e = let l = length-append (a ++ b ++ c ++ d) e in let m = length-append (a ++ b ++ c) d in let n = three a b c in omega (arith, l, m, n)
+five a b c d e = let l = length-append (a ++ b ++ c ++ d) e in
+    let m = length-append (a ++ b ++ c) d in
+    let n = three a b c in
+    omega (arith, l, m, n)
 
-nine : (a b c d e f g h i : List ℕ) → length (a ++ b ++ c ++ d ++ e ++ f ++ g ++ h ++ i) ≡ length a + length b + length c + length d + length e + length f + length g + length h + length i
+nine : (a b c d e f g h i : List ℕ) →
+    length (a ++ b ++ c ++ d ++ e ++ f ++ g ++ h ++ i)
+    ≡ length a + length b + length c + length d + length e + length f + length g + length h + length i
 nine a b c d e f g h i =
     let u = length-append (a ++ b ++ c ++ d ++ e ++ f ++ g ++ h) i in
     let v = length-append (a ++ b ++ c ++ d ++ e ++ f ++ g) h in
@@ -67,7 +80,8 @@ literals_long ls = pieces literal_bytes 3 ls (each ls) where
 
 -- a cube has a literal for each variable at most
 column_room : (s : VariableSpace) (c : Column) → IsSpace s → IsLawfulColumn s c → length c.cube ≤ 160
-column_room s c i h = within (fault_end s) s.conditions (length c.cube) (few_fault s i) i.conditions (literals_room s 0 c.cube (few_fault s i) (column_literals s c i h))
+column_room s c i h = within (fault_end s) s.conditions (length c.cube) (few_fault s i) i.conditions
+    (literals_room s 0 c.cube (few_fault s i) (column_literals s c i h))
   where
     within : (e k n : ℕ) → e ≤ 128 → k ≤ 32 → n ≤ (e - 0) + ((128 + k) - max 128 0) → n ≤ 160
     within e k n a b r = omega arith
@@ -79,20 +93,24 @@ column_long s i c h =
     let room = column_room s c i h in
     omega (arith, parts, literals, room)
 
-row_long : (s : VariableSpace) → IsSpace s → (r : Row) → IsLawfulRow s r → length (row_bytes r) ≤ length r.columns * 489 + 2
+row_long : (s : VariableSpace) → IsSpace s → (r : Row) → IsLawfulRow s r →
+    length (row_bytes r) ≤ length r.columns * 489 + 2
 row_long s i r h =
     let parts = length-append (to_be_bytes w16 (length r.columns)) (flat_map column_bytes r.columns) in
     let columns = all_pieces (IsLawfulColumn s) column_bytes 489 r.columns (column_long s i) h.columns in
     omega (arith, parts, columns)
 
-rows_long : (s : VariableSpace) → IsSpace s → (rows : List Row) → AllByRecursion (IsLawfulRow s) rows → length (flat_map row_bytes rows) ≤ column_count rows * 489 + length rows * 2
+rows_long : (s : VariableSpace) → IsSpace s → (rows : List Row) → AllByRecursion (IsLawfulRow s) rows →
+    length (flat_map row_bytes rows) ≤ column_count rows * 489 + length rows * 2
 rows_long s i [] h = omega arith
 rows_long s i (r ∷ rows) h =
     let one = row_long s i r h.0 in
     let rest = rows_long s i rows h.1 in
-    let parts : length (flat_map row_bytes (r ∷ rows)) ≡ length (row_bytes r) + length (flat_map row_bytes rows) = ap length (flat_map-cons row_bytes r rows) ∙
+    let parts : length (flat_map row_bytes (r ∷ rows)) ≡ length (row_bytes r) + length (flat_map row_bytes rows) =
+    ap length (flat_map-cons row_bytes r rows) ∙
     length-append (row_bytes r) (flat_map row_bytes rows) in
-    let counts : column_count (r ∷ rows) ≡ length r.columns + column_count rows = sum_by-cons (λ row. length row.columns) r rows in
+    let counts : column_count (r ∷ rows) ≡ length r.columns + column_count rows =
+    sum_by-cons (λ row. length row.columns) r rows in
     omega (arith, one, rest, parts, counts)
 
 -- ---- tables
@@ -107,18 +125,25 @@ places_few test i (x ∷ xs) = by_test (test x) (places_few test (i + 1) xs) whe
 
 module _ (h : Head) (q : IsHead h) (node : ℕ) where
   conditioned_few : length (conditioned h) ≤ 128
-  conditioned_few = let both = length-filter_both (λ (p : HeadProcess). p.condition) (λ p. not p.condition) (λ p. refl) h.processes in omega (arith, both, q.few_processes)
+  conditioned_few =
+      let both = length-filter_both (λ (p : HeadProcess). p.condition) (λ p. not p.condition) (λ p. refl) h.processes in
+      omega (arith, both, q.few_processes)
 
   starts_few : length (starts_of h node) ≤ 128
-  starts_few = let few = places_few (λ (p : HeadProcess). eqb p.node node) 0 h.processes in omega (arith, few, q.few_processes)
+  starts_few = let few = places_few (λ (p : HeadProcess). eqb p.node node) 0 h.processes in
+      omega (arith, few, q.few_processes)
 
-  told_few : (b : Bool) → length (cond b (numbers_where (λ (p : HeadProcess). eqb p.node node) (first_broadcast h) (conditioned h)) []) ≤ 128
-  told_few true = let few = places_few (λ (p : HeadProcess). eqb p.node node) (first_broadcast h) (conditioned h) in omega (arith, few, conditioned_few)
+  told_few : (b : Bool) →
+      length (cond b (numbers_where (λ (p : HeadProcess). eqb p.node node) (first_broadcast h) (conditioned h)) [])
+      ≤ 128
+  told_few true = let few = places_few (λ (p : HeadProcess). eqb p.node node) (first_broadcast h) (conditioned h) in
+      omega (arith, few, conditioned_few)
   told_few false = omega arith
 
   sends_few : length (sends_of h node) ≤ 384
   sends_few =
-      let told = cond (ltb 1 (length h.nodes)) (numbers_where (λ (p : HeadProcess). eqb p.node node) (first_broadcast h) (conditioned h)) [] in
+      let told = cond (ltb 1 (length h.nodes))
+      (numbers_where (λ (p : HeadProcess). eqb p.node node) (first_broadcast h) (conditioned h)) [] in
       let messages = places_few (leaves h node) (first_message h) h.edges in
       let parts = length-append (numbers_where (leaves h node) (first_message h) h.edges) told in
       omega (arith, parts, messages, told_few (ltb 1 (length h.nodes)), q.few_edges)
@@ -133,28 +158,36 @@ module _ (h : Head) (q : IsHead h) (node : ℕ) where
 
   rows_few : (t : NodeTable) → IsTableOf h node t → length (rows_of t) ≤ 896
   rows_few t of =
-      let starts : length t.starts ≡ length (starts_of h node) = sym (length-map t.starts (λ (r : Row). r.item)) ∙ ap length of.starts in
-      let sends : length t.sends ≡ length (sends_of h node) = sym (length-map t.sends (λ (r : Row). r.item)) ∙ ap length of.sends in
-      let hears : length t.hears ≡ length (hears_of h node) = sym (length-map t.hears (λ (r : Row). r.item)) ∙ ap length of.hears in
+      let starts : length t.starts ≡ length (starts_of h node) =
+      sym (length-map t.starts (λ (r : Row). r.item)) ∙ ap length of.starts in
+      let sends : length t.sends ≡ length (sends_of h node) =
+      sym (length-map t.sends (λ (r : Row). r.item)) ∙ ap length of.sends in
+      let hears : length t.hears ≡ length (hears_of h node) =
+      sym (length-map t.hears (λ (r : Row). r.item)) ∙ ap length of.hears in
       let outer = length-append t.starts (t.sends ++ t.hears) in
       let inner = length-append t.sends t.hears in
       omega (arith, starts, sends, hears, outer, inner, starts_few, sends_few, hears_few)
 
-table_long : (h : Head) → IsHead h → (node : ℕ) (t : NodeTable) → IsTableOf h node t → length (table_bytes t) ≤ column_count (rows_of t) * 489 + 1792
+table_long : (h : Head) → IsHead h → (node : ℕ) (t : NodeTable) → IsTableOf h node t →
+    length (table_bytes t) ≤ column_count (rows_of t) * 489 + 1792
 table_long h q node t of =
-    let rows = rows_long (space_of h) (head_space h q) (rows_of t) (recursion_from_All (IsLawfulRow (space_of h)) (rows_of t) of.lawful) in
+    let rows = rows_long (space_of h) (head_space h q) (rows_of t)
+    (recursion_from_All (IsLawfulRow (space_of h)) (rows_of t) of.lawful) in
     omega (arith, rows, rows_few h q node t of)
 
 abbrev IsLong : NodeTable → Type 0
 IsLong t = length (table_bytes t) ≤ column_count (rows_of t) * 489 + 1792
 
-tables_long : (ts : List NodeTable) → AllByRecursion IsLong ts → length (flat_map table_bytes ts) ≤ sum_by (λ t. column_count (rows_of t)) ts * 489 + length ts * 1792
+tables_long : (ts : List NodeTable) → AllByRecursion IsLong ts →
+    length (flat_map table_bytes ts) ≤ sum_by (λ t. column_count (rows_of t)) ts * 489 + length ts * 1792
 tables_long [] h = omega arith
 tables_long (t ∷ ts) h =
     let rest = tables_long ts h.1 in
-    let parts : length (flat_map table_bytes (t ∷ ts)) ≡ length (table_bytes t) + length (flat_map table_bytes ts) = ap length (flat_map-cons table_bytes t ts) ∙
+    let parts : length (flat_map table_bytes (t ∷ ts)) ≡ length (table_bytes t) + length (flat_map table_bytes ts) =
+    ap length (flat_map-cons table_bytes t ts) ∙
     length-append (table_bytes t) (flat_map table_bytes ts) in
-    let counts : sum_by (λ u. column_count (rows_of u)) (t ∷ ts) ≡ column_count (rows_of t) + sum_by (λ u. column_count (rows_of u)) ts = sum_by-cons (λ u. column_count (rows_of u)) t ts in
+    let counts : sum_by (λ u. column_count (rows_of u)) (t ∷ ts) ≡ column_count (rows_of t)
+    + sum_by (λ u. column_count (rows_of u)) ts = sum_by-cons (λ u. column_count (rows_of u)) t ts in
     omega (arith, rest, parts, counts, h.0)
 
 -- ---- heads
@@ -164,7 +197,9 @@ name_long text n = let parts = length-append (byte (length text)) text in omega 
 
 extra_long : (o : Option Extra) → length (extra_bytes o) ≤ 16
 extra_long None = omega arith
-extra_long (Some e) = let parts = length-append (to_be_bytes w64 e.release) (to_be_bytes w64 (deadline_number e.deadline)) in omega (arith, parts)
+extra_long (Some e) =
+    let parts = length-append (to_be_bytes w64 e.release) (to_be_bytes w64 (deadline_number e.deadline)) in
+    omega (arith, parts)
 
 times_long : (ts : List ℕ) → length (flat_map (to_be_bytes w64) ts) ≤ length ts * 8
 times_long ts = pieces (to_be_bytes w64) 8 ts (each ts) where
@@ -177,29 +212,36 @@ record IsNamed (p : HeadProcess) : Type 0 where
   name : IsName p.name
   times : length p.times ≤ 9
 
-process_long : (p : HeadProcess) (o : Option Extra) → IsNamed p → length (process_bytes (record { process = p; extra = o })) ≤ 123
+process_long : (p : HeadProcess) (o : Option Extra) → IsNamed p →
+    length (process_bytes (record { process = p; extra = o })) ≤ 123
 process_long p o n =
-    let parts = five (name_bytes p.name) (byte p.node) (byte (bit p.condition)) (flat_map (to_be_bytes w64) p.times) (extra_bytes o) in
+    let parts = five (name_bytes p.name) (byte p.node) (byte (bit p.condition)) (flat_map (to_be_bytes w64) p.times)
+    (extra_bytes o) in
     let name = name_long p.name n.name in
     let times = times_long p.times in
     let extra = extra_long o in
     omega (arith, parts, name, times, extra, n.times)
 
-processes_long : (ps : List HeadProcess) (es : List Extra) → AllByRecursion IsNamed ps → length (flat_map process_bytes (written_by ps es)) ≤ length ps * 123
+processes_long : (ps : List HeadProcess) (es : List Extra) → AllByRecursion IsNamed ps →
+    length (flat_map process_bytes (written_by ps es)) ≤ length ps * 123
 processes_long [] es h = omega arith
 processes_long (p ∷ ps) [] h =
     let rest = processes_long ps [] h.1 in
     let w : Written = record { process = p; extra = None } in
     let one = process_long p None h.0 in
-    let parts : length (flat_map process_bytes (w ∷ written_by ps [])) ≡ length (process_bytes w) + length (flat_map process_bytes (written_by ps [])) =
-    ap length (flat_map-cons process_bytes w (written_by ps [])) ∙ length-append (process_bytes w) (flat_map process_bytes (written_by ps [])) in
+    let parts : length (flat_map process_bytes (w ∷ written_by ps []))
+    ≡ length (process_bytes w) + length (flat_map process_bytes (written_by ps [])) =
+    ap length (flat_map-cons process_bytes w (written_by ps []))
+    ∙ length-append (process_bytes w) (flat_map process_bytes (written_by ps [])) in
     omega (arith, rest, one, parts)
 processes_long (p ∷ ps) (e ∷ es) h =
     let rest = processes_long ps es h.1 in
     let w : Written = record { process = p; extra = Some e } in
     let one = process_long p (Some e) h.0 in
-    let parts : length (flat_map process_bytes (w ∷ written_by ps es)) ≡ length (process_bytes w) + length (flat_map process_bytes (written_by ps es)) =
-    ap length (flat_map-cons process_bytes w (written_by ps es)) ∙ length-append (process_bytes w) (flat_map process_bytes (written_by ps es)) in
+    let parts : length (flat_map process_bytes (w ∷ written_by ps es))
+    ≡ length (process_bytes w) + length (flat_map process_bytes (written_by ps es)) =
+    ap length (flat_map-cons process_bytes w (written_by ps es))
+    ∙ length-append (process_bytes w) (flat_map process_bytes (written_by ps es)) in
     omega (arith, rest, one, parts)
 
 edges_long : (es : List (ℕ × ℕ)) → length (flat_map edge_bytes es) ≤ length es * 2
@@ -208,17 +250,22 @@ edges_long es = pieces edge_bytes 2 es (each es) where
   each [] = tt
   each (e ∷ es) = (omega arith, each es)
 
-named : (k n : ℕ) (ps : List HeadProcess) → k ≤ 8 → AllByRecursion (IsHeadProcess k n) ps → AllByRecursion (λ p. IsName p.name) ps → AllByRecursion IsNamed ps
+named : (k n : ℕ) (ps : List HeadProcess) → k ≤ 8 → AllByRecursion (IsHeadProcess k n) ps →
+    AllByRecursion (λ p. IsName p.name) ps →
+    AllByRecursion IsNamed ps
 named k n [] few a b = tt
-named k n (p ∷ ps) few a b = (record { name = b.0; times = let count = a.0.count in omega (arith, count, few) }, named k n ps few a.1 b.1)
+named k n (p ∷ ps) few a b =
+    (record { name = b.0; times = let count = a.0.count in omega (arith, count, few) }, named k n ps few a.1 b.1)
 
 head_long : (h : Head) → IsPackHead h → length (head_bytes h) ≤ 20000
 head_long h q =
-    let parts = nine (to_be_bytes w32 magic) (byte (version_of h)) (byte h.faults) (byte (length h.nodes)) (flat_map name_bytes h.nodes) (byte (length h.processes))
+    let parts = nine (to_be_bytes w32 magic) (byte (version_of h)) (byte h.faults) (byte (length h.nodes))
+    (flat_map name_bytes h.nodes) (byte (length h.processes))
     (flat_map process_bytes (written h)) (to_be_bytes w16 (length h.edges)) (flat_map edge_bytes h.edges) in
     let nodes = all_pieces IsName name_bytes 33 h.nodes name_long q.nodes in
     let processes = processes_long h.processes (unwrap_or h.extras [])
-    (named h.faults (length h.nodes) h.processes q.within.faults (recursion_from_All (IsHeadProcess h.faults (length h.nodes)) h.processes q.within.processes)
+    (named h.faults (length h.nodes) h.processes q.within.faults
+    (recursion_from_All (IsHeadProcess h.faults (length h.nodes)) h.processes q.within.processes)
     (recursion_from_All (λ p. IsName p.name) h.processes q.processes)) in
     let edges = edges_long h.edges in
     omega (arith, parts, nodes, processes, edges, q.within.few_nodes, q.within.few_processes, q.within.few_edges)
@@ -229,6 +276,7 @@ pub all_short : AllShort
 all_short t a =
     let head = head_long t.head a.head in
     let tables = tables_long t.nodes (recursion_from_All IsLong t.nodes
-    (All-from_get_or IsLong t.nodes _ (λ i l. table_long t.head a.head.within i (table_at t.nodes i) (a.nodes.each i (omega (arith, l, a.nodes.count)))))) in
+    (All-from_get_or IsLong t.nodes _ (λ i l.
+    table_long t.head a.head.within i (table_at t.nodes i) (a.nodes.each i (omega (arith, l, a.nodes.count)))))) in
     let parts = length-append (head_bytes t.head) (flat_map table_bytes t.nodes) in
     omega (arith, head, tables, parts, a.nodes.few, a.nodes.count, a.head.within.few_nodes)

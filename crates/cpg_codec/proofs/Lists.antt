@@ -14,29 +14,36 @@ tail_of [] = []
 tail_of (x ∷ xs) = xs
 
 module _ {L S A : Type 0} (step : S → A → S) (one : L → S → Reader A)
-    (Inv : List L → S → Type 0) (Fits : L → List L → S → A → Type 0) (spell : A → List ℕ) (G : List L → S → List A → Type 0)
+    (Inv : List L → S → Type 0) (Fits : L → List L → S → A → Type 0) (spell : A → List ℕ)
+    (G : List L → S → List A → Type 0)
     (item : (l : L) (ls : List L) (s : S) → Inv (l ∷ ls) s → Reads (Fits l ls s) spell (one l s))
     (keeps : (l : L) (ls : List L) (s : S) (x : A) → Inv (l ∷ ls) s → Fits l ls s x → Inv ls (step s x))
     (nil : (s : S) → Inv [] s → G [] s [])
     (nil_only : (s : S) (x : A) (xs : List A) → G [] s (x ∷ xs) → ⊥)
     (cons_only : (l : L) (ls : List L) (s : S) → G (l ∷ ls) s [] → ⊥)
-    (cons : (l : L) (ls : List L) (s : S) (x : A) (xs : List A) → Inv (l ∷ ls) s → Fits l ls s x → G ls (step s x) xs → G (l ∷ ls) s (x ∷ xs))
-    (uncons : (l : L) (ls : List L) (s : S) (x : A) (xs : List A) → Inv (l ∷ ls) s → G (l ∷ ls) s (x ∷ xs) → Fits l ls s x × G ls (step s x) xs) where
+    (cons : (l : L) (ls : List L) (s : S) (x : A) (xs : List A) → Inv (l ∷ ls) s → Fits l ls s x → G ls (step s x) xs →
+    G (l ∷ ls) s (x ∷ xs))
+    (uncons : (l : L) (ls : List L) (s : S) (x : A) (xs : List A) → Inv (l ∷ ls) s → G (l ∷ ls) s (x ∷ xs) →
+    Fits l ls s x × G ls (step s x) xs) where
   -- what the reader of a list that isn't empty reads, with d in place of a head that isn't there
   Parts : L → List L → S → A → List A → Type 0
-  Parts l ls s d ys = Fits l ls s (head_or d ys) × (G ls (step s (head_or d ys)) (tail_of ys) × (ys ≡ head_or d ys ∷ tail_of ys))
+  Parts l ls s d ys =
+      Fits l ls s (head_or d ys) × (G ls (step s (head_or d ys)) (tail_of ys) × (ys ≡ head_or d ys ∷ tail_of ys))
 
-  parts_to : (l : L) (ls : List L) (s : S) (d : A) → Inv (l ∷ ls) s → (ys : List A) → Parts l ls s d ys → G (l ∷ ls) s ys
+  parts_to : (l : L) (ls : List L) (s : S) (d : A) → Inv (l ∷ ls) s → (ys : List A) → Parts l ls s d ys →
+      G (l ∷ ls) s ys
   unfolding Parts
   parts_to l ls s d inv [] p = absurd (let h : [] ≡ d ∷ [] = p.1.1 in cc)
   parts_to l ls s d inv (x ∷ xs) p = cons l ls s x xs inv p.0 p.1.0
 
-  parts_from : (l : L) (ls : List L) (s : S) (d : A) → Inv (l ∷ ls) s → (ys : List A) → G (l ∷ ls) s ys → Parts l ls s d ys
+  parts_from : (l : L) (ls : List L) (s : S) (d : A) → Inv (l ∷ ls) s → (ys : List A) → G (l ∷ ls) s ys →
+      Parts l ls s d ys
   unfolding Parts
   parts_from l ls s d inv [] g = absurd (cons_only l ls s g)
   parts_from l ls s d inv (x ∷ xs) g = let u = uncons l ls s x xs inv g in (u.0, (u.1, refl))
 
-  parts_spell : (l : L) (ls : List L) (s : S) (d : A) (ys : List A) → G (l ∷ ls) s ys → spell (head_or d ys) ++ (flat_map spell (tail_of ys) ++ []) ≡ flat_map spell ys
+  parts_spell : (l : L) (ls : List L) (s : S) (d : A) (ys : List A) → G (l ∷ ls) s ys →
+      spell (head_or d ys) ++ (flat_map spell (tail_of ys) ++ []) ≡ flat_map spell ys
   parts_spell l ls s d [] g = absurd (cons_only l ls s g)
   parts_spell l ls s d (x ∷ xs) g = ap (λ (t : List ℕ). spell x ++ t) (append-nil (flat_map spell xs))
 
@@ -75,12 +82,17 @@ unfolding down
 down_is zero = refl
 down_is (suc n) = ap suc (down_is n)
 
-pub times_reads : {A : Type 0} (Fits : A → Type 0) (spell : A → List ℕ) (r : Reader A) (n : ℕ) → (0 < n → Reads Fits spell r) → Reads (AreAll Fits n) (flat_map spell) (read_repeated r n)
+pub times_reads : {A : Type 0} (Fits : A → Type 0) (spell : A → List ℕ) (r : Reader A) (n : ℕ) →
+    (0 < n → Reads Fits spell r) →
+    Reads (AreAll Fits n) (flat_map spell) (read_repeated r n)
 times_reads Fits spell r n one =
     adapt
-    (each_reads (λ (s : ℕ) x. s) (λ (l : ℕ) s. r) (λ ls s. 0 < length ls → Reads Fits spell r) (λ l ls s x. Fits x) spell (λ ls s xs. AreAll Fits (length ls) xs)
-    (λ l ls s i. i (omega arith)) (λ l ls s x i f _. i (omega arith)) (λ s i. (refl, tt)) (λ s x xs g. absurd (let h : suc (length xs) ≡ 0 = g.0 in omega arith))
+    (each_reads (λ (s : ℕ) x. s) (λ (l : ℕ) s. r) (λ ls s. 0 < length ls → Reads Fits spell r)
+    (λ l ls s x. Fits x) spell (λ ls s xs. AreAll Fits (length ls) xs)
+    (λ l ls s i. i (omega arith)) (λ l ls s x i f _. i (omega arith)) (λ s i. (refl, tt))
+    (λ s x xs g. absurd (let h : suc (length xs) ≡ 0 = g.0 in omega arith))
     (λ l ls s g. absurd (let h : 0 ≡ suc (length ls) = g.0 in omega arith))
-    (λ l ls s x xs i f g. (ap suc g.0, (f, g.1))) (λ l ls s x xs i g. let h : suc (length xs) ≡ suc (length ls) = g.0 in (g.1.0, (omega arith, g.1.1)))
+    (λ l ls s x xs i f g. (ap suc g.0, (f, g.1)))
+    (λ l ls s x xs i g. let h : suc (length xs) ≡ suc (length ls) = g.0 in (g.1.0, (omega arith, g.1.1)))
     (down n) 0 (λ some. one (omega (arith, down_is n))))
     (λ xs g. (g.0 ∙ down_is n, g.1)) (λ xs g. (g.0 ∙ sym (down_is n), g.1)) (λ xs g. refl)

@@ -1,5 +1,6 @@
 -- A loop that reads value after value.
-use Rattle.std.proofs.Common.{◌≡◌, ℕ, suc, ◌+◌, ◌-◌, ◌<◌, ◌≤◌, List, [], ◌∷◌, ◌++◌, Result, Ok, Err, refl, sym, ap, ◌∙◌, append_assoc, arith}
+use Rattle.std.proofs.Common.{◌≡◌, ℕ, suc, ◌+◌, ◌-◌, ◌<◌, ◌≤◌, List, [], ◌∷◌, ◌++◌, Result, Ok, Err, refl, sym, ap, ◌∙◌}
+use Rattle.std.proofs.Common.{append_assoc, arith}
 use Rattle.std.proofs.lemmas.List.{append-nil}
 use Rattle.cpg_codec.specs.Reading.{Reader, pure, onward, ◌>>=◌, read_each, down}
 use Rattle.cpg_codec.specs.declared.fault.ReadError.{ReadError}
@@ -15,29 +16,40 @@ nothing_in_front (Ok x) = refl
 nothing_in_front (Err n) = refl
 
 module _ {L S A : Type 0} (step : S → A → S) (one : L → S → Reader A) where
-  regroup : (front : List A) (x : A) (r : Result (List A × List ℕ) ℕ) → with_front front (onward (λ (xs : List A). pure (x ∷ xs)) r) ≡ with_front (front ++ x ∷ []) r
+  regroup : (front : List A) (x : A) (r : Result (List A × List ℕ) ℕ) →
+      with_front front (onward (λ (xs : List A). pure (x ∷ xs)) r) ≡ with_front (front ++ x ∷ []) r
   regroup front x (Ok y) = ap (λ (xs : List A). Ok (xs, y.1)) (sym (append_assoc front (x ∷ []) y.0))
   regroup front x (Err n) = refl
 
-  pub goes_on : (front : List A) (labels : List L) (l : L) (ls : List L) (s : S) (bytes : List ℕ) (x : A) (after : List ℕ) (total : Result (List A × List ℕ) ℕ) → labels ≡ l ∷ ls →
+  pub goes_on : (front : List A) (labels : List L) (l : L) (ls : List L) (s : S) (bytes : List ℕ) (x : A)
+      (after : List ℕ) (total : Result (List A × List ℕ) ℕ) →
+      labels ≡ l ∷ ls →
       one l s bytes ≡ Ok (x, after)
-      → with_front front (read_each step one labels s bytes) ≡ total → with_front (front ++ x ∷ []) (read_each step one ls (step s x) after) ≡ total
+      → with_front front (read_each step one labels s bytes) ≡ total →
+      with_front (front ++ x ∷ []) (read_each step one ls (step s x) after) ≡ total
   goes_on front labels l ls s bytes x after total e h so_far =
       sym (regroup front x (read_each step one ls (step s x) after)) ∙
       sym (ap (λ (ms : List L). with_front front (read_each step one ms s bytes)) e ∙
-      ap (λ (r : Result (A × List ℕ) ℕ). with_front front (onward (λ (y : A). read_each step one ls (step s y) >>= λ ys. pure (y ∷ ys)) r)) h) ∙ so_far
+      ap (λ (r : Result (A × List ℕ) ℕ).
+      with_front front (onward (λ (y : A). read_each step one ls (step s y) >>= λ ys. pure (y ∷ ys)) r)) h) ∙ so_far
 
-  pub ends : (error : ReadError) (front : List A) (labels : List L) (l : L) (ls : List L) (s : S) (bytes : List ℕ) (total : Result (List A × List ℕ) ℕ) → labels ≡ l ∷ ls → Fails error (one l s bytes)
+  pub ends : (error : ReadError) (front : List A) (labels : List L) (l : L) (ls : List L) (s : S) (bytes : List ℕ)
+      (total : Result (List A × List ℕ) ℕ) → labels ≡ l ∷ ls →
+      Fails error (one l s bytes)
       → with_front front (read_each step one labels s bytes) ≡ total → Fails error total
   ends errors.Memory front labels l ls s bytes total e h so_far = tt
   ends (errors.Left n) front labels l ls s bytes total e h so_far =
       sym so_far ∙ ap (λ (ms : List L). with_front front (read_each step one ms s bytes)) e ∙
-      ap (λ (r : Result (A × List ℕ) ℕ). with_front front (onward (λ (y : A). read_each step one ls (step s y) >>= λ ys. pure (y ∷ ys)) r)) h
+      ap (λ (r : Result (A × List ℕ) ℕ).
+      with_front front (onward (λ (y : A). read_each step one ls (step s y) >>= λ ys. pure (y ∷ ys)) r)) h
 
-  pub is_done : (front : List A) (labels : List L) (s : S) (bytes : List ℕ) (total : Result (List A × List ℕ) ℕ) → labels ≡ [] → with_front front (read_each step one labels s bytes) ≡ total →
+  pub is_done : (front : List A) (labels : List L) (s : S) (bytes : List ℕ) (total : Result (List A × List ℕ) ℕ) →
+      labels ≡ [] →
+      with_front front (read_each step one labels s bytes) ≡ total →
       total ≡ Ok (front, bytes)
   is_done front labels s bytes total e so_far =
-      sym so_far ∙ ap (λ (ms : List L). with_front front (read_each step one ms s bytes)) e ∙ ap (λ (xs : List A). Ok (xs, bytes)) (append-nil front)
+      sym so_far ∙ ap (λ (ms : List L). with_front front (read_each step one ms s bytes)) e
+      ∙ ap (λ (xs : List A). Ok (xs, bytes)) (append-nil front)
 
 -- the labels of a counted loop
 pub down_more : (count i : ℕ) → i < count → down (count - i) ≡ (count - (i + 1)) ∷ down (count - (i + 1))
@@ -54,17 +66,25 @@ down_none count i le = let k : count - i ≡ 0 = omega arith in ap down k
 abbrev pub left_of : {A : Type 0} → Reader A → ℕ → ℕ → Reader (List A)
 left_of one count i = read_each (λ (s : ℕ) x. s) (λ (l : ℕ) s. one) (down (count - i)) 0
 
-pub times_on : {A : Type 0} (one : Reader A) (front : List A) (count i : ℕ) (bytes : List ℕ) (x : A) (after : List ℕ) (total : Result (List A × List ℕ) ℕ) → i < count → one bytes ≡ Ok (x, after)
-    → with_front front (left_of one count i bytes) ≡ total → with_front (front ++ x ∷ []) (left_of one count (i + 1) after) ≡ total
+pub times_on : {A : Type 0} (one : Reader A) (front : List A) (count i : ℕ) (bytes : List ℕ) (x : A) (after : List ℕ)
+    (total : Result (List A × List ℕ) ℕ) → i < count →
+    one bytes ≡ Ok (x, after)
+    → with_front front (left_of one count i bytes) ≡ total →
+    with_front (front ++ x ∷ []) (left_of one count (i + 1) after) ≡ total
 times_on one front count i bytes x after total lt h so_far =
-    goes_on (λ (s : ℕ) x. s) (λ (l : ℕ) s. one) front (down (count - i)) (count - (i + 1)) (down (count - (i + 1))) 0 bytes x after total (down_more count i lt) h so_far
+    goes_on (λ (s : ℕ) x. s) (λ (l : ℕ) s. one) front (down (count - i)) (count - (i + 1))
+    (down (count - (i + 1))) 0 bytes x after total (down_more count i lt) h so_far
 
-pub times_end : {A : Type 0} (one : Reader A) (error : ReadError) (front : List A) (count i : ℕ) (bytes : List ℕ) (total : Result (List A × List ℕ) ℕ) → i < count → Fails error (one bytes)
+pub times_end : {A : Type 0} (one : Reader A) (error : ReadError) (front : List A) (count i : ℕ) (bytes : List ℕ)
+    (total : Result (List A × List ℕ) ℕ) → i < count →
+    Fails error (one bytes)
     → with_front front (left_of one count i bytes) ≡ total → Fails error total
 times_end one error front count i bytes total lt h so_far =
-    ends (λ (s : ℕ) x. s) (λ (l : ℕ) s. one) error front (down (count - i)) (count - (i + 1)) (down (count - (i + 1))) 0 bytes total (down_more count i lt) h so_far
+    ends (λ (s : ℕ) x. s) (λ (l : ℕ) s. one) error front (down (count - i)) (count - (i + 1))
+    (down (count - (i + 1))) 0 bytes total (down_more count i lt) h so_far
 
-pub times_done : {A : Type 0} (one : Reader A) (front : List A) (count i : ℕ) (bytes : List ℕ) (total : Result (List A × List ℕ) ℕ) → count ≤ i
+pub times_done : {A : Type 0} (one : Reader A) (front : List A) (count i : ℕ) (bytes : List ℕ)
+    (total : Result (List A × List ℕ) ℕ) → count ≤ i
     → with_front front (left_of one count i bytes) ≡ total → total ≡ Ok (front, bytes)
 times_done one front count i bytes total le so_far =
     is_done (λ (s : ℕ) x. s) (λ (l : ℕ) s. one) front (down (count - i)) 0 bytes total (down_none count i le) so_far

@@ -1,5 +1,6 @@
 -- Names are ASCII.
-use Rattle.std.proofs.Common.{◌≡◌, ℕ, zero, suc, refl, [], ◌∷◌, ◌<◌, ◌≤◌, true, List, length, get_or, arith, subst, sym, inl, inr}
+use Rattle.std.proofs.Common.{◌≡◌, ℕ, zero, suc, refl, [], ◌∷◌, ◌<◌, ◌≤◌, true, List, length, get_or, arith, subst, sym}
+use Rattle.std.proofs.Common.{inl, inr}
 use Rattle.std.specs.Str.{IsUtf8, IsAscii}
 use Rattle.std.proofs.lemmas.Bool.{cases_lt}
 use Rattle.std.proofs.lemmas.Bool.Decides.{nat_tests}

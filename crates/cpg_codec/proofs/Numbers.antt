@@ -1,5 +1,6 @@
 -- Big-endian numbers, digit by digit.
-use Rattle.std.proofs.Common.{◌≡◌, ℕ, zero, suc, ◌+◌, ◌*◌, ◌-◌, ◌/◌, ◌%◌, ◌^◌, ◌<◌, ◌≤◌, Bool, true, ltb, leb, [], ◌∷◌, refl, sym, ap, subst, ◌∙◌, arith}
+use Rattle.std.proofs.Common.{◌≡◌, ℕ, zero, suc, ◌+◌, ◌*◌, ◌-◌, ◌/◌, ◌%◌, ◌^◌, ◌<◌, ◌≤◌, Bool, true, ltb, leb, [], ◌∷◌}
+use Rattle.std.proofs.Common.{refl, sym, ap, subst, ◌∙◌, arith}
 use Rattle.std.specs.Int.{byte_at, bytes_high_first}
 use Rattle.std.proofs.lemmas.Bool.{ltb-true, lt-ltb, leb-true, le-leb, and_parts, and_from}
 use Rattle.std.proofs.lemmas.Nat.{le-div, div_below, mul-le}
@@ -16,9 +17,11 @@ pub within_chooses : (low high : ℕ) → low ≤ high → IsChoice (λ n. (low 
 within_chooses low high h = record {
   found = λ from below lt e. let p = and_parts (ltb low below) (leb from high) e in
       within_found from below lt (ltb-true low below p.0) (leb-true from high p.1);
-  all = λ from below n a b l. and_from (ltb low below) (leb from high) (lt-ltb low below (omega arith)) (le-leb from high (omega arith));
+  all = λ from below n a b l.
+      and_from (ltb low below) (leb from high) (lt-ltb low below (omega arith)) (le-leb from high (omega arith));
 } where
-  within_found : (from below : ℕ) → from < below → low < below → from ≤ high → (n : ℕ) × (from ≤ n) × (n < below) × ((low ≤ n) × (n ≤ high))
+  within_found : (from below : ℕ) → from < below → low < below → from ≤ high →
+      (n : ℕ) × (from ≤ n) × (n < below) × ((low ≤ n) × (n ≤ high))
   within_found from below lt a b = (from + (low - from), omega arith, omega arith, (omega arith, omega arith))
 
 spread : (n t : ℕ) → n * (256 * t) ≡ n * 256 * t
@@ -31,7 +34,8 @@ digit_span : (w n : ℕ) → n * 256 ^ suc w < (n + 1) * 256 ^ suc w
 digit_span w n = let h : 1 ≤ 256 ^ suc w = one-le-pow (suc w) 256 (omega arith) in omega arith
 
 -- the digit of m after n
-digit_of : (T t m n : ℕ) → T ≡ 256 * t → 0 < t → n * T ≤ m → m < (n + 1) * T → (b : ℕ) × (b < 256) × ((n * 256 + b) * t ≤ m) × (m < (n * 256 + b + 1) * t)
+digit_of : (T t m n : ℕ) → T ≡ 256 * t → 0 < t → n * T ≤ m → m < (n + 1) * T →
+    (b : ℕ) × (b < 256) × ((n * 256 + b) * t ≤ m) × (m < (n * 256 + b + 1) * t)
 digit_of T t m n e pos lo hi =
     let low : n * 256 * t ≤ m = subst (λ (x : ℕ). x ≤ m) (ap (λ (x : ℕ). n * x) e ∙ spread n t) lo in
     let high : m < (n + 1) * 256 * t = subst (λ (x : ℕ). m < x) (ap (λ (x : ℕ). (n + 1) * x) e ∙ spread (n + 1) t) hi in
@@ -51,7 +55,8 @@ quotient_is t m q pos lo hi =
 digit_is : (w m n b : ℕ) → b < 256 → (n * 256 + b) * 256 ^ w ≤ m → m < (n * 256 + b + 1) * 256 ^ w → byte_at w m ≡ b
 digit_is zero m n b lt lo hi = omega arith
 digit_is (suc w) m n b lt lo hi =
-    let q : m / 256 ^ suc w ≡ n * 256 + b = quotient_is (256 ^ suc w) m (n * 256 + b) (one-le-pow (suc w) 256 (omega arith)) lo hi in
+    let q : m / 256 ^ suc w ≡ n * 256 + b =
+    quotient_is (256 ^ suc w) m (n * 256 + b) (one-le-pow (suc w) 256 (omega arith)) lo hi in
     rw q (omega arith)
 
 digit_low : (T t m n b : ℕ) → T ≡ 256 * t → (n * 256 + b) * t ≤ m → n * T ≤ m
@@ -72,22 +77,29 @@ module _ (Lawful : ℕ → Type 0) (may : ℕ → ℕ → Bool) (choice : IsChoi
   digit_some : (w n : ℕ) → may (n * 256 ^ suc w) ((n + 1) * 256 ^ suc w) ≡ true → (b : ℕ) × (digit_may may w n b ≡ true)
   digit_some w n h =
       let f = choice.found (n * 256 ^ suc w) ((n + 1) * 256 ^ suc w) (digit_span w n) h in
-      let d = digit_of (256 ^ suc w) (256 ^ w) f.0 n (power w) (one-le-pow w 256 (omega arith)) f.1 f.2 in
-      (d.0, and_from (ltb d.0 256) (may ((n * 256 + d.0) * 256 ^ w) ((n * 256 + d.0 + 1) * 256 ^ w)) (lt-ltb d.0 256 d.1) (choice.all _ _ f.0 d.2 d.3 f.3))
+      let d = digit_of (256 ^ suc w) (256 ^ w) f.0 n (power w) (one-le-pow w 256 (omega arith)) f.1 f.2 in (
+        d.0,
+        and_from (ltb d.0 256) (may ((n * 256 + d.0) * 256 ^ w) ((n * 256 + d.0 + 1) * 256 ^ w)) (lt-ltb d.0 256 d.1)
+            (choice.all _ _ f.0 d.2 d.3 f.3),
+      )
 
-  digit_fits : (w n m : ℕ) → Continues (suc w) n m → (digit_may may w n (byte_at w m) ≡ true) × Continues w (n * 256 + byte_at w m) m
+  digit_fits : (w n m : ℕ) → Continues (suc w) n m →
+      (digit_may may w n (byte_at w m) ≡ true) × Continues w (n * 256 + byte_at w m) m
   digit_fits w n m c =
       let d = digit_of (256 ^ suc w) (256 ^ w) m n (power w) (one-le-pow w 256 (omega arith)) c.low c.high in
       let e = digit_is w m n d.0 d.1 d.2 d.3 in
       subst (λ (b : ℕ). (digit_may may w n b ≡ true) × Continues w (n * 256 + b) m) (sym e) (
-        and_from (ltb d.0 256) (may ((n * 256 + d.0) * 256 ^ w) ((n * 256 + d.0 + 1) * 256 ^ w)) (lt-ltb d.0 256 d.1) (choice.all _ _ m d.2 d.3 c.lawful),
+        and_from (ltb d.0 256) (may ((n * 256 + d.0) * 256 ^ w) ((n * 256 + d.0 + 1) * 256 ^ w)) (lt-ltb d.0 256 d.1)
+            (choice.all _ _ m d.2 d.3 c.lawful),
         record { lawful = c.lawful; low = d.2; high = d.3 },
       )
 
   below_256 : (w n b : ℕ) → digit_may may w n b ≡ true → b < 256
-  below_256 w n b h = ltb-true b 256 (and_parts (ltb b 256) (may ((n * 256 + b) * 256 ^ w) ((n * 256 + b + 1) * 256 ^ w)) h).0
+  below_256 w n b h =
+      ltb-true b 256 (and_parts (ltb b 256) (may ((n * 256 + b) * 256 ^ w) ((n * 256 + b + 1) * 256 ^ w)) h).0
 
-  may_go_on : (w n b : ℕ) → digit_may may w n b ≡ true → may ((n * 256 + b) * 256 ^ w) ((n * 256 + b + 1) * 256 ^ w) ≡ true
+  may_go_on : (w n b : ℕ) → digit_may may w n b ≡ true →
+      may ((n * 256 + b) * 256 ^ w) ((n * 256 + b + 1) * 256 ^ w) ≡ true
   may_go_on w n b h = (and_parts (ltb b 256) (may ((n * 256 + b) * 256 ^ w) ((n * 256 + b + 1) * 256 ^ w)) h).1
 
   continues_back : (w n m b : ℕ) → b < 256 → Continues w (n * 256 + b) m → Continues (suc w) n m
@@ -106,14 +118,16 @@ module _ (Lawful : ℕ → Type 0) (may : ℕ → ℕ → Bool) (choice : IsChoi
   last_back : (n m : ℕ) → Continues 0 n m → m ≡ n
   last_back n m c = omega (arith, c.low, c.high)
 
-  pub digits_reads : (w n : ℕ) → may (n * 256 ^ w) ((n + 1) * 256 ^ w) ≡ true → Reads (Continues w n) (bytes_high_first w) (read_digits may w n)
+  pub digits_reads : (w n : ℕ) → may (n * 256 ^ w) ((n + 1) * 256 ^ w) ≡ true →
+      Reads (Continues w n) (bytes_high_first w) (read_digits may w n)
   unfolding read_digits
   digits_reads zero n h = adapt (pure_reads n) (λ m e. last_is n m e h) (λ m c. last_back n m c) (λ m c. refl)
   digits_reads (suc w) n h =
       let some = digit_some w n h in
       adapt
       (then_reads (λ b. digit_may may w n b ≡ true) (λ b. b ∷ []) (byte_by (digit_may may w n))
-      (λ b m. Continues w (n * 256 + b) m) (λ b m. bytes_high_first w m) (λ b. read_digits may w (n * 256 + b)) (byte_at w)
+      (λ b m. Continues w (n * 256 + b) m) (λ b m. bytes_high_first w m)
+      (λ b. read_digits may w (n * 256 + b)) (byte_at w)
       (byte_reads (digit_may may w n) some.0 some.1)
       (λ b fb. digits_reads w (n * 256 + b) (may_go_on w n b fb))
       (λ b m fb c. digit_is w m n b (below_256 w n b fb) c.low c.high))
@@ -122,19 +136,25 @@ module _ (Lawful : ℕ → Type 0) (may : ℕ → ℕ → Bool) (choice : IsChoi
       (λ m c. refl)
 
   -- a number of w bytes, if each lawful one has so many and one is there
-  pub number_reads : (w some : ℕ) → Lawful some → ((m : ℕ) → Lawful m → m < 256 ^ w) → Reads Lawful (bytes_high_first w) (read_number w may)
+  pub number_reads : (w some : ℕ) → Lawful some → ((m : ℕ) → Lawful m → m < 256 ^ w) →
+      Reads Lawful (bytes_high_first w) (read_number w may)
   number_reads w some lawful fit =
-      adapt (digits_reads w 0 (choice.all (0 * 256 ^ w) ((0 + 1) * 256 ^ w) some (omega arith) (omega (arith, fit some lawful)) lawful))
+      adapt (digits_reads w 0
+      (choice.all (0 * 256 ^ w) ((0 + 1) * 256 ^ w) some (omega arith) (omega (arith, fit some lawful)) lawful))
       (λ m c. c.lawful) (λ m l. record { lawful = l; low = omega arith; high = omega (arith, fit m l) }) (λ m l. refl)
 
 -- a number of w bytes from low to high
-pub field_reads : (w low high : ℕ) → low ≤ high → high < 256 ^ w → Reads (λ n. (low ≤ n) × (n ≤ high)) (bytes_high_first w) (read_number w (within low high))
+pub field_reads : (w low high : ℕ) → low ≤ high → high < 256 ^ w →
+    Reads (λ n. (low ≤ n) × (n ≤ high)) (bytes_high_first w) (read_number w (within low high))
 field_reads w low high le fit =
-    number_reads (λ n. (low ≤ n) × (n ≤ high)) (within low high) (within_chooses low high le) w low (omega arith, le) (λ m l. omega (arith, l.1, fit))
+    number_reads (λ n. (low ≤ n) × (n ≤ high)) (within low high) (within_chooses low high le) w low (omega arith, le)
+    (λ m l. omega (arith, l.1, fit))
 
 -- a byte from low to high
-pub small_reads : (low high : ℕ) → low ≤ high → high < 256 → Reads (λ n. (low ≤ n) × (n ≤ high)) (λ n. n ∷ []) (read_number 1 (within low high))
+pub small_reads : (low high : ℕ) → low ≤ high → high < 256 →
+    Reads (λ n. (low ≤ n) × (n ≤ high)) (λ n. n ∷ []) (read_number 1 (within low high))
 small_reads low high le fit =
-    adapt (field_reads 1 low high le (omega arith)) (λ n l. l) (λ n l. l) (λ n l. ap (λ (b : ℕ). b ∷ []) (small_is n (omega (arith, l.1, fit)))) where
+    adapt (field_reads 1 low high le (omega arith)) (λ n l. l) (λ n l. l)
+    (λ n l. ap (λ (b : ℕ). b ∷ []) (small_is n (omega (arith, l.1, fit)))) where
       small_is : (n : ℕ) → n < 256 → n % 256 ≡ n
       small_is n lt = omega arith

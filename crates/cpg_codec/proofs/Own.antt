@@ -1,5 +1,6 @@
 -- An own deadline is eight bytes ff or a number up to 10^9, as the first byte tells.
-use Rattle.std.proofs.Common.{◌≡◌, ℕ, zero, suc, ◌+◌, ◌*◌, ◌^◌, ◌<◌, ◌≤◌, Bool, true, false, cond, ltb, leb, ◌&&◌, ◌||◌, List, [], ◌∷◌, length, get_or, Result, Ok, Err, refl, sym, ap, subst, ◌∙◌}
+use Rattle.std.proofs.Common.{◌≡◌, ℕ, zero, suc, ◌+◌, ◌*◌, ◌^◌, ◌<◌, ◌≤◌, Bool, true, false, cond, ltb, leb, ◌&&◌, ◌||◌}
+use Rattle.std.proofs.Common.{List, [], ◌∷◌, length, get_or, Result, Ok, Err, refl, sym, ap, subst, ◌∙◌}
 use Rattle.std.proofs.Common.{arith, inl, inr}
 use Rattle.std.proofs.lemmas.Bool.{le-ltb, lt-leb, and_left, and_right, cases_lt}
 use Rattle.std.proofs.lemmas.Nat.{mul-le}
@@ -8,50 +9,64 @@ use Rattle.cpg_codec.specs.Reading.{onward, digit_may, read_digits, read_number,
 use Rattle.cpg_codec.specs.Grammar.{deadline_may}
 
 pub Same : (ℕ → ℕ → Bool) → (ℕ → ℕ → Bool) → ℕ → ℕ → Type 0
-Same may other w n = (from below : ℕ) → n * 256 ^ w ≤ from → below ≤ (n + 1) * 256 ^ w → may from below ≡ other from below
+Same may other w n =
+    (from below : ℕ) → n * 256 ^ w ≤ from → below ≤ (n + 1) * 256 ^ w → may from below ≡ other from below
 
-go_same : (may other : ℕ → ℕ → Bool) (w n b : ℕ) (rest : List ℕ) (t : Bool) → read_digits may w (n * 256 + b) rest ≡ read_digits other w (n * 256 + b) rest
-    → onward (read_digits may w) (cond {A = Result (ℕ × List ℕ) ℕ} t (Ok (n * 256 + b, rest)) (Err (suc (length rest)))) ≡ onward (read_digits other w)
+go_same : (may other : ℕ → ℕ → Bool) (w n b : ℕ) (rest : List ℕ) (t : Bool) →
+    read_digits may w (n * 256 + b) rest ≡ read_digits other w (n * 256 + b) rest
+    → onward (read_digits may w) (cond {A = Result (ℕ × List ℕ) ℕ} t (Ok (n * 256 + b, rest)) (Err (suc (length rest))))
+    ≡ onward (read_digits other w)
     (cond {A = Result (ℕ × List ℕ) ℕ} t (Ok (n * 256 + b, rest)) (Err (suc (length rest))))
 go_same may other w n b rest true h = h
 go_same may other w n b rest false h = refl
 
 fold_go : (may : ℕ → ℕ → Bool) (w n b : ℕ) (rest : List ℕ) (t : Bool)
-    → onward (λ (d : ℕ). read_digits may w (n * 256 + d)) (cond {A = Result (ℕ × List ℕ) ℕ} t (Ok (b, rest)) (Err (suc (length rest)))) ≡ onward (read_digits may w)
+    → onward (λ (d : ℕ). read_digits may w (n * 256 + d))
+    (cond {A = Result (ℕ × List ℕ) ℕ} t (Ok (b, rest)) (Err (suc (length rest)))) ≡ onward (read_digits may w)
     (cond {A = Result (ℕ × List ℕ) ℕ} t (Ok (n * 256 + b, rest)) (Err (suc (length rest))))
 fold_go may w n b rest true = refl
 fold_go may w n b rest false = refl
 
-tests_same : (may other : ℕ → ℕ → Bool) (w n b : ℕ) → Same may other w (n * 256 + b) → digit_may may w n b ≡ digit_may other w n b
+tests_same : (may other : ℕ → ℕ → Bool) (w n b : ℕ) → Same may other w (n * 256 + b) →
+    digit_may may w n b ≡ digit_may other w n b
 unfolding Same
-tests_same may other w n b h = ap (λ (t : Bool). ltb b 256 && t) (h ((n * 256 + b) * 256 ^ w) ((n * 256 + b + 1) * 256 ^ w) (omega arith) (omega arith))
+tests_same may other w n b h = ap (λ (t : Bool). ltb b 256 && t)
+    (h ((n * 256 + b) * 256 ^ w) ((n * 256 + b + 1) * 256 ^ w) (omega arith) (omega arith))
 
-step_same : (may other : ℕ → ℕ → Bool) (w n b : ℕ) (rest : List ℕ) → Same may other w (n * 256 + b) → read_digits may w (n * 256 + b) rest ≡ read_digits other w (n * 256 + b) rest
+step_same : (may other : ℕ → ℕ → Bool) (w n b : ℕ) (rest : List ℕ) → Same may other w (n * 256 + b) →
+    read_digits may w (n * 256 + b) rest ≡ read_digits other w (n * 256 + b) rest
     → read_digits may (suc w) n (b ∷ rest) ≡ read_digits other (suc w) n (b ∷ rest)
 unfolding read_digits
 step_same may other w n b rest h k =
     fold_go may w n b rest (digit_may may w n b)
-    ∙ ap (λ (t : Bool). onward (read_digits may w) (cond {A = Result (ℕ × List ℕ) ℕ} t (Ok (n * 256 + b, rest)) (Err (suc (length rest))))) (tests_same may other w n b h)
+    ∙ ap (λ (t : Bool). onward (read_digits may w) (cond {A = Result (ℕ × List ℕ) ℕ} t (Ok (n * 256 + b, rest))
+    (Err (suc (length rest))))) (tests_same may other w n b h)
     ∙ go_same may other w n b rest (digit_may other w n b) k
     ∙ sym (fold_go other w n b rest (digit_may other w n b))
 
-refused : (may : ℕ → ℕ → Bool) (w n b : ℕ) (rest : List ℕ) → 256 ≤ b → read_digits may (suc w) n (b ∷ rest) ≡ Err (suc (length rest))
+refused : (may : ℕ → ℕ → Bool) (w n b : ℕ) (rest : List ℕ) → 256 ≤ b →
+    read_digits may (suc w) n (b ∷ rest) ≡ Err (suc (length rest))
 unfolding read_digits
-refused may w n b rest le = let t : digit_may may w n b ≡ false = and_left (ltb b 256) (may ((n * 256 + b) * 256 ^ w) ((n * 256 + b + 1) * 256 ^ w)) (le-ltb b 256 le) in rw t refl
+refused may w n b rest le = let t : digit_may may w n b ≡ false =
+    and_left (ltb b 256) (may ((n * 256 + b) * 256 ^ w) ((n * 256 + b + 1) * 256 ^ w)) (le-ltb b 256 le) in
+    rw t refl
 
 narrower : (may other : ℕ → ℕ → Bool) (w n b : ℕ) → b < 256 → Same may other (suc w) n → Same may other w (n * 256 + b)
 unfolding Same
 narrower may other w n b lt h from below lo hi =
     let p : 256 ^ suc w ≡ 256 ^ w * 256 = pow-suc 256 w in
     let k : (b + 1) * 256 ^ w ≤ 256 * 256 ^ w = mul-le (b + 1) (256 ^ w) 256 (256 ^ w) (omega arith) (omega arith) in
-    h from below (subst (λ (x : ℕ). n * x ≤ from) (sym p) (omega arith)) (subst (λ (x : ℕ). below ≤ (n + 1) * x) (sym p) (omega arith))
+    h from below (subst (λ (x : ℕ). n * x ≤ from) (sym p) (omega arith))
+    (subst (λ (x : ℕ). below ≤ (n + 1) * x) (sym p) (omega arith))
 
-pub digits_same : (may other : ℕ → ℕ → Bool) (w n : ℕ) (bytes : List ℕ) → Same may other w n → read_digits may w n bytes ≡ read_digits other w n bytes
+pub digits_same : (may other : ℕ → ℕ → Bool) (w n : ℕ) (bytes : List ℕ) → Same may other w n →
+    read_digits may w n bytes ≡ read_digits other w n bytes
 unfolding read_digits
 digits_same may other zero n bytes h = refl
 digits_same may other (suc w) n [] h = refl
 digits_same may other (suc w) n (b ∷ rest) h = elim (cases_lt b 256) [
-  | inl lt ↦ let k = narrower may other w n b lt h in step_same may other w n b rest k (digits_same may other w (n * 256 + b) rest k)
+  | inl lt ↦ let k = narrower may other w n b lt h in
+      step_same may other w n b rest k (digits_same may other w (n * 256 + b) rest k)
   | inr le ↦ refused may w n b rest le ∙ sym (refused other w n b rest le)
 ]
 
@@ -62,16 +77,19 @@ or_false false u e = e
 none_same : Same deadline_may (within 18446744073709551615 18446744073709551615) 7 (0 * 256 + 255)
 unfolding Same
 none_same from below lo hi =
-    let e : within 0 1000000000 from below ≡ false = and_right (ltb 0 below) (leb from 1000000000) (lt-leb from 1000000000 (omega arith)) in
+    let e : within 0 1000000000 from below ≡ false =
+    and_right (ltb 0 below) (leb from 1000000000) (lt-leb from 1000000000 (omega arith)) in
     rw e refl
 
 some_same : (b : ℕ) → b < 255 → Same deadline_may (within 0 1000000000) 7 (0 * 256 + b)
 unfolding Same
 some_same b lt from below lo hi =
     or_false (within 0 1000000000 from below) (within 18446744073709551615 18446744073709551615 from below)
-    (and_left (ltb 18446744073709551615 below) (leb from 18446744073709551615) (le-ltb 18446744073709551615 below (omega arith)))
+    (and_left (ltb 18446744073709551615 below) (leb from 18446744073709551615)
+    (le-ltb 18446744073709551615 below (omega arith)))
 
-pub deadline_none : (bytes : List ℕ) → get_or bytes 0 0 ≡ 255 → read_number 8 deadline_may bytes ≡ read_number 8 (within 18446744073709551615 18446744073709551615) bytes
+pub deadline_none : (bytes : List ℕ) → get_or bytes 0 0 ≡ 255 →
+    read_number 8 deadline_may bytes ≡ read_number 8 (within 18446744073709551615 18446744073709551615) bytes
 deadline_none [] e = absurd (omega arith)
 deadline_none (b ∷ rest) e = ap (λ (d : ℕ). read_number 8 deadline_may (d ∷ rest)) e
     ∙ step_same deadline_may (within 18446744073709551615 18446744073709551615) 7 0 255 rest none_same
@@ -82,10 +100,12 @@ deadline_end : read_number 8 deadline_may [] ≡ read_number 8 (within 0 1000000
 unfolding read_digits
 deadline_end = refl
 
-pub deadline_some : (bytes : List ℕ) → get_or bytes 0 0 < 256 → (get_or bytes 0 0 ≡ 255 → ⊥) → read_number 8 deadline_may bytes ≡ read_number 8 (within 0 1000000000) bytes
+pub deadline_some : (bytes : List ℕ) → get_or bytes 0 0 < 256 → (get_or bytes 0 0 ≡ 255 → ⊥) →
+    read_number 8 deadline_may bytes ≡ read_number 8 (within 0 1000000000) bytes
 deadline_some [] lt e = deadline_end
 deadline_some (b ∷ rest) lt e =
     let k = some_same b (below_255 b lt e) in
-    step_same deadline_may (within 0 1000000000) 7 0 b rest k (digits_same deadline_may (within 0 1000000000) 7 (0 * 256 + b) rest k) where
+    step_same deadline_may (within 0 1000000000) 7 0 b rest k
+    (digits_same deadline_may (within 0 1000000000) 7 (0 * 256 + b) rest k) where
       below_255 : (b : ℕ) → b < 256 → (b ≡ 255 → ⊥) → b < 255
       below_255 b lt e = elim (cases_lt b 255) [ inl h ↦ h | inr h ↦ absurd (e (omega arith)) ]

@@ -1,5 +1,6 @@
 -- Pieces put into a buffer one after another.
-use Rattle.std.proofs.Common.{◌≡◌, ℕ, ◌+◌, ◌<◌, ◌≤◌, List, [], ◌∷◌, ◌++◌, length, get_or, take, drop, Result, Ok, Err, sym, ap, subst, ◌∙◌, append_assoc, arith, take-append-drop}
+use Rattle.std.proofs.Common.{◌≡◌, ℕ, ◌+◌, ◌<◌, ◌≤◌, List, [], ◌∷◌, ◌++◌, length, get_or, take, drop, Result, Ok, Err}
+use Rattle.std.proofs.Common.{sym, ap, subst, ◌∙◌, append_assoc, arith, take-append-drop}
 use Rattle.std.specs.Prelude.{OnErr, OnOk}
 use Rattle.std.specs.List.{flat_map}
 use Rattle.std.proofs.lemmas.List.{append-nil, length-append, take_more, take-append-le, take_all}
@@ -13,10 +14,15 @@ pub IsPut-none : (a h : List ℕ) → IsPut a a h h []
 IsPut-none a h = record { written = []; taken = Took-none a; same = append-nil h }
 
 join : (h x y w v l m : List ℕ) → h ++ x ≡ w ++ l → l ++ y ≡ v ++ m → h ++ (x ++ y) ≡ (w ++ v) ++ m
-join h x y w v l m e f = sym (append_assoc h x y) ∙ ap (λ (t : List ℕ). t ++ y) e ∙ append_assoc w l y ∙ ap (λ (t : List ℕ). w ++ t) f ∙ sym (append_assoc w v m)
+join h x y w v l m e f = sym (append_assoc h x y) ∙ ap (λ (t : List ℕ). t ++ y) e ∙ append_assoc w l y
+    ∙ ap (λ (t : List ℕ). w ++ t) f ∙ sym (append_assoc w v m)
 
 pub IsPut-then : (a b c h l m x y : List ℕ) → IsPut a b h l x → IsPut b c l m y → IsPut a c h m (x ++ y)
-IsPut-then a b c h l m x y p q = record { written = p.written ++ q.written; taken = Took-trans a b c p.written q.written p.taken q.taken; same = join h x y p.written q.written l m p.same q.same }
+IsPut-then a b c h l m x y p q = record {
+  written = p.written ++ q.written;
+  taken = Took-trans a b c p.written q.written p.taken q.taken;
+  same = join h x y p.written q.written l m p.same q.same;
+}
 
 -- a proper front of the first pieces is one of all
 pub fails_first : (a b h x y : List ℕ) → TookPrefix a b (h ++ x) → TookPrefix a b (h ++ (x ++ y))
@@ -24,69 +30,106 @@ fails_first a b h x y p =
     let e : h ++ (x ++ y) ≡ (h ++ x) ++ y = sym (append_assoc h x y) in
     let l : length ((h ++ x) ++ y) ≡ length (h ++ x) + length y = length-append (h ++ x) y in
     let m : length (h ++ (x ++ y)) ≡ length ((h ++ x) ++ y) = ap length e in
-    let t : take p.0 (h ++ (x ++ y)) ≡ take p.0 (h ++ x) = ap (take p.0) e ∙ take-append-le p.0 (h ++ x) y (omega (arith, p.1)) in
+    let t : take p.0 (h ++ (x ++ y)) ≡ take p.0 (h ++ x) =
+    ap (take p.0) e ∙ take-append-le p.0 (h ++ x) y (omega (arith, p.1)) in
     (p.0, omega (arith, l, m, p.1), subst (Took a b) (sym t) p.2)
 
 -- a proper front of what was held and the second piece, after the first
 pub fails_second : (a b c h l x y : List ℕ) → IsPut a b h l x → TookPrefix b c (l ++ y) → TookPrefix a c (h ++ (x ++ y))
 fails_second a b c h l x y p q =
-    let e : h ++ (x ++ y) ≡ p.written ++ (l ++ y) = sym (append_assoc h x y) ∙ ap (λ (t : List ℕ). t ++ y) p.same ∙ append_assoc p.written l y in
-    let m : length (h ++ (x ++ y)) ≡ length p.written + length (l ++ y) = ap length e ∙ length-append p.written (l ++ y) in
-    let t : take (length p.written + q.0) (h ++ (x ++ y)) ≡ p.written ++ take q.0 (l ++ y) = ap (take (length p.written + q.0)) e ∙ take-append-add p.written (l ++ y) q.0 in
-    (length p.written + q.0, omega (arith, m, q.1), subst (Took a c) (sym t) (Took-trans a b c p.written (take q.0 (l ++ y)) p.taken q.2))
+    let e : h ++ (x ++ y) ≡ p.written ++ (l ++ y) =
+    sym (append_assoc h x y) ∙ ap (λ (t : List ℕ). t ++ y) p.same ∙ append_assoc p.written l y in
+    let m : length (h ++ (x ++ y)) ≡ length p.written + length (l ++ y) =
+    ap length e ∙ length-append p.written (l ++ y) in
+    let t : take (length p.written + q.0) (h ++ (x ++ y)) ≡ p.written ++ take q.0 (l ++ y) =
+    ap (take (length p.written + q.0)) e ∙ take-append-add p.written (l ++ y) q.0 in (
+      length p.written + q.0,
+      omega (arith, m, q.1),
+      subst (Took a c) (sym t) (Took-trans a b c p.written (take q.0 (l ++ y)) p.taken q.2),
+    )
 
 -- the second call's result is that of both
-pub Puts-then : {E : Type 0} (a b c h l m x y : List ℕ) (r : Result Unit E) → IsPut a b h l x → Puts b c l m r y → Puts a c h m r (x ++ y)
+pub Puts-then : {E : Type 0} (a b c h l m x y : List ℕ) (r : Result Unit E) → IsPut a b h l x → Puts b c l m r y →
+    Puts a c h m r (x ++ y)
 Puts-then a b c h l m x y (Ok u) p q = IsPut-then a b c h l m x y p q
 Puts-then a b c h l m x y (Err e) p q = fails_second a b c h l x y p q
 
-pub Puts-first : {E : Type 0} (a b h m x y : List ℕ) (r : Result Unit E) (e : E) → r ≡ Err e → TookPrefix a b (h ++ x) → Puts a b h m r (x ++ y)
+pub Puts-first : {E : Type 0} (a b h m x y : List ℕ) (r : Result Unit E) (e : E) → r ≡ Err e → TookPrefix a b (h ++ x) →
+    Puts a b h m r (x ++ y)
 Puts-first a b h m x y r e is p = rw is (fails_first a b h x y p)
 
 -- ---- a loop over a list
 
 module _ {X : Type 0} (f : X → List ℕ) where
-  one_more : (xs : List X) (i : ℕ) (d : X) → i < length xs → flat_map f (take (i + 1) xs) ≡ flat_map f (take i xs) ++ f (get_or xs i d)
-  one_more xs i d lt = ap (flat_map f) (take_more xs i d lt) ∙ flat_map-append f (take i xs) (get_or xs i d ∷ []) ∙ ap (λ (t : List ℕ). flat_map f (take i xs) ++ t) (append-nil (f (get_or xs i d)))
+  one_more : (xs : List X) (i : ℕ) (d : X) → i < length xs →
+      flat_map f (take (i + 1) xs) ≡ flat_map f (take i xs) ++ f (get_or xs i d)
+  one_more xs i d lt = ap (flat_map f) (take_more xs i d lt) ∙ flat_map-append f (take i xs) (get_or xs i d ∷ [])
+      ∙ ap (λ (t : List ℕ). flat_map f (take i xs) ++ t) (append-nil (f (get_or xs i d)))
 
-  rest_after : (xs : List X) (i : ℕ) (d : X) → i < length xs → (flat_map f (take i xs) ++ f (get_or xs i d)) ++ flat_map f (drop (i + 1) xs) ≡ flat_map f xs
+  rest_after : (xs : List X) (i : ℕ) (d : X) → i < length xs →
+      (flat_map f (take i xs) ++ f (get_or xs i d)) ++ flat_map f (drop (i + 1) xs) ≡ flat_map f xs
   rest_after xs i d lt =
-      ap (λ (t : List ℕ). t ++ flat_map f (drop (i + 1) xs)) (sym (one_more xs i d lt)) ∙ sym (flat_map-append f (take (i + 1) xs) (drop (i + 1) xs)) ∙ ap (flat_map f) (take-append-drop (i + 1) xs)
+      ap (λ (t : List ℕ). t ++ flat_map f (drop (i + 1) xs)) (sym (one_more xs i d lt))
+      ∙ sym (flat_map-append f (take (i + 1) xs) (drop (i + 1) xs)) ∙ ap (flat_map f) (take-append-drop (i + 1) xs)
 
-  pub puts_more : (a b c h l m : List ℕ) (xs : List X) (i : ℕ) (d : X) → i < length xs → IsPut a b h l (flat_map f (take i xs)) → IsPut b c l m (f (get_or xs i d)) →
+  pub puts_more : (a b c h l m : List ℕ) (xs : List X) (i : ℕ) (d : X) → i < length xs →
+      IsPut a b h l (flat_map f (take i xs)) →
+      IsPut b c l m (f (get_or xs i d)) →
       IsPut a c h m (flat_map f (take (i + 1) xs))
-  puts_more a b c h l m xs i d lt p q = subst (IsPut a c h m) (sym (one_more xs i d lt)) (IsPut-then a b c h l m (flat_map f (take i xs)) (f (get_or xs i d)) p q)
+  puts_more a b c h l m xs i d lt p q = subst (IsPut a c h m) (sym (one_more xs i d lt))
+      (IsPut-then a b c h l m (flat_map f (take i xs)) (f (get_or xs i d)) p q)
 
-  pub puts_fail : (a b c h l : List ℕ) (xs : List X) (i : ℕ) (d : X) → i < length xs → IsPut a b h l (flat_map f (take i xs)) → TookPrefix b c (l ++ f (get_or xs i d)) →
+  pub puts_fail : (a b c h l : List ℕ) (xs : List X) (i : ℕ) (d : X) → i < length xs →
+      IsPut a b h l (flat_map f (take i xs)) →
+      TookPrefix b c (l ++ f (get_or xs i d)) →
       TookPrefix a c (h ++ flat_map f xs)
   puts_fail a b c h l xs i d lt p q =
       subst (λ (t : List ℕ). TookPrefix a c (h ++ t)) (rest_after xs i d lt)
-      (fails_first a c h (flat_map f (take i xs) ++ f (get_or xs i d)) (flat_map f (drop (i + 1) xs)) (fails_second a b c h l (flat_map f (take i xs)) (f (get_or xs i d)) p q))
+      (fails_first a c h (flat_map f (take i xs) ++ f (get_or xs i d)) (flat_map f (drop (i + 1) xs))
+      (fails_second a b c h l (flat_map f (take i xs)) (f (get_or xs i d)) p q))
 
-  pub puts_all : (a b h l : List ℕ) (xs : List X) (i : ℕ) → length xs ≤ i → IsPut a b h l (flat_map f (take i xs)) → IsPut a b h l (flat_map f xs)
+  pub puts_all : (a b h l : List ℕ) (xs : List X) (i : ℕ) → length xs ≤ i → IsPut a b h l (flat_map f (take i xs)) →
+      IsPut a b h l (flat_map f xs)
   puts_all a b h l xs i le p = subst (IsPut a b h l) (ap (flat_map f) (take_all i xs le)) p
 
-pub Puts-failed : {E : Type 0} (a b h m x : List ℕ) (r : Result Unit E) (e : E) → r ≡ Err e → TookPrefix a b (h ++ x) → Puts a b h m r x
+pub Puts-failed : {E : Type 0} (a b h m x : List ℕ) (r : Result Unit E) (e : E) → r ≡ Err e → TookPrefix a b (h ++ x) →
+    Puts a b h m r x
 Puts-failed a b h m x r e is p = rw is p
 
 -- one element more is put, if the element has a name of its own
 module _ {X : Type 0} (f : X → List ℕ) where
-  pub item_more : (a b c h l m : List ℕ) (xs : List X) (i : ℕ) (x : X) → x ≡ get_or xs i x → i < length xs → IsPut a b h l (flat_map f (take i xs)) → IsPut b c l m (f x) →
+  pub item_more : (a b c h l m : List ℕ) (xs : List X) (i : ℕ) (x : X) → x ≡ get_or xs i x → i < length xs →
+      IsPut a b h l (flat_map f (take i xs)) →
+      IsPut b c l m (f x) →
       IsPut a c h m (flat_map f (take (i + 1) xs))
-  item_more a b c h l m xs i x is lt p q = puts_more f a b c h l m xs i x lt p (subst (λ (y : X). IsPut b c l m (f y)) is q)
+  item_more a b c h l m xs i x is lt p q =
+      puts_more f a b c h l m xs i x lt p (subst (λ (y : X). IsPut b c l m (f y)) is q)
 
-  pub item_fails : (a b c h l : List ℕ) (xs : List X) (i : ℕ) (x : X) → x ≡ get_or xs i x → i < length xs → IsPut a b h l (flat_map f (take i xs)) → TookPrefix b c (l ++ f x) →
+  pub item_fails : (a b c h l : List ℕ) (xs : List X) (i : ℕ) (x : X) → x ≡ get_or xs i x → i < length xs →
+      IsPut a b h l (flat_map f (take i xs)) →
+      TookPrefix b c (l ++ f x) →
       TookPrefix a c (h ++ flat_map f xs)
-  item_fails a b c h l xs i x is lt p q = puts_fail f a b c h l xs i x lt p (subst (λ (y : X). TookPrefix b c (l ++ f y)) is q)
+  item_fails a b c h l xs i x is lt p q =
+      puts_fail f a b c h l xs i x lt p (subst (λ (y : X). TookPrefix b c (l ++ f y)) is q)
 
 -- what is left in the buffer is written at the end
-pub rest_fails : {E : Type 0} (a b c h l x : List ℕ) (r : Result Unit E) → h ≡ [] → IsPut a b h l x → OnErr r (TookPrefix b c l) → OnErr r (TookPrefix a c x)
+pub rest_fails : {E : Type 0} (a b c h l x : List ℕ) (r : Result Unit E) → h ≡ [] → IsPut a b h l x →
+    OnErr r (TookPrefix b c l) →
+    OnErr r (TookPrefix a c x)
 rest_fails a b c h l x (Ok u) e p q = tt
 rest_fails a b c h l x (Err f) e p q =
     let k : IsPut a b [] l x = subst (λ (t : List ℕ). IsPut a b t l x) e p in
-    subst (TookPrefix a c) (append-nil x) (fails_second a b c [] l x [] k (subst (TookPrefix b c) (sym (append-nil l)) q))
+    subst (TookPrefix a c) (append-nil x)
+    (fails_second a b c [] l x [] k (subst (TookPrefix b c) (sym (append-nil l)) q))
 
 -- what was held is written, and then a piece that passes the buffer by
-pub Puts-past : {E : Type 0} (a b c : List ℕ) (h l x : List ℕ) (r : Result Unit E) → Took a b h → l ≡ [] → OnOk r (Took b c x) → OnErr r (TookPrefix b c x) → Puts a c h l r x
-Puts-past a b c h l x (Ok u) p e q f = record { written = h ++ x; taken = Took-trans a b c h x p q; same = sym (append-nil (h ++ x)) ∙ ap (λ (t : List ℕ). (h ++ x) ++ t) (sym e) }
-Puts-past a b c h l x (Err f) p e q o = fails_second a b c [] [] h x (record { written = h; taken = p; same = sym (append-nil h) }) o
+pub Puts-past : {E : Type 0} (a b c : List ℕ) (h l x : List ℕ) (r : Result Unit E) → Took a b h → l ≡ [] →
+    OnOk r (Took b c x) → OnErr r (TookPrefix b c x) →
+    Puts a c h l r x
+Puts-past a b c h l x (Ok u) p e q f = record {
+  written = h ++ x;
+  taken = Took-trans a b c h x p q;
+  same = sym (append-nil (h ++ x)) ∙ ap (λ (t : List ℕ). (h ++ x) ++ t) (sym e);
+}
+Puts-past a b c h l x (Err f) p e q o =
+    fails_second a b c [] [] h x (record { written = h; taken = p; same = sym (append-nil h) }) o

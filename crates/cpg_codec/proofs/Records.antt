@@ -1,15 +1,18 @@
 -- Records of a fixed number of bytes, read at once.
-use Rattle.std.proofs.Common.{◌≡◌, ℕ, ◌+◌, ◌-◌, ◌^◌, ◌<◌, ◌≤◌, true, cond, ltb, List, [], ◌∷◌, ◌++◌, length, get_or, take, drop, Ok, refl, sym, ap, ap₂, ◌∙◌, arith}
+use Rattle.std.proofs.Common.{◌≡◌, ℕ, ◌+◌, ◌-◌, ◌^◌, ◌<◌, ◌≤◌, true, cond, ltb, List, [], ◌∷◌, ◌++◌, length, get_or}
+use Rattle.std.proofs.Common.{take, drop, Ok, refl, sym, ap, ap₂, ◌∙◌, arith}
 use Rattle.std.specs.Int.{w64, from_be_bytes, to_be_bytes}
 use Rattle.std.proofs.lemmas.Nat.{be_bytes_8}
 use Rattle.std.proofs.Math.Seq.{take-length}
 use Rattle.cpg_table.specs.declared.space.VariableSpace.{VariableSpace}
 use Rattle.cpg_codec.specs.Fields.{field}
 use Rattle.cpg_codec.specs.Spelling.{byte}
-use Rattle.cpg_codec.specs.Grammar.{IsSpace, variable_count_from, variable_may, low_end, high_end, read_literal, read_front, read_place, read_edge}
+use Rattle.cpg_codec.specs.Grammar.{IsSpace, variable_count_from, variable_may, low_end, high_end, read_literal}
+use Rattle.cpg_codec.specs.Grammar.{read_front, read_place, read_edge}
 use Rattle.cpg_codec.proofs.Digits.{IsBytes, first_fits}
 use Rattle.cpg_codec.proofs.HeadFields.{place_reads, edge_reads}
-use Rattle.cpg_codec.proofs.ColumnFields.{few_fault, room_step, fault_some, range_to, may_to, literal_reads, front_reads}
+use Rattle.cpg_codec.proofs.ColumnFields.{few_fault, room_step, fault_some, range_to, may_to, literal_reads}
+use Rattle.cpg_codec.proofs.ColumnFields.{front_reads}
 
 abbrev two : List ℕ → List ℕ
 two bytes = get_or bytes 0 0 ∷ get_or bytes 1 0 ∷ []
@@ -18,7 +21,8 @@ abbrev three : List ℕ → List ℕ
 three bytes = get_or bytes 0 0 ∷ get_or bytes 1 0 ∷ get_or bytes 2 0 ∷ []
 
 abbrev nine : List ℕ → List ℕ
-nine bytes = get_or bytes 0 0 ∷ get_or bytes 1 0 ∷ get_or bytes 2 0 ∷ get_or bytes 3 0 ∷ get_or bytes 4 0 ∷ get_or bytes 5 0 ∷ get_or bytes 6 0 ∷ get_or bytes 7 0 ∷ get_or bytes 8 0 ∷ []
+nine bytes = get_or bytes 0 0 ∷ get_or bytes 1 0 ∷ get_or bytes 2 0 ∷ get_or bytes 3 0 ∷ get_or bytes 4 0
+    ∷ get_or bytes 5 0 ∷ get_or bytes 6 0 ∷ get_or bytes 7 0 ∷ get_or bytes 8 0 ∷ []
 
 rest_2 : (a b : ℕ) (rest : List ℕ) → take (length (a ∷ b ∷ rest) - 2) rest ≡ rest
 rest_2 a b rest = let e : length (a ∷ b ∷ rest) - 2 ≡ length rest = omega arith in rw e (take-length rest)
@@ -44,7 +48,9 @@ second_of_3 a b c = omega arith
 third_of_3 : (a b c : ℕ) → field 2 1 (a ∷ b ∷ c ∷ []) ≡ c
 third_of_3 a b c = omega arith
 
-pub edge_found : (processes : ℕ) (bytes fields : List ℕ) (from to : ℕ) → 0 < processes → processes ≤ 256 → 2 ≤ length bytes → fields ≡ two bytes → from ≡ field 0 1 fields → to ≡ field 1 1 fields →
+pub edge_found : (processes : ℕ) (bytes fields : List ℕ) (from to : ℕ) → 0 < processes → processes ≤ 256 →
+    2 ≤ length bytes → fields ≡ two bytes → from ≡ field 0 1 fields →
+    to ≡ field 1 1 fields →
     from < processes → to < processes
     → read_edge processes bytes ≡ Ok ((from, to), take (length bytes - 2) (drop 2 bytes))
 edge_found processes [] fields from to some few long ef e0 e1 lf lt = absurd (omega arith)
@@ -52,10 +58,13 @@ edge_found processes (a ∷ []) fields from to some few long ef e0 e1 lf lt = ab
 edge_found processes (a ∷ b ∷ rest) fields from to some few long ef e0 e1 lf lt =
     let p : a ≡ from = sym (e0 ∙ ap (field 0 1) ef ∙ first_of_2 a b) in
     let q : b ≡ to = sym (e1 ∙ ap (field 1 1) ef ∙ second_of_2 a b) in
-    ap₂ (λ (x : ℕ) (y : ℕ). read_edge processes (x ∷ y ∷ rest)) p q ∙ (edge_reads processes some few).again (from, to) rest (record { from = lf; to = lt }) ∙
+    ap₂ (λ (x : ℕ) (y : ℕ). read_edge processes (x ∷ y ∷ rest)) p q
+    ∙ (edge_reads processes some few).again (from, to) rest (record { from = lf; to = lt }) ∙
     ap (λ (t : List ℕ). Ok ((from, to), t)) (sym (rest_2 a b rest))
 
-pub place_found : (nodes ones : ℕ) (bytes fields : List ℕ) (node flag : ℕ) → 0 < nodes → nodes ≤ 256 → 2 ≤ length bytes → fields ≡ two bytes → node ≡ field 0 1 fields → flag ≡ field 1 1 fields →
+pub place_found : (nodes ones : ℕ) (bytes fields : List ℕ) (node flag : ℕ) → 0 < nodes → nodes ≤ 256 →
+    2 ≤ length bytes → fields ≡ two bytes → node ≡ field 0 1 fields →
+    flag ≡ field 1 1 fields →
     node < nodes → flag ≤ cond (ltb ones 32) 1 0
     → read_place nodes ones bytes ≡ Ok ((node, flag), take (length bytes - 2) (drop 2 bytes))
 place_found nodes ones [] fields node flag some few long ef e0 e1 l0 l1 = absurd (omega arith)
@@ -63,13 +72,19 @@ place_found nodes ones (a ∷ []) fields node flag some few long ef e0 e1 l0 l1 
 place_found nodes ones (a ∷ b ∷ rest) fields node flag some few long ef e0 e1 l0 l1 =
     let p : a ≡ node = sym (e0 ∙ ap (field 0 1) ef ∙ first_of_2 a b) in
     let q : b ≡ flag = sym (e1 ∙ ap (field 1 1) ef ∙ second_of_2 a b) in
-    ap₂ (λ (x : ℕ) (y : ℕ). read_place nodes ones (x ∷ y ∷ rest)) p q ∙ (place_reads nodes ones some few).again (node, flag) rest (omega arith, l1) ∙
+    ap₂ (λ (x : ℕ) (y : ℕ). read_place nodes ones (x ∷ y ∷ rest)) p q
+    ∙ (place_reads nodes ones some few).again (node, flag) rest (omega arith, l1) ∙
     ap (λ (t : List ℕ). Ok ((node, flag), t)) (sym (rest_2 a b rest))
 
-pub literal_found : (s : VariableSpace) (left least : ℕ) (bytes fields : List ℕ) (variable low high : ℕ) → IsSpace s → 3 ≤ length bytes → fields ≡ three bytes → variable ≡ field 0 1 fields →
+pub literal_found : (s : VariableSpace) (left least : ℕ) (bytes fields : List ℕ) (variable low high : ℕ) → IsSpace s →
+    3 ≤ length bytes → fields ≡ three bytes →
+    variable ≡ field 0 1 fields →
     low ≡ field 1 1 fields → high ≡ field 2 1 fields
     → variable_may s least left variable ≡ true → low ≤ low_end s variable → low ≤ high → high ≤ high_end s variable low
-    → read_literal s left least bytes ≡ Ok (record { variable = variable; low = low; high = high }, take (length bytes - 3) (drop 3 bytes))
+    → read_literal s left least bytes ≡ Ok (
+      record { variable = variable; low = low; high = high },
+      take (length bytes - 3) (drop 3 bytes),
+    )
 literal_found s left least [] fields v lo hi i long ef e0 e1 e2 m a b c = absurd (omega arith)
 literal_found s left least (x ∷ []) fields v lo hi i long ef e0 e1 e2 m a b c = absurd (omega arith)
 literal_found s left least (x ∷ y ∷ []) fields v lo hi i long ef e0 e1 e2 m a b c = absurd (omega arith)
@@ -85,27 +100,37 @@ literal_found s left least (x ∷ y ∷ z ∷ rest) fields v lo hi i long ef e0 
     (record { rises = n.0; lawful = record { allowed = n.1; range = range_to (ltb v 128) s lo hi (λ e. fault_some s v n.1 e) a b c }; leaves = n.2 })
     ∙ ap (λ (t : List ℕ). Ok (record { variable = v; low = lo; high = hi }, t)) (sym (rest_3 x y z rest))
 
-column_long : (a b c d e f g h i : ℕ) → field 0 8 (a ∷ b ∷ c ∷ d ∷ e ∷ f ∷ g ∷ h ∷ i ∷ []) ≡ from_be_bytes w64 (a ∷ b ∷ c ∷ d ∷ e ∷ f ∷ g ∷ h ∷ [])
+column_long : (a b c d e f g h i : ℕ) →
+    field 0 8 (a ∷ b ∷ c ∷ d ∷ e ∷ f ∷ g ∷ h ∷ i ∷ []) ≡ from_be_bytes w64 (a ∷ b ∷ c ∷ d ∷ e ∷ f ∷ g ∷ h ∷ [])
 column_long a b c d e f g h i = omega arith
 
 column_last : (a b c d e f g h i : ℕ) → field 8 1 (a ∷ b ∷ c ∷ d ∷ e ∷ f ∷ g ∷ h ∷ i ∷ []) ≡ i
 column_last a b c d e f g h i = omega arith
 
-front_here : (s : VariableSpace) (a b c d e f g h i : ℕ) (rest fields : List ℕ) (time count : ℕ) → IsSpace s → IsBytes (a ∷ b ∷ c ∷ d ∷ e ∷ f ∷ g ∷ h ∷ []) →
+front_here : (s : VariableSpace) (a b c d e f g h i : ℕ) (rest fields : List ℕ) (time count : ℕ) → IsSpace s →
+    IsBytes (a ∷ b ∷ c ∷ d ∷ e ∷ f ∷ g ∷ h ∷ []) →
     fields ≡ a ∷ b ∷ c ∷ d ∷ e ∷ f ∷ g ∷ h ∷ i ∷ [] → time ≡ field 0 8 fields → count ≡ field 8 1 fields
-    → time < 2 ^ 60 → count ≤ variable_count_from s 0 → read_front s (a ∷ b ∷ c ∷ d ∷ e ∷ f ∷ g ∷ h ∷ i ∷ rest) ≡ Ok ((time, count), rest)
+    → time < 2 ^ 60 → count ≤ variable_count_from s 0 →
+    read_front s (a ∷ b ∷ c ∷ d ∷ e ∷ f ∷ g ∷ h ∷ i ∷ rest) ≡ Ok ((time, count), rest)
 front_here s a b c d e f g h i rest fields time count k fits ef e0 e1 lt le =
-    let t : time ≡ from_be_bytes w64 (a ∷ b ∷ c ∷ d ∷ e ∷ f ∷ g ∷ h ∷ []) = e0 ∙ ap (field 0 8) ef ∙ column_long a b c d e f g h i in
+    let t : time ≡ from_be_bytes w64 (a ∷ b ∷ c ∷ d ∷ e ∷ f ∷ g ∷ h ∷ []) =
+    e0 ∙ ap (field 0 8) ef ∙ column_long a b c d e f g h i in
     let n : i ≡ count = sym (e1 ∙ ap (field 8 1) ef ∙ column_last a b c d e f g h i) in
-    let q : to_be_bytes w64 time ≡ a ∷ b ∷ c ∷ d ∷ e ∷ f ∷ g ∷ h ∷ [] = be_bytes_8 (a ∷ b ∷ c ∷ d ∷ e ∷ f ∷ g ∷ h ∷ []) time refl fits t in
-    ap₂ (λ (xs : List ℕ) (m : ℕ). read_front s ((xs ++ byte m) ++ rest)) (sym q) n ∙ (front_reads s k).again (time, count) rest (lt, le)
+    let q : to_be_bytes w64 time ≡ a ∷ b ∷ c ∷ d ∷ e ∷ f ∷ g ∷ h ∷ [] =
+    be_bytes_8 (a ∷ b ∷ c ∷ d ∷ e ∷ f ∷ g ∷ h ∷ []) time refl fits t in
+    ap₂ (λ (xs : List ℕ) (m : ℕ). read_front s ((xs ++ byte m) ++ rest)) (sym q) n
+    ∙ (front_reads s k).again (time, count) rest (lt, le)
 
-pub front_found : (s : VariableSpace) (bytes fields : List ℕ) (time count : ℕ) → IsSpace s → 9 ≤ length bytes → IsBytes bytes → fields ≡ nine bytes → time ≡ field 0 8 fields →
+pub front_found : (s : VariableSpace) (bytes fields : List ℕ) (time count : ℕ) → IsSpace s → 9 ≤ length bytes →
+    IsBytes bytes → fields ≡ nine bytes →
+    time ≡ field 0 8 fields →
     count ≡ field 8 1 fields → time < 2 ^ 60 → count ≤ variable_count_from s 0
     → read_front s bytes ≡ Ok ((time, count), take (length bytes - 9) (drop 9 bytes))
 front_found s (a ∷ b ∷ c ∷ d ∷ e ∷ f ∷ g ∷ h ∷ i ∷ rest) fields time count k long fits ef e0 e1 lt le =
-    front_here s a b c d e f g h i rest fields time count k (first_fits (a ∷ b ∷ c ∷ d ∷ e ∷ f ∷ g ∷ h ∷ i ∷ rest) fits) ef e0 e1 lt le
-    ∙ ap (λ (t : List ℕ). Ok ((time, count), t)) (sym (rest_9 (length (a ∷ b ∷ c ∷ d ∷ e ∷ f ∷ g ∷ h ∷ i ∷ rest)) rest (omega arith)))
+    front_here s a b c d e f g h i rest fields time count k
+    (first_fits (a ∷ b ∷ c ∷ d ∷ e ∷ f ∷ g ∷ h ∷ i ∷ rest) fits) ef e0 e1 lt le
+    ∙ ap (λ (t : List ℕ). Ok ((time, count), t))
+    (sym (rest_9 (length (a ∷ b ∷ c ∷ d ∷ e ∷ f ∷ g ∷ h ∷ i ∷ rest)) rest (omega arith)))
 front_found s [] fields time count k long fits ef e0 e1 lt le = absurd (omega arith)
 front_found s (a ∷ []) fields time count k long fits ef e0 e1 lt le = absurd (omega arith)
 front_found s (a ∷ b ∷ []) fields time count k long fits ef e0 e1 lt le = absurd (omega arith)

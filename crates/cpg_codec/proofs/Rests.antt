@@ -12,7 +12,10 @@ last_part bytes front rest e =
 
 module _ {A : Type 0} {Fits : A → Type 0} {spell : A → List ℕ} {read : Reader A} (reads : Reads Fits spell read) where
   pub left_within : (bytes : List ℕ) (x : A) (rest : List ℕ) → read bytes ≡ Ok (x, rest) → length rest ≤ length bytes
-  left_within bytes x rest e = let p = (reads.takes bytes x rest e).1 in omega (arith, ap length p, length-append (spell x) rest)
+  left_within bytes x rest e = let p = (reads.takes bytes x rest e).1 in
+      omega (arith, ap length p, length-append (spell x) rest)
 
-  pub left_is : (bytes : List ℕ) (x : A) (rest : List ℕ) → read bytes ≡ Ok (x, rest) → read bytes ≡ Ok (x, drop (length bytes - length rest) bytes)
-  left_is bytes x rest e = e ∙ ap (λ (t : List ℕ). Ok (x, t)) (sym (last_part bytes (spell x) rest (reads.takes bytes x rest e).1))
+  pub left_is : (bytes : List ℕ) (x : A) (rest : List ℕ) → read bytes ≡ Ok (x, rest) →
+      read bytes ≡ Ok (x, drop (length bytes - length rest) bytes)
+  left_is bytes x rest e =
+      e ∙ ap (λ (t : List ℕ). Ok (x, t)) (sym (last_part bytes (spell x) rest (reads.takes bytes x rest e).1))

@@ -23,29 +23,41 @@ short_column s c i h =
       within e c n a b r = omega arith
 
 pub short_row : (s : VariableSpace) (r : Row) → IsSpace s → IsLawfulRow s r → IsShortRow r
-short_row s r i h = record { few = h.few; short = All-weaker (IsLawfulColumn s) (λ (c : Column). length c.cube ≤ 255) (λ c q. short_column s c i q) r.columns h.columns }
+short_row s r i h = record {
+  few = h.few;
+  short = All-weaker (IsLawfulColumn s) (λ (c : Column). length c.cube ≤ 255)
+      (λ c q. short_column s c i q) r.columns h.columns;
+}
 
-split : {X : Type 0} (P : X → Type 0) (xs ys : List X) → AllByRecursion P (xs ++ ys) → AllByRecursion P xs × AllByRecursion P ys
+split : {X : Type 0} (P : X → Type 0) (xs ys : List X) → AllByRecursion P (xs ++ ys) →
+    AllByRecursion P xs × AllByRecursion P ys
 split P [] ys h = (tt, h)
 split P (x ∷ xs) ys h = let r = split P xs ys h.1 in ((h.0, r.0), r.1)
 
 pub All-parts : {X : Type 0} (P : X → Type 0) (xs ys : List X) → All P (xs ++ ys) → All P xs × All P ys
-All-parts P xs ys h = let r = split P xs ys (recursion_from_All P (xs ++ ys) h) in (All-from_recursion P xs r.0, All-from_recursion P ys r.1)
+All-parts P xs ys h = let r = split P xs ys (recursion_from_All P (xs ++ ys) h) in
+    (All-from_recursion P xs r.0, All-from_recursion P ys r.1)
 
 pub short_table : (t : NodeTable) → IsTable t → All IsShortRow (rows_of t)
-short_table t h = All-weaker (IsLawfulRow (space_of h.head)) IsShortRow (λ r q. short_row (space_of h.head) r (head_space h.head h.lawful) q) (rows_of t) h.of.lawful
+short_table t h = All-weaker (IsLawfulRow (space_of h.head)) IsShortRow
+    (λ r q. short_row (space_of h.head) r (head_space h.head h.lawful) q) (rows_of t) h.of.lawful
 
 pub short_starts : (t : NodeTable) → IsTable t → All IsShortRow t.starts
 short_starts t h = (All-parts IsShortRow t.starts (t.sends ++ t.hears) (short_table t h)).0
 
 pub short_sends : (t : NodeTable) → IsTable t → All IsShortRow t.sends
-short_sends t h = (All-parts IsShortRow t.sends t.hears (All-parts IsShortRow t.starts (t.sends ++ t.hears) (short_table t h)).1).0
+short_sends t h =
+    (All-parts IsShortRow t.sends t.hears (All-parts IsShortRow t.starts (t.sends ++ t.hears) (short_table t h)).1).0
 
 pub short_hears : (t : NodeTable) → IsTable t → All IsShortRow t.hears
-short_hears t h = (All-parts IsShortRow t.sends t.hears (All-parts IsShortRow t.starts (t.sends ++ t.hears) (short_table t h)).1).1
+short_hears t h =
+    (All-parts IsShortRow t.sends t.hears (All-parts IsShortRow t.starts (t.sends ++ t.hears) (short_table t h)).1).1
 
-pub table_parts : (t : NodeTable) → table_bytes t ≡ flat_map row_bytes t.starts ++ (flat_map row_bytes t.sends ++ flat_map row_bytes t.hears)
-table_parts t = flat_map-append row_bytes t.starts (t.sends ++ t.hears) ∙ ap (λ (x : List ℕ). flat_map row_bytes t.starts ++ x) (flat_map-append row_bytes t.sends t.hears)
+pub table_parts : (t : NodeTable) →
+    table_bytes t ≡ flat_map row_bytes t.starts ++ (flat_map row_bytes t.sends ++ flat_map row_bytes t.hears)
+table_parts t = flat_map-append row_bytes t.starts (t.sends ++ t.hears)
+    ∙ ap (λ (x : List ℕ). flat_map row_bytes t.starts ++ x) (flat_map-append row_bytes t.sends t.hears)
 
 pub short_edges : (h : Head) → IsHead h → All IsShortEdge h.edges
-short_edges h q = All-weaker (IsHeadEdge (length h.processes)) IsShortEdge (λ e k. record { from = omega (arith, k.from, q.few_processes); to = omega (arith, k.to, q.few_processes) }) h.edges q.edges
+short_edges h q = All-weaker (IsHeadEdge (length h.processes)) IsShortEdge (λ e k.
+    record { from = omega (arith, k.from, q.few_processes); to = omega (arith, k.to, q.few_processes) }) h.edges q.edges

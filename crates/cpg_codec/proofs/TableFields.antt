@@ -1,5 +1,6 @@
 -- The rows of the nodes, and the whole.
-use Rattle.std.proofs.Common.{◌≡◌, ℕ, zero, suc, ◌+◌, ◌-◌, ◌<◌, ◌≤◌, min, List, [], ◌∷◌, ◌++◌, length, take, drop, get_or, Ok, refl, sym, ap, ap₂, subst, ◌∙◌, arith, take-append-drop}
+use Rattle.std.proofs.Common.{◌≡◌, ℕ, zero, suc, ◌+◌, ◌-◌, ◌<◌, ◌≤◌, min, List, [], ◌∷◌, ◌++◌, length, take, drop}
+use Rattle.std.proofs.Common.{get_or, Ok, refl, sym, ap, ap₂, subst, ◌∙◌, arith, take-append-drop}
 use Rattle.std.specs.Prelude.{All, sum_by}
 use Rattle.std.specs.List.{flat_map, AllByRecursion}
 use Rattle.std.specs.Int.{w16, to_be_bytes}
@@ -13,10 +14,12 @@ use Rattle.cpg_table.specs.Table.{Row, NodeTable, empty_table}
 use Rattle.cpg_table.specs.declared.own.Own.{Own}
 use Rattle.cpg_table.specs.Shape.{items_of}
 use Rattle.cpg_table.specs.Items.{starts_of, sends_of, hears_of}
-use Rattle.cpg_table.specs.Lawful.{Tables, space_of, IsLawfulColumn, IsLawfulRow, IsTableOf, AreRowsOf, AreTablesOf, rows_of, column_count}
+use Rattle.cpg_table.specs.Lawful.{Tables, space_of, IsLawfulColumn, IsLawfulRow, IsTableOf, AreRowsOf, AreTablesOf}
+use Rattle.cpg_table.specs.Lawful.{rows_of, column_count}
 use Rattle.cpg_table.specs.declared.space.VariableSpace.{VariableSpace}
 use Rattle.cpg_codec.specs.Spelling.{column_bytes, row_bytes, table_bytes, head_bytes, spelling}
-use Rattle.cpg_codec.specs.Grammar.{IsSpace, read_column, most, read_row, read_rows, items_of_node, table_from, read_node_table, numbers_from, read_nodes, read_tables}
+use Rattle.cpg_codec.specs.Grammar.{IsSpace, read_column, most, read_row, read_rows, items_of_node, table_from}
+use Rattle.cpg_codec.specs.Grammar.{read_node_table, numbers_from, read_nodes, read_tables}
 use Rattle.cpg_codec.specs.Packs.{AreLawful}
 use Rattle.cpg_codec.proofs.Laws.{Reads, pure_reads, seq, adapt}
 use Rattle.cpg_codec.proofs.Numbers.{field_reads}
@@ -34,12 +37,15 @@ pub record FitsRow (s : VariableSpace) (item before : ℕ) (r : Row) : Type 0 wh
   pub lawful : IsLawfulRow s r
   pub room : before + length r.columns ≤ most
 
-pub row_reads : (s : VariableSpace) (item before : ℕ) → IsSpace s → before ≤ most → Reads (FitsRow s item before) row_bytes (read_row s item before)
+pub row_reads : (s : VariableSpace) (item before : ℕ) → IsSpace s → before ≤ most →
+    Reads (FitsRow s item before) row_bytes (read_row s item before)
 unfolding read_row
 row_reads s item before i le =
     adapt
-    (seq (λ (r : Row). length r.columns) (field_reads 2 0 (min MOST_COLUMNS (most - before)) (omega arith) (omega arith))
-    (λ n fn. seq (λ (r : Row). r.columns) (times_reads (IsLawfulColumn s) column_bytes (read_column s) n (λ _. column_reads s i))
+    (seq (λ (r : Row). length r.columns)
+    (field_reads 2 0 (min MOST_COLUMNS (most - before)) (omega arith) (omega arith))
+    (λ n fn. seq (λ (r : Row). r.columns)
+    (times_reads (IsLawfulColumn s) column_bytes (read_column s) n (λ _. column_reads s i))
     (λ cs fcs. pure_reads (record { item = item; columns = cs }))
     (λ cs r fcs h. ap (λ (q : Row). q.columns) h))
     (λ n r fn h. h.0.0))
@@ -49,7 +55,13 @@ row_reads s item before i le =
       room =
           omega (arith, h.0.1);
     })
-    (λ r h. ((omega arith, omega (arith, h.lawful.few, h.room)), ((refl, recursion_from_All (IsLawfulColumn s) r.columns h.lawful.columns), ap (λ (n : ℕ). record r { item = n }) h.item_is)))
+    (λ r h. (
+      (omega arith, omega (arith, h.lawful.few, h.room)),
+      (
+        (refl, recursion_from_All (IsLawfulColumn s) r.columns h.lawful.columns),
+        ap (λ (n : ℕ). record r { item = n }) h.item_is,
+      ),
+    ))
     (λ r h. regroup_2 (to_be_bytes w16 (length r.columns)) (flat_map column_bytes r.columns))
 
 pub record FitRows (s : VariableSpace) (items : List ℕ) (before : ℕ) (rs : List Row) : Type 0 where
@@ -69,7 +81,8 @@ none_first a xs e = cc
 none_last : (a : ℕ) (xs : List ℕ) → [] ≡ a ∷ xs → ⊥
 none_last a xs e = cc
 
-pub rows_reads : (s : VariableSpace) (items : List ℕ) (before : ℕ) → IsSpace s → before ≤ most → Reads (FitRows s items before) (flat_map row_bytes) (read_rows s items before)
+pub rows_reads : (s : VariableSpace) (items : List ℕ) (before : ℕ) → IsSpace s → before ≤ most →
+    Reads (FitRows s items before) (flat_map row_bytes) (read_rows s items before)
 unfolding read_rows
 rows_reads s items before i le =
     each_reads (λ (c : ℕ) (r : Row). c + length r.columns) (read_row s)
@@ -79,10 +92,16 @@ rows_reads s items before i le =
     (λ c inv. record { items_are = refl; lawful = tt; room = omega arith })
     (λ c r rs g. none_first r.item (items_of rs) g.items_are)
     (λ l ls c g. none_last l ls g.items_are)
-    (λ l ls c r rs inv f g. record { items_are = ap₂ (λ (x : ℕ) (xs : List ℕ). x ∷ xs) f.item_is g.items_are; lawful = (f.lawful, g.lawful); room = omega (arith, count_more r rs, g.room) })
+    (λ l ls c r rs inv f g. record {
+      items_are = ap₂ (λ (x : ℕ) (xs : List ℕ). x ∷ xs) f.item_is g.items_are;
+      lawful = (f.lawful, g.lawful);
+      room = omega (arith, count_more r rs, g.room);
+    })
     (λ l ls c r rs inv g.
-    let p = first_items r.item l (items_of rs) ls g.items_are in
-    (record { item_is = p.0; lawful = g.lawful.0; room = omega (arith, count_more r rs, g.room) }, record { items_are = p.1; lawful = g.lawful.1; room = omega (arith, count_more r rs, g.room) }))
+    let p = first_items r.item l (items_of rs) ls g.items_are in (
+      record { item_is = p.0; lawful = g.lawful.0; room = omega (arith, count_more r rs, g.room) },
+      record { items_are = p.1; lawful = g.lawful.1; room = omega (arith, count_more r rs, g.room) },
+    ))
     items before le
 
 -- ---- a table of its rows
@@ -119,7 +138,9 @@ module _ (rs : List Row) (s t u : List ℕ) (e : items_of rs ≡ s ++ (t ++ u)) 
   third_part : items_of (drop (length t) (drop (length s) rs)) ≡ u
   third_part = items-drop (length t) (drop (length s) rs) ∙ ap (drop (length t)) behind ∙ drop-append_seam t u
 
-pub made_table : (h : Head) (a : ℕ) (rs : List Row) → items_of rs ≡ items_of_node h a → All (IsLawfulRow (space_of h)) rs → IsTableOf h a (table_from h a rs)
+pub made_table : (h : Head) (a : ℕ) (rs : List Row) → items_of rs ≡ items_of_node h a →
+    All (IsLawfulRow (space_of h)) rs →
+    IsTableOf h a (table_from h a rs)
 made_table h a rs e all = record {
   faults = refl;
   first_broadcast = refl;
@@ -133,9 +154,11 @@ made_table h a rs e all = record {
 pub table_items : (h : Head) (a : ℕ) (t : NodeTable) → IsTableOf h a t → items_of (rows_of t) ≡ items_of_node h a
 table_items h a t q =
     map-append (λ (r : Row). r.item) t.starts (t.sends ++ t.hears)
-    ∙ ap₂ (λ (x : List ℕ) (y : List ℕ). x ++ y) q.starts (map-append (λ (r : Row). r.item) t.sends t.hears ∙ ap₂ (λ (x : List ℕ) (y : List ℕ). x ++ y) q.sends q.hears)
+    ∙ ap₂ (λ (x : List ℕ) (y : List ℕ). x ++ y) q.starts
+    (map-append (λ (r : Row). r.item) t.sends t.hears ∙ ap₂ (λ (x : List ℕ) (y : List ℕ). x ++ y) q.sends q.hears)
 
-same_table : (t : NodeTable) (f b : ℕ) (o : List Own) (x y z : List Row) → f ≡ t.faults → b ≡ t.first_broadcast → o ≡ t.own → x ≡ t.starts → y ≡ t.sends → z ≡ t.hears
+same_table : (t : NodeTable) (f b : ℕ) (o : List Own) (x y z : List Row) → f ≡ t.faults → b ≡ t.first_broadcast →
+    o ≡ t.own → x ≡ t.starts → y ≡ t.sends → z ≡ t.hears
     → t ≡ record { faults = f; first_broadcast = b; own = o; starts = x; sends = y; hears = z }
 same_table t f b o x y z ef eb eo ex ey ez = rw (ef, eb, eo, ex, ey, ez) refl
 
@@ -147,9 +170,12 @@ rest_again n x y e = rw e (drop-append_seam x y)
 
 pub table_again : (h : Head) (a : ℕ) (t : NodeTable) → IsTableOf h a t → t ≡ table_from h a (rows_of t)
 table_again h a t q =
-    let n : length (starts_of h a) ≡ length t.starts = sym (ap length q.starts) ∙ length-map t.starts (λ (r : Row). r.item) in
-    let m : length (sends_of h a) ≡ length t.sends = sym (ap length q.sends) ∙ length-map t.sends (λ (r : Row). r.item) in
-    let b : drop (length (starts_of h a)) (rows_of t) ≡ t.sends ++ t.hears = rest_again (length (starts_of h a)) t.starts (t.sends ++ t.hears) n in
+    let n : length (starts_of h a) ≡ length t.starts =
+    sym (ap length q.starts) ∙ length-map t.starts (λ (r : Row). r.item) in
+    let m : length (sends_of h a) ≡ length t.sends =
+    sym (ap length q.sends) ∙ length-map t.sends (λ (r : Row). r.item) in
+    let b : drop (length (starts_of h a)) (rows_of t) ≡ t.sends ++ t.hears =
+    rest_again (length (starts_of h a)) t.starts (t.sends ++ t.hears) n in
     same_table t _ _ _ _ _ _ (sym q.faults) (sym q.first_broadcast) (sym q.own)
     (starts_again (length (starts_of h a)) t.starts (t.sends ++ t.hears) n)
     (ap (take (length (sends_of h a))) b ∙ starts_again (length (sends_of h a)) t.sends t.hears m)
@@ -159,15 +185,27 @@ pub record FitsTable (h : Head) (a before : ℕ) (t : NodeTable) : Type 0 where
   pub lawful : IsTableOf h a t
   pub room : before + column_count (rows_of t) ≤ most
 
-pub table_reads : (h : Head) (a before : ℕ) → IsSpace (space_of h) → before ≤ most → Reads (FitsTable h a before) table_bytes (read_node_table h a before)
+pub table_reads : (h : Head) (a before : ℕ) → IsSpace (space_of h) → before ≤ most →
+    Reads (FitsTable h a before) table_bytes (read_node_table h a before)
 unfolding read_node_table
 table_reads h a before i le =
     adapt
     (seq rows_of (rows_reads (space_of h) (items_of_node h a) before i le)
     (λ rs frs. pure_reads (table_from h a rs))
     (λ rs t frs q. ap rows_of q ∙ rows_again h a rs))
-    (λ t q. record { lawful = subst (IsTableOf h a) (sym q.1) (made_table h a (rows_of t) q.0.items_are (All-from_recursion (IsLawfulRow (space_of h)) (rows_of t) q.0.lawful)); room = q.0.room })
-    (λ t q. (record { items_are = table_items h a t q.lawful; lawful = recursion_from_All (IsLawfulRow (space_of h)) (rows_of t) q.lawful.lawful; room = q.room }, table_again h a t q.lawful))
+    (λ t q. record {
+      lawful = subst (IsTableOf h a) (sym q.1) (made_table h a (rows_of t) q.0.items_are
+          (All-from_recursion (IsLawfulRow (space_of h)) (rows_of t) q.0.lawful));
+      room = q.0.room;
+    })
+    (λ t q. (
+      record {
+        items_are = table_items h a t q.lawful;
+        lawful = recursion_from_All (IsLawfulRow (space_of h)) (rows_of t) q.lawful.lawful;
+        room = q.room;
+      },
+      table_again h a t q.lawful,
+    ))
     (λ t q. append-nil (flat_map row_bytes (rows_of t)))
 
 -- ---- all nodes
@@ -186,7 +224,8 @@ pub record FitNodes (h : Head) (labels : List ℕ) (before : ℕ) (ts : List Nod
   pub lawful : AreFor (IsTableOf h) labels ts
   pub room : before + sum_by columns_of ts ≤ most
 
-pub nodes_reads : (h : Head) → IsSpace (space_of h) → Reads (FitNodes h (numbers_from 0 (length h.nodes)) 0) (flat_map table_bytes) (read_nodes h)
+pub nodes_reads : (h : Head) → IsSpace (space_of h) →
+    Reads (FitNodes h (numbers_from 0 (length h.nodes)) 0) (flat_map table_bytes) (read_nodes h)
 unfolding read_nodes
 nodes_reads h i =
     each_reads (λ (c : ℕ) (t : NodeTable). c + column_count (rows_of t)) (read_node_table h)
@@ -196,7 +235,8 @@ nodes_reads h i =
     (λ c inv. record { lawful = tt; room = omega arith })
     (λ c t ts g. g.lawful)
     (λ l ls c g. g.lawful)
-    (λ l ls c t ts inv f g. record { lawful = (f.lawful, g.lawful); room = omega (arith, sum_by-cons columns_of t ts, g.room) })
+    (λ l ls c t ts inv f g.
+    record { lawful = (f.lawful, g.lawful); room = omega (arith, sum_by-cons columns_of t ts, g.room) })
     (λ l ls c t ts inv g. (
       record { lawful = g.lawful.0; room = omega (arith, sum_by-cons columns_of t ts, g.room) },
       record { lawful = g.lawful.1; room = omega (arith, sum_by-cons columns_of t ts, g.room) },
@@ -216,9 +256,11 @@ module _ {A : Type 0} (P : ℕ → A → Type 0) (d : A) where
   for_each i zero xs h j lt = absurd (omega arith)
   for_each i (suc n) [] h j lt = absurd h
   for_each i (suc n) (x ∷ xs) h zero lt = let e : i ≡ i + 0 = omega arith in subst (λ (k : ℕ). P k x) e h.0
-  for_each i (suc n) (x ∷ xs) h (suc j) lt = let e : suc i + j ≡ i + suc j = omega arith in subst (λ (k : ℕ). P k (get_or xs j d)) e (for_each (suc i) n xs h.1 j (omega arith))
+  for_each i (suc n) (x ∷ xs) h (suc j) lt = let e : suc i + j ≡ i + suc j = omega arith in
+      subst (λ (k : ℕ). P k (get_or xs j d)) e (for_each (suc i) n xs h.1 j (omega arith))
 
-  pub for_from : (i n : ℕ) (xs : List A) → length xs ≡ n → ((j : ℕ) → j < n → P (i + j) (get_or xs j d)) → AreFor P (numbers_from i n) xs
+  pub for_from : (i n : ℕ) (xs : List A) → length xs ≡ n → ((j : ℕ) → j < n → P (i + j) (get_or xs j d)) →
+      AreFor P (numbers_from i n) xs
   unfolding numbers_from
   for_from i zero [] e h = tt
   for_from i zero (x ∷ xs) e h = absurd (omega (arith, e))
@@ -227,7 +269,8 @@ module _ {A : Type 0} (P : ℕ → A → Type 0) (d : A) where
       let z : i + 0 ≡ i = omega arith in (
         subst (λ (k : ℕ). P k x) z (h 0 (omega arith)),
         for_from (suc i) n xs (omega (arith, e))
-            (λ j lt. let s : i + suc j ≡ suc i + j = omega arith in subst (λ (k : ℕ). P k (get_or xs j d)) s (h (suc j) (omega arith))),
+            (λ j lt. let s : i + suc j ≡ suc i + j = omega arith in
+            subst (λ (k : ℕ). P k (get_or xs j d)) s (h (suc j) (omega arith))),
       )
 
 -- ---- the whole
@@ -238,14 +281,16 @@ head_space h q = record { faults = q.faults; processes = q.few_processes; condit
 nodes_to : (h : Head) (ts : List NodeTable) → FitNodes h (numbers_from 0 (length h.nodes)) 0 ts → AreTablesOf h ts
 nodes_to h ts q = record {
   count = for_count (IsTableOf h) empty_table 0 (length h.nodes) ts q.lawful;
-  each = λ i lt. let e : 0 + i ≡ i = omega arith in subst (λ (j : ℕ). IsTableOf h j (get_or ts i empty_table)) e (for_each (IsTableOf h) empty_table 0 (length h.nodes) ts q.lawful i lt);
+  each = λ i lt. let e : 0 + i ≡ i = omega arith in subst (λ (j : ℕ). IsTableOf h j (get_or ts i empty_table)) e
+      (for_each (IsTableOf h) empty_table 0 (length h.nodes) ts q.lawful i lt);
   few = omega (arith, q.room);
 }
 
 nodes_from : (h : Head) (ts : List NodeTable) → AreTablesOf h ts → FitNodes h (numbers_from 0 (length h.nodes)) 0 ts
 nodes_from h ts q = record {
   lawful = for_from (IsTableOf h) empty_table 0 (length h.nodes) ts q.count
-      (λ i lt. let e : i ≡ 0 + i = omega arith in subst (λ (j : ℕ). IsTableOf h j (get_or ts i empty_table)) e (q.each i lt));
+      (λ i lt. let e : i ≡ 0 + i = omega arith in
+      subst (λ (j : ℕ). IsTableOf h j (get_or ts i empty_table)) e (q.each i lt));
   room = omega (arith, q.few);
 }
 
@@ -263,17 +308,26 @@ tables_reads =
     (λ t q. regroup_2 (head_bytes t.head) (flat_map table_bytes t.nodes))
 
 -- rows that were read are those of their node
-pub rows_are_of : (h : Head) (a : ℕ) (s : VariableSpace) (items : List ℕ) (before : ℕ) (bytes : List ℕ) (rs : List Row) (rest : List ℕ) → IsSpace s → before ≤ most → s ≡ space_of h →
+pub rows_are_of : (h : Head) (a : ℕ) (s : VariableSpace) (items : List ℕ) (before : ℕ) (bytes : List ℕ) (rs : List Row)
+    (rest : List ℕ) → IsSpace s → before ≤ most →
+    s ≡ space_of h →
     items ≡ items_of_node h a → read_rows s items before bytes ≡ Ok (rs, rest) → AreRowsOf h a rs
 rows_are_of h a s items before bytes rs rest i le f g e =
     let k = (rows_reads s items before i le).takes bytes rs rest e in
-    record { items = k.0.items_are ∙ g; lawful = subst (λ (t : VariableSpace). All (IsLawfulRow t) rs) f (All-from_recursion (IsLawfulRow s) rs k.0.lawful) }
+    record {
+      items = k.0.items_are ∙ g;
+      lawful =
+          subst (λ (t : VariableSpace). All (IsLawfulRow t) rs) f (All-from_recursion (IsLawfulRow s) rs k.0.lawful);
+    }
 
-pub table_is : (h : Head) (a : ℕ) (t : NodeTable) (rs : List Row) → IsTableOf h a t → rows_of t ≡ rs → table_from h a rs ≡ t
+pub table_is : (h : Head) (a : ℕ) (t : NodeTable) (rs : List Row) → IsTableOf h a t → rows_of t ≡ rs →
+    table_from h a rs ≡ t
 table_is h a t rs q e = ap (table_from h a) (sym e) ∙ sym (table_again h a t q)
 
 -- tables that were read are those of their head
-pub tables_are_of : (h : Head) (s : VariableSpace) (bytes : List ℕ) (ts : List NodeTable) (rest : List ℕ) → IsSpace s → s ≡ space_of h → read_nodes h bytes ≡ Ok (ts, rest) → AreTablesOf h ts
+pub tables_are_of : (h : Head) (s : VariableSpace) (bytes : List ℕ) (ts : List NodeTable) (rest : List ℕ) → IsSpace s →
+    s ≡ space_of h → read_nodes h bytes ≡ Ok (ts, rest) →
+    AreTablesOf h ts
 tables_are_of h s bytes ts rest i e r = nodes_to h ts ((nodes_reads h (subst IsSpace e i)).takes bytes ts rest r).0
 
 pub numbers_more : (i n : ℕ) → i < n → numbers_from i (n - i) ≡ i ∷ numbers_from (i + 1) (n - (i + 1))

@@ -8,8 +8,11 @@ use Rattle.cpg_codec.specs.Grammar.{IsSpace, most, read_row}
 use Rattle.cpg_codec.proofs.TableFields.{row_reads}
 
 -- lawful ones are what the grammar reads
-pub row_taken : (s : VariableSpace) (item before : ℕ) (r : Row) (bytes rest : List ℕ) → IsSpace s → before ≤ most → r.item ≡ item → IsLawfulRow s r → before + length r.columns ≤ most →
+pub row_taken : (s : VariableSpace) (item before : ℕ) (r : Row) (bytes rest : List ℕ) → IsSpace s → before ≤ most →
+    r.item ≡ item → IsLawfulRow s r →
+    before + length r.columns ≤ most →
     bytes ≡ row_bytes r ++ rest
     → read_row s item before bytes ≡ Ok (r, rest)
 row_taken s item before r bytes rest i le same lawful few e =
-    ap (read_row s item before) e ∙ (row_reads s item before i le).again r rest (record { item_is = same; lawful = lawful; room = few })
+    ap (read_row s item before) e
+    ∙ (row_reads s item before i le).again r rest (record { item_is = same; lawful = lawful; room = few })

@@ -1,5 +1,6 @@
 -- The laws of reading and spelling a pack.
-use Rattle.std.proofs.Common.{◌≡◌, ℕ, zero, suc, ◌+◌, ◌-◌, ◌<◌, ◌≤◌, List, [], ◌∷◌, ◌++◌, length, take, drop, Result, Ok, Err, refl, sym, ap, subst, ◌∙◌, append_assoc, arith, inl, inr, ◌⊎◌}
+use Rattle.std.proofs.Common.{◌≡◌, ℕ, zero, suc, ◌+◌, ◌-◌, ◌<◌, ◌≤◌, List, [], ◌∷◌, ◌++◌, length, take, drop, Result}
+use Rattle.std.proofs.Common.{Ok, Err, refl, sym, ap, subst, ◌∙◌, append_assoc, arith, inl, inr, ◌⊎◌}
 use Rattle.std.proofs.lemmas.Bool.{cases_lt}
 use Rattle.std.proofs.lemmas.List.{append-nil, length-append}
 use Rattle.std.proofs.Math.Seq.{take-append_seam, take-append-add}
@@ -17,7 +18,8 @@ whole_ok size (Err left) t e = absurd cc
 abbrev Trails : ℕ → Result (Tables × List ℕ) ℕ → ℕ → Type 0
 Trails size r n = (t : Tables) × (b : ℕ) × (rest : List ℕ) × (r ≡ Ok (t, b ∷ rest)) × (n ≡ size - suc (length rest))
 
-whole_err : (size : ℕ) (r : Result (Tables × List ℕ) ℕ) (n : ℕ) → whole size r ≡ Err n → ((left : ℕ) × (r ≡ Err left) × (n ≡ size - left)) ⊎ Trails size r n
+whole_err : (size : ℕ) (r : Result (Tables × List ℕ) ℕ) (n : ℕ) → whole size r ≡ Err n →
+    ((left : ℕ) × (r ≡ Err left) × (n ≡ size - left)) ⊎ Trails size r n
 whole_err size (Ok (u, [])) n e = absurd cc
 whole_err size (Ok (u, b ∷ rest)) n e = inr (u, b, rest, refl, cc)
 whole_err size (Err left) n e = inl (left, refl, cc)
@@ -29,7 +31,8 @@ read_is_spelled bytes t e =
     let k = tables_reads.takes bytes t [] (whole_ok (length bytes) (read_tables bytes) t e) in
     (k.0, k.1 ∙ append-nil (spelling t))
 
-read_front : (t : Tables) (rest bytes : List ℕ) → AreLawful t → bytes ≡ spelling t ++ rest → read_tables bytes ≡ Ok (t, rest)
+read_front : (t : Tables) (rest bytes : List ℕ) → AreLawful t → bytes ≡ spelling t ++ rest →
+    read_tables bytes ≡ Ok (t, rest)
 read_front t rest bytes h e = ap read_tables e ∙ tables_reads.again t rest h
 
 read_all : (t : Tables) (bytes : List ℕ) → AreLawful t → bytes ≡ spelling t → read_tables bytes ≡ Ok (t, [])
@@ -44,10 +47,12 @@ abbrev done : Tables × List ℕ → Result (Tables × List ℕ) ℕ
 done x = Ok x
 
 ok_parts : (t u : Tables) (a b : List ℕ) → done (t, a) ≡ done (u, b) → (t ≡ u) × (a ≡ b)
-ok_parts t u a b e = let k : (t, a) ≡ (u, b) = cc in (ap (λ (x : Tables × List ℕ). x.0) k, ap (λ (x : Tables × List ℕ). x.1) k)
+ok_parts t u a b e = let k : (t, a) ≡ (u, b) = cc in
+    (ap (λ (x : Tables × List ℕ). x.0) k, ap (λ (x : Tables × List ℕ). x.1) k)
 
 -- no spelling begins another, and a spelling has one value
-pub one_spelling : (t u : Tables) (rest : List ℕ) → AreLawful t → AreLawful u → spelling t ≡ spelling u ++ rest → (t ≡ u) × (rest ≡ [])
+pub one_spelling : (t u : Tables) (rest : List ℕ) → AreLawful t → AreLawful u → spelling t ≡ spelling u ++ rest →
+    (t ≡ u) × (rest ≡ [])
 one_spelling t u rest ht hu e =
     let k = ok_parts t u [] rest (sym (read_all t (spelling t) ht refl) ∙ read_front u rest (spelling t) hu e) in
     (k.0, sym k.1)
@@ -65,7 +70,8 @@ record Cut (bytes : List ℕ) (n : ℕ) : Type 0 where
   parts : bytes ≡ good ++ bad
   place : n ≡ length good
   begins : BeginsPack good
-  ends : (b : ℕ) (tail : List ℕ) → bad ≡ b ∷ tail → (t : Tables) (rest : List ℕ) → AreLawful t → spelling t ≡ good ++ b ∷ rest → ⊥
+  ends : (b : ℕ) (tail : List ℕ) → bad ≡ b ∷ tail → (t : Tables) (rest : List ℕ) → AreLawful t →
+      spelling t ≡ good ++ b ∷ rest → ⊥
 
 cut_stopped : (bytes : List ℕ) (left n : ℕ) → read_tables bytes ≡ Err left → n ≡ length bytes - left → Cut bytes n
 cut_stopped bytes left n e k =
@@ -74,9 +80,11 @@ cut_stopped bytes left n e k =
       good = s.good;
       bad = s.bad;
       parts = s.whole;
-      place = let l : length bytes ≡ length s.good + length s.bad = ap length s.whole ∙ length-append s.good s.bad in omega (arith, l, k, s.left_is);
+      place = let l : length bytes ≡ length s.good + length s.bad = ap length s.whole ∙ length-append s.good s.bad in
+          omega (arith, l, k, s.left_is);
       begins = (s.value, s.more, s.fits, s.goes_on);
-      ends = λ b tail h t rest f p. let q : Ok (t, []) ≡ Err (suc (length rest)) = sym (read_all t (s.good ++ b ∷ rest) f (sym p)) ∙ s.stays b tail rest h in cc;
+      ends = λ b tail h t rest f p. let q : Ok (t, []) ≡ Err (suc (length rest)) =
+          sym (read_all t (s.good ++ b ∷ rest) f (sym p)) ∙ s.stays b tail rest h in cc;
     }
 
 cut_trailing : (bytes : List ℕ) (n : ℕ) → Trails (length bytes) (read_tables bytes) n → Cut bytes n
@@ -86,7 +94,9 @@ cut_trailing bytes n w =
       good = spelling w.0;
       bad = w.1 ∷ w.2;
       parts = k.1;
-      place = let l : length bytes ≡ length (spelling w.0) + suc (length w.2) = ap length k.1 ∙ length-append (spelling w.0) (w.1 ∷ w.2) in omega (arith, l, w.4);
+      place = let l : length bytes ≡ length (spelling w.0) + suc (length w.2) =
+          ap length k.1 ∙ length-append (spelling w.0) (w.1 ∷ w.2) in
+          omega (arith, l, w.4);
       begins = (w.0, [], k.0, sym (append-nil (spelling w.0)));
       ends = λ b tail h t rest f p. let q = one_spelling t w.0 (b ∷ rest) f k.0 p in let z : b ∷ rest ≡ [] = q.1 in cc;
     }
@@ -104,14 +114,24 @@ take_again (suc n) (suc m) [] le = refl
 take_again (suc n) (suc m) (x ∷ xs) le = ap (λ (t : List ℕ). x ∷ t) (take_again n m xs (omega arith))
 
 cut_ends : (bytes : List ℕ) (n : ℕ) (good bad : List ℕ) → bytes ≡ good ++ bad → n ≡ length good
-    → ((b : ℕ) (tail : List ℕ) → bad ≡ b ∷ tail → (t : Tables) (rest : List ℕ) → AreLawful t → spelling t ≡ good ++ b ∷ rest → ⊥)
+    → ((b : ℕ) (tail : List ℕ) → bad ≡ b ∷ tail → (t : Tables) (rest : List ℕ) → AreLawful t →
+    spelling t ≡ good ++ b ∷ rest → ⊥)
     → n < length bytes → BeginsPack (take (n + 1) bytes) → ⊥
-cut_ends bytes n good [] parts place ends lt p = let l : length bytes ≡ length good = ap length (parts ∙ append-nil good) in omega (arith, l)
+cut_ends bytes n good [] parts place ends lt p =
+    let l : length bytes ≡ length good = ap length (parts ∙ append-nil good) in
+    omega (arith, l)
 cut_ends bytes n good (b ∷ tail) parts place ends lt p =
-    ends b tail refl p.0 p.1 p.2 (p.3 ∙ ap (λ (x : List ℕ). x ++ p.1) (ap (take (n + 1)) parts ∙ take_one good tail b n place) ∙ append_assoc good (b ∷ []) p.1)
+    ends b tail refl p.0 p.1 p.2 (p.3 ∙ ap (λ (x : List ℕ). x ++ p.1)
+    (ap (take (n + 1)) parts ∙ take_one good tail b n place) ∙ append_assoc good (b ∷ []) p.1)
 
 shorter : (n m : ℕ) (bytes : List ℕ) → n ≤ m → BeginsPack (take m bytes) → BeginsPack (take n bytes)
-shorter n m bytes le p = (p.0, drop n (take m bytes) ++ p.1, p.2, p.3 ∙ ap (λ (x : List ℕ). x ++ p.1) (take_again n m bytes le) ∙ append_assoc (take n bytes) (drop n (take m bytes)) p.1)
+shorter n m bytes le p = (
+  p.0,
+  drop n (take m bytes) ++ p.1,
+  p.2,
+  p.3 ∙ ap (λ (x : List ℕ). x ++ p.1) (take_again n m bytes le)
+      ∙ append_assoc (take n bytes) (drop n (take m bytes)) p.1,
+)
 
 cut_is : (bytes : List ℕ) (n : ℕ) → read bytes ≡ Err n → Cut bytes n → IsBadPack bytes n
 unfolding read

@@ -10,7 +10,8 @@ use Rattle.cpg_codec.specs.declared.fault.PackFault.{PackFault}
 use Rattle.cpg_codec.specs.declared.fault.PackFault.TheVariants as faults
 use Rattle.cpg_codec.proofs.Theorems.{read_is_spelled, spelled_is_read, refused_is_bad}
 
-pub found : (bytes : List ℕ) (r : Result Tables PackFault) → Answers r (read bytes) → IfOk r (λ t. AreLawful t × (bytes ≡ spelling t))
+pub found : (bytes : List ℕ) (r : Result Tables PackFault) → Answers r (read bytes) →
+    IfOk r (λ t. AreLawful t × (bytes ≡ spelling t))
 found bytes (Ok t) a = read_is_spelled bytes t a
 found bytes (Err e) a = tt
 
@@ -20,7 +21,9 @@ same t u r e f = cc
 not_both : (t : Tables) (n : ℕ) (r : Result Tables ℕ) → r ≡ Err n → r ≡ Ok t → ⊥
 not_both t n r e f = cc
 
-pub only : (bytes : List ℕ) (r : Result Tables PackFault) → Answers r (read bytes) → (t : Tables) → AreLawful t → bytes ≡ spelling t → UnlessMemory r (λ u. u ≡ t)
+pub only : (bytes : List ℕ) (r : Result Tables PackFault) → Answers r (read bytes) → (t : Tables) → AreLawful t →
+    bytes ≡ spelling t →
+    UnlessMemory r (λ u. u ≡ t)
 only bytes (Ok u) a t h e = same t u (read bytes) a (ap read e ∙ spelled_is_read t h)
 only bytes (Err (faults.BadPack n)) a t h e = not_both t n (read bytes) a (ap read e ∙ spelled_is_read t h)
 only bytes (Err faults.OutOfMemory) a t h e = tt

@@ -1,5 +1,6 @@
 -- A head as its parts, and the processes with what version 2 says of them.
-use Rattle.std.proofs.Common.{◌≡◌, ℕ, zero, suc, ◌+◌, ◌<◌, ◌≤◌, Bool, true, false, cond, eqb, List, [], ◌∷◌, ◌++◌, length, get_or, map, Option, Some, None, refl, sym, ap, ap₂, subst, ◌∙◌, arith}
+use Rattle.std.proofs.Common.{◌≡◌, ℕ, zero, suc, ◌+◌, ◌<◌, ◌≤◌, Bool, true, false, cond, eqb, List, [], ◌∷◌, ◌++◌}
+use Rattle.std.proofs.Common.{length, get_or, map, Option, Some, None, refl, sym, ap, ap₂, subst, ◌∙◌, arith}
 use Rattle.std.specs.Prelude.{All, IfSome, is_some, unwrap_or, count_by, slice_get, option_and_then}
 use Rattle.std.specs.List.{flat_map, AllByRecursion}
 use Rattle.std.proofs.lemmas.List.{length-map, length-append}
@@ -35,9 +36,11 @@ abbrev pub conditions_of : List Written → ℕ
 conditions_of [] = 0
 conditions_of (w ∷ ws) = bit w.process.condition + conditions_of ws
 
-pub conditions_is : (ws : List Written) → conditions_of ws ≡ count_by (λ (p : HeadProcess). p.condition) (map process_of ws)
+pub conditions_is : (ws : List Written) →
+    conditions_of ws ≡ count_by (λ (p : HeadProcess). p.condition) (map process_of ws)
 conditions_is [] = refl
-conditions_is (w ∷ ws) = ap (λ (n : ℕ). bit w.process.condition + n) (conditions_is ws) ∙ sym (sum_by-cons (λ (p : HeadProcess). cond p.condition 1 0) w.process (map process_of ws))
+conditions_is (w ∷ ws) = ap (λ (n : ℕ). bit w.process.condition + n) (conditions_is ws)
+    ∙ sym (sum_by-cons (λ (p : HeadProcess). cond p.condition 1 0) w.process (map process_of ws))
 
 -- ---- from parts to a head
 
@@ -55,51 +58,67 @@ pub none_of : (o : Option Extra) → IsExtraOf 1 o → o ≡ None
 none_of None h = refl
 none_of (Some e) h = absurd (omega (arith, h.0))
 
-pub written_none : (k n : ℕ) (ws : List Written) → AllByRecursion (IsWritten 1 k n) ws → written_by (map process_of ws) [] ≡ ws
+pub written_none : (k n : ℕ) (ws : List Written) → AllByRecursion (IsWritten 1 k n) ws →
+    written_by (map process_of ws) [] ≡ ws
 written_none k n [] h = refl
 written_none k n (w ∷ ws) h =
     let e = none_of w.extra h.0.extra in
-    ap₂ (λ (v : Written) (vs : List Written). v ∷ vs) (ap (λ (o : Option Extra). record { process = w.process; extra = o }) (sym e)) (written_none k n ws h.1)
+    ap₂ (λ (v : Written) (vs : List Written). v ∷ vs)
+    (ap (λ (o : Option Extra). record { process = w.process; extra = o }) (sym e)) (written_none k n ws h.1)
 
-one_more : (p : HeadProcess) (o : Option Extra) (ps : List HeadProcess) (es : List Extra) → IsExtraOf 2 o → written_by (p ∷ ps) (listed o ++ es) ≡ record { process = p; extra = o } ∷ written_by ps es
+one_more : (p : HeadProcess) (o : Option Extra) (ps : List HeadProcess) (es : List Extra) → IsExtraOf 2 o →
+    written_by (p ∷ ps) (listed o ++ es) ≡ record { process = p; extra = o } ∷ written_by ps es
 one_more p None ps es h = absurd (omega (arith, h))
 one_more p (Some e) ps es h = refl
 
-pub written_some : (k n : ℕ) (ws : List Written) → AllByRecursion (IsWritten 2 k n) ws → written_by (map process_of ws) (flat_map listed_of ws) ≡ ws
+pub written_some : (k n : ℕ) (ws : List Written) → AllByRecursion (IsWritten 2 k n) ws →
+    written_by (map process_of ws) (flat_map listed_of ws) ≡ ws
 written_some k n [] h = refl
 written_some k n (w ∷ ws) h =
-    one_more w.process w.extra (map process_of ws) (flat_map listed_of ws) h.0.extra ∙ ap (λ (vs : List Written). w ∷ vs) (written_some k n ws h.1)
+    one_more w.process w.extra (map process_of ws) (flat_map listed_of ws) h.0.extra
+    ∙ ap (λ (vs : List Written). w ∷ vs) (written_some k n ws h.1)
 
-pub version_made : (v k : ℕ) (ns : List (List ℕ)) (ws : List Written) (es : List (ℕ × ℕ)) → 1 ≤ v → v ≤ 2 → version_of (head_from v k ns ws es) ≡ v
+pub version_made : (v k : ℕ) (ns : List (List ℕ)) (ws : List Written) (es : List (ℕ × ℕ)) → 1 ≤ v → v ≤ 2 →
+    version_of (head_from v k ns ws es) ≡ v
 version_made zero k ns ws es a b = absurd (omega arith)
 version_made (suc zero) k ns ws es a b = refl
 version_made (suc (suc zero)) k ns ws es a b = refl
 version_made (suc (suc (suc v))) k ns ws es a b = absurd (omega arith)
 
-pub written_made : (v k n : ℕ) (ns : List (List ℕ)) (ws : List Written) (es : List (ℕ × ℕ)) → 1 ≤ v → v ≤ 2 → AllByRecursion (IsWritten v k n) ws → written (head_from v k ns ws es) ≡ ws
+pub written_made : (v k n : ℕ) (ns : List (List ℕ)) (ws : List Written) (es : List (ℕ × ℕ)) → 1 ≤ v → v ≤ 2 →
+    AllByRecursion (IsWritten v k n) ws →
+    written (head_from v k ns ws es) ≡ ws
 written_made zero k n ns ws es a b h = absurd (omega arith)
 written_made (suc zero) k n ns ws es a b h = written_none k n ws h
 written_made (suc (suc zero)) k n ns ws es a b h = written_some k n ws h
 written_made (suc (suc (suc v))) k n ns ws es a b h = absurd (omega arith)
 
-one_extra : (o : Option Extra) (es : List Extra) (n : ℕ) → IsExtraOf 2 o → length es ≡ n → AllByRecursion IsExtra es → (length (listed o ++ es) ≡ suc n) × AllByRecursion IsExtra (listed o ++ es)
+one_extra : (o : Option Extra) (es : List Extra) (n : ℕ) → IsExtraOf 2 o → length es ≡ n → AllByRecursion IsExtra es →
+    (length (listed o ++ es) ≡ suc n) × AllByRecursion IsExtra (listed o ++ es)
 one_extra None es n h q all = absurd (omega (arith, h))
 one_extra (Some e) es n h q all = (ap suc q, (h.1, all))
 
-extras_are : (k n : ℕ) (ws : List Written) → AllByRecursion (IsWritten 2 k n) ws → (length (flat_map listed_of ws) ≡ length ws) × AllByRecursion IsExtra (flat_map listed_of ws)
+extras_are : (k n : ℕ) (ws : List Written) → AllByRecursion (IsWritten 2 k n) ws →
+    (length (flat_map listed_of ws) ≡ length ws) × AllByRecursion IsExtra (flat_map listed_of ws)
 extras_are k n [] h = (refl, tt)
-extras_are k n (w ∷ ws) h = let r = extras_are k n ws h.1 in one_extra w.extra (flat_map listed_of ws) (length ws) h.0.extra r.0 r.1
+extras_are k n (w ∷ ws) h = let r = extras_are k n ws h.1 in
+    one_extra w.extra (flat_map listed_of ws) (length ws) h.0.extra r.0 r.1
 
-extras_made : (v k n : ℕ) (ns : List (List ℕ)) (ws : List Written) (es : List (ℕ × ℕ)) → v ≤ 2 → AllByRecursion (IsWritten v k n) ws →
+extras_made : (v k n : ℕ) (ns : List (List ℕ)) (ws : List Written) (es : List (ℕ × ℕ)) → v ≤ 2 →
+    AllByRecursion (IsWritten v k n) ws →
     IfSome (head_from v k ns ws es).extras (AreExtras (length (map process_of ws)))
 extras_made zero k n ns ws es b h = tt
 extras_made (suc zero) k n ns ws es b h = tt
 extras_made (suc (suc zero)) k n ns ws es b h =
     let r = extras_are k n ws h in
-    record { count = r.0 ∙ sym (length-map ws process_of); each = All-from_recursion IsExtra (flat_map listed_of ws) r.1 }
+    record {
+      count = r.0 ∙ sym (length-map ws process_of);
+      each = All-from_recursion IsExtra (flat_map listed_of ws) r.1;
+    }
 extras_made (suc (suc (suc v))) k n ns ws es b h = absurd (omega arith)
 
-processes_made : (v k n : ℕ) (ws : List Written) → AllByRecursion (IsWritten v k n) ws → AllByRecursion (IsHeadProcess k n) (map process_of ws) ×
+processes_made : (v k n : ℕ) (ws : List Written) → AllByRecursion (IsWritten v k n) ws →
+    AllByRecursion (IsHeadProcess k n) (map process_of ws) ×
     AllByRecursion (λ (p : HeadProcess). IsName p.name) (map process_of ws)
 processes_made v k n [] h = (tt, tt)
 processes_made v k n (w ∷ ws) h = let r = processes_made v k n ws h.1 in ((h.0.process, r.0), (h.0.name, r.1))
@@ -110,7 +129,9 @@ pub record AreProcesses (version faults nodes count ones : ℕ) (ws : List Writt
   pub each : AllByRecursion (IsWritten version faults nodes) ws
   pub conditions : ones + conditions_of ws ≤ 32
 
-pub made_lawful : (v k : ℕ) (ns : List (List ℕ)) (ws : List Written) (es : List (ℕ × ℕ)) → v ≤ 2 → k ≤ 8 → length ns ≤ 16 → AllByRecursion IsName ns → length ws ≤ 128 →
+pub made_lawful : (v k : ℕ) (ns : List (List ℕ)) (ws : List Written) (es : List (ℕ × ℕ)) → v ≤ 2 → k ≤ 8 →
+    length ns ≤ 16 → AllByRecursion IsName ns →
+    length ws ≤ 128 →
     AreProcesses v k (length ns) (length ws) 0 ws → length es ≤ 256
     → AllByRecursion (IsHeadEdge (length ws)) es → IsPackHead (head_from v k ns ws es)
 made_lawful v k ns ws es newest few nodes names processes each edges ends =
@@ -133,46 +154,73 @@ made_lawful v k ns ws es newest few nodes names processes each edges ends =
 
 -- ---- from a head to its parts
 
-extras_back : (ps : List HeadProcess) (es : List Extra) → length es ≡ length ps → flat_map listed_of (written_by ps es) ≡ es
+extras_back : (ps : List HeadProcess) (es : List Extra) → length es ≡ length ps →
+    flat_map listed_of (written_by ps es) ≡ es
 extras_back [] [] e = refl
 extras_back [] (x ∷ es) e = absurd (omega (arith, e))
 extras_back (p ∷ ps) [] e = absurd (omega (arith, e))
 extras_back (p ∷ ps) (x ∷ es) e = ap (λ (xs : List Extra). x ∷ xs) (extras_back ps es (omega (arith, e)))
 
-head_of_parts : (k : ℕ) (ns : List (List ℕ)) (ps : List HeadProcess) (es : List (ℕ × ℕ)) (o : Option (List Extra)) → IfSome o (AreExtras (length ps))
-    → record { faults = k; nodes = ns; processes = ps; edges = es; extras = o } ≡ head_from (cond (is_some o) 2 1) k ns (written_by ps (unwrap_or o [])) es
-head_of_parts k ns ps es None h = ap (λ (qs : List HeadProcess). record { faults = k; nodes = ns; processes = qs; edges = es; extras = None }) (sym (written_back ps []))
+head_of_parts : (k : ℕ) (ns : List (List ℕ)) (ps : List HeadProcess) (es : List (ℕ × ℕ)) (o : Option (List Extra)) →
+    IfSome o (AreExtras (length ps))
+    → record {
+      faults = k;
+      nodes = ns;
+      processes = ps;
+      edges = es;
+      extras = o;
+    } ≡ head_from (cond (is_some o) 2 1) k ns (written_by ps (unwrap_or o [])) es
+head_of_parts k ns ps es None h =
+    ap (λ (qs : List HeadProcess). record { faults = k; nodes = ns; processes = qs; edges = es; extras = None })
+    (sym (written_back ps []))
 head_of_parts k ns ps es (Some xs) h =
-    ap₂ (λ (qs : List HeadProcess) (ys : List Extra). record { faults = k; nodes = ns; processes = qs; edges = es; extras = Some ys }) (sym (written_back ps xs)) (sym (extras_back ps xs h.count))
+    ap₂ (λ (qs : List HeadProcess) (ys : List Extra). record {
+      faults = k;
+      nodes = ns;
+      processes = qs;
+      edges = es;
+      extras = Some ys;
+    }) (sym (written_back ps xs)) (sym (extras_back ps xs h.count))
 
 pub head_again : (h : Head) → IsHead h → h ≡ head_from (version_of h) h.faults h.nodes (written h) h.edges
 head_again h q = head_of_parts h.faults h.nodes h.processes h.edges h.extras q.extras
 
-each_none : (k n : ℕ) (ps : List HeadProcess) → AllByRecursion (IsHeadProcess k n) ps → AllByRecursion (λ (p : HeadProcess). IsName p.name) ps → AllByRecursion (IsWritten 1 k n) (written_by ps [])
+each_none : (k n : ℕ) (ps : List HeadProcess) → AllByRecursion (IsHeadProcess k n) ps →
+    AllByRecursion (λ (p : HeadProcess). IsName p.name) ps →
+    AllByRecursion (IsWritten 1 k n) (written_by ps [])
 each_none k n [] h names = tt
 each_none k n (p ∷ ps) h names = (record { process = h.0; name = names.0; extra = refl }, each_none k n ps h.1 names.1)
 
-each_some : (k n : ℕ) (ps : List HeadProcess) (es : List Extra) → length es ≡ length ps → AllByRecursion (IsHeadProcess k n) ps → AllByRecursion (λ (p : HeadProcess). IsName p.name) ps →
+each_some : (k n : ℕ) (ps : List HeadProcess) (es : List Extra) → length es ≡ length ps →
+    AllByRecursion (IsHeadProcess k n) ps →
+    AllByRecursion (λ (p : HeadProcess). IsName p.name) ps →
     AllByRecursion IsExtra es
     → AllByRecursion (IsWritten 2 k n) (written_by ps es)
 each_some k n [] es e h names all = tt
 each_some k n (p ∷ ps) [] e h names all = absurd (omega (arith, e))
-each_some k n (p ∷ ps) (x ∷ es) e h names all = (record { process = h.0; name = names.0; extra = (refl, all.0) }, each_some k n ps es (omega (arith, e)) h.1 names.1 all.1)
+each_some k n (p ∷ ps) (x ∷ es) e h names all = (
+  record { process = h.0; name = names.0; extra = (refl, all.0) },
+  each_some k n ps es (omega (arith, e)) h.1 names.1 all.1,
+)
 
-each_of : (k n : ℕ) (ps : List HeadProcess) (o : Option (List Extra)) → IfSome o (AreExtras (length ps)) → AllByRecursion (IsHeadProcess k n) ps →
+each_of : (k n : ℕ) (ps : List HeadProcess) (o : Option (List Extra)) → IfSome o (AreExtras (length ps)) →
+    AllByRecursion (IsHeadProcess k n) ps →
     AllByRecursion (λ (p : HeadProcess). IsName p.name) ps
     → AllByRecursion (IsWritten (cond (is_some o) 2 1) k n) (written_by ps (unwrap_or o []))
 each_of k n ps None q h names = each_none k n ps h names
 each_of k n ps (Some es) q h names = each_some k n ps es q.count h names (recursion_from_All IsExtra es q.each)
 
-pub head_processes : (h : Head) → IsPackHead h → AreProcesses (version_of h) h.faults (length h.nodes) (length h.processes) 0 (written h)
+pub head_processes : (h : Head) → IsPackHead h →
+    AreProcesses (version_of h) h.faults (length h.nodes) (length h.processes) 0 (written h)
 head_processes h q = record {
   count_is = written_count h.processes (unwrap_or h.extras []);
-  each = each_of h.faults (length h.nodes) h.processes h.extras q.within.extras (recursion_from_All (IsHeadProcess h.faults (length h.nodes)) h.processes q.within.processes)
+  each = each_of h.faults (length h.nodes) h.processes h.extras q.within.extras
+      (recursion_from_All (IsHeadProcess h.faults (length h.nodes)) h.processes q.within.processes)
       (recursion_from_All (λ (p : HeadProcess). IsName p.name) h.processes q.processes);
   conditions =
       let c = conditions_is (written h) in
-      let b : count_by (λ (p : HeadProcess). p.condition) (map process_of (written h)) ≡ count_by (λ (p : HeadProcess). p.condition) h.processes =
+      let b : count_by (λ (p : HeadProcess). p.condition) (map process_of (written h))
+      ≡ count_by (λ (p : HeadProcess). p.condition) h.processes =
       ap (count_by (λ (p : HeadProcess). p.condition)) (written_back h.processes (unwrap_or h.extras [])) in
       omega (arith, c, b, q.within.few_conditions);
 }
@@ -205,36 +253,47 @@ some_node k n (p ∷ ps) h lt = omega (arith, h.0.node)
 
 pub processes_limit : (h : Head) → IsHead h → length h.processes ≤ limit (length h.nodes) 128
 processes_limit h q = limit_from (length h.nodes) 128 (length h.processes) q.few_processes
-    (some_node h.faults (length h.nodes) h.processes (recursion_from_All (IsHeadProcess h.faults (length h.nodes)) h.processes q.processes))
+    (some_node h.faults (length h.nodes) h.processes
+    (recursion_from_All (IsHeadProcess h.faults (length h.nodes)) h.processes q.processes))
 
 some_process : (n : ℕ) (es : List (ℕ × ℕ)) → AllByRecursion (IsHeadEdge n) es → 0 < length es → 0 < n
 some_process n [] h lt = absurd (omega arith)
 some_process n (e ∷ es) h lt = omega (arith, h.0.from)
 
 pub edges_limit : (h : Head) → IsHead h → length h.edges ≤ limit (length h.processes) 256
-edges_limit h q = limit_from (length h.processes) 256 (length h.edges) q.few_edges (some_process (length h.processes) h.edges (recursion_from_All (IsHeadEdge (length h.processes)) h.edges q.edges))
+edges_limit h q = limit_from (length h.processes) 256 (length h.edges) q.few_edges
+    (some_process (length h.processes) h.edges (recursion_from_All (IsHeadEdge (length h.processes)) h.edges q.edges))
 
 -- ---- one process after another
 
-at_none : (ps : List HeadProcess) (i : ℕ) (p : HeadProcess) (d : Written) → i < length ps → p ≡ get_or ps i p → record { process = p; extra = None } ≡ get_or (written_by ps []) i d
+at_none : (ps : List HeadProcess) (i : ℕ) (p : HeadProcess) (d : Written) → i < length ps → p ≡ get_or ps i p →
+    record { process = p; extra = None } ≡ get_or (written_by ps []) i d
 at_none [] i p d lt e = absurd (omega arith)
 at_none (q ∷ ps) zero p d lt e = ap (λ (r : HeadProcess). record { process = r; extra = None }) e
 at_none (q ∷ ps) (suc i) p d lt e = at_none ps i p d (omega arith) e
 
-at_some : (ps : List HeadProcess) (es : List Extra) (i : ℕ) (p : HeadProcess) (o : Option Extra) (d : Written) → length es ≡ length ps → i < length ps → p ≡ get_or ps i p → o ≡ slice_get es i
+at_some : (ps : List HeadProcess) (es : List Extra) (i : ℕ) (p : HeadProcess) (o : Option Extra) (d : Written) →
+    length es ≡ length ps → i < length ps → p ≡ get_or ps i p →
+    o ≡ slice_get es i
     → record { process = p; extra = o } ≡ get_or (written_by ps es) i d
 at_some [] es i p o d n lt e f = absurd (omega arith)
 at_some (q ∷ ps) [] i p o d n lt e f = absurd (omega (arith, n))
-at_some (q ∷ ps) (x ∷ es) zero p o d n lt e f = ap₂ (λ (r : HeadProcess) (s : Option Extra). record { process = r; extra = s }) e f
+at_some (q ∷ ps) (x ∷ es) zero p o d n lt e f =
+    ap₂ (λ (r : HeadProcess) (s : Option Extra). record { process = r; extra = s }) e f
 at_some (q ∷ ps) (x ∷ es) (suc i) p o d n lt e f = at_some ps es i p o d (omega (arith, n)) (omega arith) e f
 
-at_either : (ps : List HeadProcess) (xs : Option (List Extra)) (i : ℕ) (p : HeadProcess) (o : Option Extra) (d : Written) → IfSome xs (AreExtras (length ps)) → i < length ps → p ≡ get_or ps i p →
+at_either : (ps : List HeadProcess) (xs : Option (List Extra)) (i : ℕ) (p : HeadProcess) (o : Option Extra)
+    (d : Written) → IfSome xs (AreExtras (length ps)) → i < length ps →
+    p ≡ get_or ps i p →
     o ≡ option_and_then (λ es. slice_get es i) xs
     → record { process = p; extra = o } ≡ get_or (written_by ps (unwrap_or xs [])) i d
-at_either ps None i p o d q lt e f = ap (λ (s : Option Extra). record { process = p; extra = s }) f ∙ at_none ps i p d lt e
+at_either ps None i p o d q lt e f =
+    ap (λ (s : Option Extra). record { process = p; extra = s }) f ∙ at_none ps i p d lt e
 at_either ps (Some es) i p o d q lt e f = at_some ps es i p o d q.count lt e f
 
-pub written_at : (h : Head) (i : ℕ) (p : HeadProcess) (o : Option Extra) → IsHead h → i < length h.processes → p ≡ get_or h.processes i p → o ≡ extra_at h i →
+pub written_at : (h : Head) (i : ℕ) (p : HeadProcess) (o : Option Extra) → IsHead h → i < length h.processes →
+    p ≡ get_or h.processes i p →
+    o ≡ extra_at h i →
     record { process = p; extra = o } ≡ get_or (written h) i (record { process = p; extra = o })
 written_at h i p o q lt e f = at_either h.processes h.extras i p o (record { process = p; extra = o }) q.extras lt e f
 
@@ -243,7 +302,8 @@ written_length h = written_count h.processes (unwrap_or h.extras [])
 
 -- ---- processes and extras as they are read
 
-push_none : (ps : List HeadProcess) (p : HeadProcess) → written_by (ps ++ p ∷ []) [] ≡ written_by ps [] ++ written_with p None ∷ []
+push_none : (ps : List HeadProcess) (p : HeadProcess) →
+    written_by (ps ++ p ∷ []) [] ≡ written_by ps [] ++ written_with p None ∷ []
 push_none [] p = refl
 push_none (q ∷ ps) p = ap (λ (ws : List Written). written_with q None ∷ ws) (push_none ps p)
 
@@ -252,9 +312,12 @@ push_some : (ps : List HeadProcess) (es : List Extra) (p : HeadProcess) (e : Ext
 push_some [] [] p e n = refl
 push_some [] (x ∷ es) p e n = absurd (omega (arith, n))
 push_some (q ∷ ps) [] p e n = absurd (omega (arith, n))
-push_some (q ∷ ps) (x ∷ es) p e n = ap (λ (ws : List Written). written_with q (Some x) ∷ ws) (push_some ps es p e (omega (arith, n)))
+push_some (q ∷ ps) (x ∷ es) p e n =
+    ap (λ (ws : List Written). written_with q (Some x) ∷ ws) (push_some ps es p e (omega (arith, n)))
 
-pub written_push : (b : Bool) (ps : List HeadProcess) (es : List Extra) (p : HeadProcess) (o : Option Extra) → is_some o ≡ b → length es ≡ cond b (length ps) 0 →
+pub written_push : (b : Bool) (ps : List HeadProcess) (es : List Extra) (p : HeadProcess) (o : Option Extra) →
+    is_some o ≡ b →
+    length es ≡ cond b (length ps) 0 →
     written_by (ps ++ p ∷ []) (es ++ listed o) ≡ written_by ps es ++ written_with p o ∷ []
 written_push true ps es p (Some e) k n = push_some ps es p e n
 written_push true ps es p None k n = absurd cc
@@ -262,19 +325,25 @@ written_push false ps es p (Some e) k n = absurd cc
 written_push false ps [] p None k n = push_none ps p
 written_push false ps (x ∷ es) p None k n = absurd (omega (arith, n))
 
-pub kept_push : (b : Bool) (ps : List HeadProcess) (es : List Extra) (p : HeadProcess) (o : Option Extra) → is_some o ≡ b → length es ≡ cond b (length ps) 0 →
+pub kept_push : (b : Bool) (ps : List HeadProcess) (es : List Extra) (p : HeadProcess) (o : Option Extra) →
+    is_some o ≡ b →
+    length es ≡ cond b (length ps) 0 →
     length (es ++ listed o) ≡ cond b (length (ps ++ p ∷ [])) 0
-kept_push true ps es p (Some e) k n = let a = length-append es (e ∷ []) in let b = length-append ps (p ∷ []) in omega (arith, a, b, n)
+kept_push true ps es p (Some e) k n = let a = length-append es (e ∷ []) in
+    let b = length-append ps (p ∷ []) in
+    omega (arith, a, b, n)
 kept_push true ps es p None k n = absurd cc
 kept_push false ps es p (Some e) k n = absurd cc
 kept_push false ps es p None k n = let a = length-append es (listed None) in omega (arith, a, n)
 
 -- ---- a head from its parts
 
-pub plain_head : (v k : ℕ) (ns : List (List ℕ)) (ps : List HeadProcess) (xs : List Extra) (es : List (ℕ × ℕ)) → IsPackHead (head_from v k ns (written_by ps xs) es) →
+pub plain_head : (v k : ℕ) (ns : List (List ℕ)) (ps : List HeadProcess) (xs : List Extra) (es : List (ℕ × ℕ)) →
+    IsPackHead (head_from v k ns (written_by ps xs) es) →
     IsHead (record { faults = k; nodes = ns; processes = ps; edges = es; extras = None })
 plain_head v k ns ps xs es q =
-    subst (λ (qs : List HeadProcess). IsHead (record { faults = k; nodes = ns; processes = qs; edges = es; extras = None })) (written_back ps xs)
+    subst (λ (qs : List HeadProcess).
+    IsHead (record { faults = k; nodes = ns; processes = qs; edges = es; extras = None })) (written_back ps xs)
     (record {
       faults = q.within.faults;
       few_nodes = q.within.few_nodes;
@@ -286,31 +355,71 @@ plain_head v k ns ps xs es q =
       extras = tt;
     })
 
-two_extras : (k : ℕ) (ns : List (List ℕ)) (ps : List HeadProcess) (xs : List Extra) (es : List (ℕ × ℕ)) → length xs ≡ length ps → IsPackHead (head_from 2 k ns (written_by ps xs) es) →
+two_extras : (k : ℕ) (ns : List (List ℕ)) (ps : List HeadProcess) (xs : List Extra) (es : List (ℕ × ℕ)) →
+    length xs ≡ length ps →
+    IsPackHead (head_from 2 k ns (written_by ps xs) es) →
     AreExtras (length ps) xs
 two_extras k ns ps xs es n q =
-    let e : AreExtras (length (map process_of (written_by ps xs))) (flat_map listed_of (written_by ps xs)) = q.within.extras in
+    let e : AreExtras (length (map process_of (written_by ps xs))) (flat_map listed_of (written_by ps xs)) =
+    q.within.extras in
     subst (λ (ys : List Extra). AreExtras (length ps) ys) (extras_back ps xs n)
-    (subst (λ (qs : List HeadProcess). AreExtras (length qs) (flat_map listed_of (written_by ps xs))) (written_back ps xs) e)
+    (subst (λ (qs : List HeadProcess). AreExtras (length qs) (flat_map listed_of (written_by ps xs)))
+    (written_back ps xs) e)
 
-pub made_extras : (v k : ℕ) (ns : List (List ℕ)) (ps : List HeadProcess) (xs : List Extra) (es : List (ℕ × ℕ)) → v ≡ 2 → length xs ≡ cond (eqb v 2) (length ps) 0 →
+pub made_extras : (v k : ℕ) (ns : List (List ℕ)) (ps : List HeadProcess) (xs : List Extra) (es : List (ℕ × ℕ)) → v ≡ 2 →
+    length xs ≡ cond (eqb v 2) (length ps) 0 →
     IsPackHead (head_from v k ns (written_by ps xs) es) → AreExtras (length ps) xs
 made_extras v k ns ps xs es e n q =
-    two_extras k ns ps xs es (subst (λ (u : ℕ). length xs ≡ cond (eqb u 2) (length ps) 0) e n) (subst (λ (u : ℕ). IsPackHead (head_from u k ns (written_by ps xs) es)) e q)
+    two_extras k ns ps xs es (subst (λ (u : ℕ). length xs ≡ cond (eqb u 2) (length ps) 0) e n)
+    (subst (λ (u : ℕ). IsPackHead (head_from u k ns (written_by ps xs) es)) e q)
 
-pub joined_one : (v k : ℕ) (ns : List (List ℕ)) (ps : List HeadProcess) (xs : List Extra) (es : List (ℕ × ℕ)) → (v ≡ 2 → ⊥) →
-    record { faults = k; nodes = ns; processes = ps; edges = es; extras = None } ≡ head_from v k ns (written_by ps xs) es
+pub joined_one : (v k : ℕ) (ns : List (List ℕ)) (ps : List HeadProcess) (xs : List Extra) (es : List (ℕ × ℕ)) →
+    (v ≡ 2 → ⊥) →
+    record {
+      faults = k;
+      nodes = ns;
+      processes = ps;
+      edges = es;
+      extras = None;
+    } ≡ head_from v k ns (written_by ps xs) es
 joined_one v k ns ps xs es e =
     let f : eqb v 2 ≡ false = ne_eqb v 2 e in
-    ap₂ (λ (qs : List HeadProcess) (b : Bool). record { faults = k; nodes = ns; processes = qs; edges = es; extras = cond b (Some (flat_map listed_of (written_by ps xs))) None })
+    ap₂ (λ (qs : List HeadProcess) (b : Bool). record {
+      faults = k;
+      nodes = ns;
+      processes = qs;
+      edges = es;
+      extras = cond b (Some (flat_map listed_of (written_by ps xs))) None;
+    })
     (sym (written_back ps xs)) (sym f)
 
-joined_some : (k : ℕ) (ns : List (List ℕ)) (ps : List HeadProcess) (xs : List Extra) (es : List (ℕ × ℕ)) → length xs ≡ length ps →
-    record { faults = k; nodes = ns; processes = ps; edges = es; extras = Some xs } ≡ head_from 2 k ns (written_by ps xs) es
+joined_some : (k : ℕ) (ns : List (List ℕ)) (ps : List HeadProcess) (xs : List Extra) (es : List (ℕ × ℕ)) →
+    length xs ≡ length ps →
+    record {
+      faults = k;
+      nodes = ns;
+      processes = ps;
+      edges = es;
+      extras = Some xs;
+    } ≡ head_from 2 k ns (written_by ps xs) es
 joined_some k ns ps xs es n =
-    ap₂ (λ (qs : List HeadProcess) (ys : List Extra). record { faults = k; nodes = ns; processes = qs; edges = es; extras = Some ys }) (sym (written_back ps xs)) (sym (extras_back ps xs n))
+    ap₂ (λ (qs : List HeadProcess) (ys : List Extra). record {
+      faults = k;
+      nodes = ns;
+      processes = qs;
+      edges = es;
+      extras = Some ys;
+    }) (sym (written_back ps xs)) (sym (extras_back ps xs n))
 
-pub joined_two : (v k : ℕ) (ns : List (List ℕ)) (ps : List HeadProcess) (xs : List Extra) (es : List (ℕ × ℕ)) → v ≡ 2 → length xs ≡ cond (eqb v 2) (length ps) 0
-    → record { faults = k; nodes = ns; processes = ps; edges = es; extras = Some xs } ≡ head_from v k ns (written_by ps xs) es
+pub joined_two : (v k : ℕ) (ns : List (List ℕ)) (ps : List HeadProcess) (xs : List Extra) (es : List (ℕ × ℕ)) → v ≡ 2 →
+    length xs ≡ cond (eqb v 2) (length ps) 0
+    → record {
+      faults = k;
+      nodes = ns;
+      processes = ps;
+      edges = es;
+      extras = Some xs;
+    } ≡ head_from v k ns (written_by ps xs) es
 joined_two v k ns ps xs es e n =
-    joined_some k ns ps xs es (subst (λ (u : ℕ). length xs ≡ cond (eqb u 2) (length ps) 0) e n) ∙ ap (λ (u : ℕ). head_from u k ns (written_by ps xs) es) (sym e)
+    joined_some k ns ps xs es (subst (λ (u : ℕ). length xs ≡ cond (eqb u 2) (length ps) 0) e n)
+    ∙ ap (λ (u : ℕ). head_from u k ns (written_by ps xs) es) (sym e)

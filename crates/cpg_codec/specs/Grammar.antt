@@ -1,9 +1,11 @@
 -- The fields of a pack, and the bytes that each may have.
-use Rattle.std.specs.Prelude.{ℕ, zero, suc, ◌≤◌, ◌+◌, ◌-◌, min, max, List, [], ◌∷◌, ◌++◌, length, map, take, drop, Bool, ◌&&◌, ◌||◌, Option, Some, None, Result, Ok, Err, nat_lt, nat_le, ◌==◌, if◌then◌else◌}
+use Rattle.std.specs.Prelude.{ℕ, zero, suc, ◌≤◌, ◌+◌, ◌-◌, min, max, List, [], ◌∷◌, ◌++◌, length, map, take, drop, Bool}
+use Rattle.std.specs.Prelude.{◌&&◌, ◌||◌, Option, Some, None, Result, Ok, Err, nat_lt, nat_le, ◌==◌, if◌then◌else◌}
 use Rattle.std.specs.List.{flat_map}
 use Rattle.cpg_base.specs.Name.{is_name_byte}
 use Rattle.cpg_base.specs.Variable.{top}
-use Rattle.cpg_base.specs.declared.limits.TheConstants.{MOST_FAULTS, MOST_NODES, MOST_PROCESSES, MOST_EDGES, MOST_CONDITIONS, MOST_COLUMNS, MOST_LOAD, LONGEST}
+use Rattle.cpg_base.specs.declared.limits.TheConstants.{MOST_FAULTS, MOST_NODES, MOST_PROCESSES, MOST_EDGES}
+use Rattle.cpg_base.specs.declared.limits.TheConstants.{MOST_CONDITIONS, MOST_COLUMNS, MOST_LOAD, LONGEST}
 use Rattle.cpg_cube.specs.declared.literal.Literal.{Literal}
 use Rattle.cpg_head.specs.Head.{Head}
 use Rattle.cpg_head.specs.declared.head_parts.Extra.{Extra}
@@ -62,7 +64,8 @@ read_process version faults nodes ones = do
 
 unfoldable pub read_processes : ℕ → ℕ → ℕ → ℕ → Reader (List Written)
 read_processes version faults nodes count =
-    read_each (λ (ones : ℕ) (w : Written). ones + bit w.process.condition) (λ (left : ℕ) ones. read_process version faults nodes ones) (down count) 0
+    read_each (λ (ones : ℕ) (w : Written). ones + bit w.process.condition)
+    (λ (left : ℕ) ones. read_process version faults nodes ones) (down count) 0
 
 unfoldable pub read_edge : ℕ → Reader (ℕ × ℕ)
 read_edge processes = do
@@ -196,7 +199,8 @@ numbers_from i zero = []
 numbers_from i (suc n) = i ∷ numbers_from (suc i) n
 
 unfoldable pub read_nodes : Head → Reader (List NodeTable)
-read_nodes h = read_each (λ (c : ℕ) (t : NodeTable). c + column_count (rows_of t)) (read_node_table h) (numbers_from 0 (length h.nodes)) 0
+read_nodes h = read_each (λ (c : ℕ) (t : NodeTable). c + column_count (rows_of t)) (read_node_table h)
+    (numbers_from 0 (length h.nodes)) 0
 
 unfoldable pub read_tables : Reader Tables
 read_tables = do

@@ -34,4 +34,5 @@ OneValue = (t u : Tables) → AreLawful t → AreLawful u → spelling t ≡ spe
 
 -- No spelling is a proper prefix of another.
 abbrev pub NoProperPrefix : Type 0
-NoProperPrefix = (t u : Tables) (rest : List ℕ) → AreLawful t → AreLawful u → spelling t ≡ spelling u ++ rest → rest ≡ []
+NoProperPrefix =
+    (t u : Tables) (rest : List ℕ) → AreLawful t → AreLawful u → spelling t ≡ spelling u ++ rest → rest ≡ []

@@ -20,10 +20,15 @@ accepted_have_tables g urgency guards finish a narrow is =
     let order = is.order in
     let m = is.measured in
     let first_top : IsTopological g (first_order g urgency) = first_topological g urgency a.topological a.given in
-    let top : IsTopological g order = compile_topological g a.well_formed urgency a.topological first_top order is.compiled.taken in
-    let own : IsNarrow g order = elim is.compiled.taken [ inl preferred ↦ preferred.narrow | inr same ↦ subst (IsNarrow g) (sym same.0) narrow ] in
+    let top : IsTopological g order =
+    compile_topological g a.well_formed urgency a.topological first_top order is.compiled.taken in
+    let own : IsNarrow g order = elim is.compiled.taken [
+      | inl preferred ↦ preferred.narrow
+      | inr same ↦ subst (IsNarrow g) (sym same.0) narrow
+    ] in
     let t = tables_exist g urgency order guards m.frozen a top own m.frozen_times in
-    let count : length t.rows ≡ item_count g = sym (length-map t.rows (λ (r : Row). r.item)) ∙ ap length t.found.items ∙ length-range_with_len 0 (item_count g) in
+    let count : length t.rows ≡ item_count g = sym (length-map t.rows (λ (r : Row). r.item)) ∙ ap length t.found.items
+    ∙ length-range_with_len 0 (item_count g) in
     let built : Built = record {
       tables = t.tables;
       frozen = m.frozen;
@@ -34,9 +39,11 @@ accepted_have_tables g urgency guards finish a narrow is =
       excess_in = m.excess_in;
       excess_by = m.excess_by;
     } in
-    let are : IsBuiltFor g urgency order built = found_tables_are_built g urgency order t.rows built a.limits (admitted_under g urgency order guards a top)
+    let are : IsBuiltFor g urgency order built =
+    found_tables_are_built g urgency order t.rows built a.limits (admitted_under g urgency order guards a top)
     (record { found = t.found; written = t.written; worst = m.is_worst; excess = m.is_excess }) in (
       record { built = built; order = order },
-      compilation g a.well_formed urgency a.topological first_top is.compiled.narrow a.joins a.urgency order is.compiled.taken built are (tables_fit g t.rows t.tables count t.fit t.written) refl,
+      compilation g a.well_formed urgency a.topological first_top is.compiled.narrow a.joins a.urgency order
+          is.compiled.taken built are (tables_fit g t.rows t.tables count t.fit t.written) refl,
       refl,
     )

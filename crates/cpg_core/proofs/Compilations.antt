@@ -1,5 +1,6 @@
 -- What builders answer under both orders is a compilation if nothing is late, and else shows what is.
-use Rattle.std.proofs.Common.{◌≡◌, ◌+◌, ◌-◌, ◌<◌, ◌≤◌, ◌∙◌, ℕ, zero, suc, List, [], ◌∷◌, Option, Some, None, Contains, unwrap_or, option_to_list, flat_map, length, get_or, refl, sym, ap, subst, inl}
+use Rattle.std.proofs.Common.{◌≡◌, ◌+◌, ◌-◌, ◌<◌, ◌≤◌, ◌∙◌, ℕ, zero, suc, List, [], ◌∷◌, Option, Some, None, Contains}
+use Rattle.std.proofs.Common.{unwrap_or, option_to_list, flat_map, length, get_or, refl, sym, ap, subst, inl}
 use Rattle.std.proofs.Common.{inr, arith}
 use Rattle.std.proofs.lemmas.Bool.{cases_lt}
 use Rattle.std.proofs.lemmas.List.{get_or_past}
@@ -28,7 +29,8 @@ use Rattle.cpg_run.specs.Finish.{IsExcess, IsLeastExceeding}
 use Rattle.cpg_run.specs.Run.{Times, IsRun, end_in, end_by}
 
 -- tables that a builder answers are valid if nothing is late
-pub built_valid : (g : Graph) (urgency order : List ℕ) (b : Built) → IsBuiltFor g urgency order b → b.excess ≡ 0 → IsValid g b.tables.nodes
+pub built_valid : (g : Graph) (urgency order : List ℕ) (b : Built) → IsBuiltFor g urgency order b → b.excess ≡ 0 →
+    IsValid g b.tables.nodes
 built_valid g urgency order b is none = record {
   rules = λ rule x column s lawful within. kept rule s lawful x within column;
   hears = is.hears;
@@ -39,7 +41,9 @@ built_valid g urgency order b is none = record {
     kept rule = is.rules rule (λ e. cc)
 
 -- nothing is late if no process is shown
-pub nothing_late : (g : Graph) (urgency order : List ℕ) (frozen : List (Option ℕ)) (peak : Peak) → IsExcess g urgency order frozen peak.time peak.scenario peak.process → peak.process ≡ None →
+pub nothing_late : (g : Graph) (urgency order : List ℕ) (frozen : List (Option ℕ)) (peak : Peak) →
+    IsExcess g urgency order frozen peak.time peak.scenario peak.process →
+    peak.process ≡ None →
     peak.time ≡ 0
 nothing_late g urgency order frozen peak is none =
     let run = is.least.holds in
@@ -48,11 +52,14 @@ nothing_late g urgency order frozen peak is none =
 -- an end is one of all
 end_listed : (os : List (Option ℕ)) (p e : ℕ) → get_or os p None ≡ Some e → Contains (flat_map option_to_list os) e
 end_listed [] p e h = absurd (none-some e h)
-end_listed (o ∷ os) zero e h = Contains-append_left (option_to_list o) (flat_map option_to_list os) e (subst (λ q. Contains (option_to_list q) e) (sym h) (Contains-first e []))
-end_listed (o ∷ os) (suc p) e h = Contains-append_right (option_to_list o) (flat_map option_to_list os) e (end_listed os p e h)
+end_listed (o ∷ os) zero e h = Contains-append_left (option_to_list o) (flat_map option_to_list os) e
+    (subst (λ q. Contains (option_to_list q) e) (sym h) (Contains-first e []))
+end_listed (o ∷ os) (suc p) e h =
+    Contains-append_right (option_to_list o) (flat_map option_to_list os) e (end_listed os p e h)
 
 -- the end of the process that is shown, in the scenario that is shown
-module _ (g : Graph) (urgency order : List ℕ) (b : Grown) (is : IsGrownFor g urgency order b) (p : ℕ) (late : b.excess.process ≡ Some p) where
+module _ (g : Graph) (urgency order : List ℕ) (b : Grown) (is : IsGrownFor g urgency order b) (p : ℕ)
+    (late : b.excess.process ≡ Some p) where
   abbrev pub late_times : Times
   late_times = is.excess.least.holds.0
 
@@ -75,7 +82,12 @@ module _ (g : Graph) (urgency order : List ℕ) (b : Grown) (is : IsGrownFor g u
   -- it is a process
   pub late_process : p < process_count g
   late_process = elim (cases_lt p (length late_times.ends)) [
-    | inl lt ↦ omega (arith, lt, ap length late_run.ends, length-map-range_with_len (end_by g b.excess.scenario late_times) 0 (process_count g))
+    | inl lt ↦ omega (
+      arith,
+      lt,
+      ap length late_run.ends,
+      length-map-range_with_len (end_by g b.excess.scenario late_times) 0 (process_count g),
+    )
     | inr ge ↦ absurd (none-some (due g p + b.excess.time) (sym (get_or_past late_times.ends p None ge) ∙ late_end))
   ]
 
@@ -84,14 +96,16 @@ module _ (g : Graph) (urgency order : List ℕ) (b : Grown) (is : IsGrownFor g u
   late_small = omega (
     arith,
     is.worst.greatest b.excess.scenario late_times is.excess.least.lawful late_run,
-    greatest_above (flat_map option_to_list late_times.ends) (due g p + b.excess.time) (end_listed late_times.ends p (due g p + b.excess.time) late_end),
+    greatest_above (flat_map option_to_list late_times.ends) (due g p + b.excess.time)
+        (end_listed late_times.ends p (due g p + b.excess.time) late_end),
     late_run.finish,
   )
 
 -- ---- both orders
 
 -- what a builder answers measures the order
-pub measured : (g : Graph) (urgency order : List ℕ) (b : Built) → IsBuiltFor g urgency order b → IsMeasured g urgency order b.excess b.worst
+pub measured : (g : Graph) (urgency order : List ℕ) (b : Built) → IsBuiltFor g urgency order b →
+    IsMeasured g urgency order b.excess b.worst
 measured g urgency order b is = record {
   frozen = b.frozen;
   frozen_times = is.frozen;
@@ -104,7 +118,8 @@ measured g urgency order b is = record {
 }
 
 -- what is found before the tables are made measures the order
-pub found_measured : (g : Graph) (urgency order : List ℕ) (t : Grown) → IsGrownFor g urgency order t → IsMeasured g urgency order t.excess.time t.worst.time
+pub found_measured : (g : Graph) (urgency order : List ℕ) (t : Grown) → IsGrownFor g urgency order t →
+    IsMeasured g urgency order t.excess.time t.worst.time
 found_measured g urgency order t is = record {
   frozen = t.trees.frozen;
   frozen_times = is.frozen;
@@ -116,22 +131,28 @@ found_measured g urgency order t is = record {
   is_worst = is.worst;
 }
 
-pub late_under : (g : Graph) (urgency order : List ℕ) (t : Grown) → IsGrownFor g urgency order t → 0 < t.excess.time → IsLateUnder g urgency order
+pub late_under : (g : Graph) (urgency order : List ℕ) (t : Grown) → IsGrownFor g urgency order t → 0 < t.excess.time →
+    IsLateUnder g urgency order
 late_under g urgency order t is l = (t.excess.time, t.worst.time, found_measured g urgency order t is, l)
 
-pub in_time_under : (g : Graph) (urgency order : List ℕ) (b : Built) → IsBuiltFor g urgency order b → b.excess ≡ 0 → IsInTimeUnder g urgency order
-in_time_under g urgency order b is e = (b.worst, subst (λ n. IsMeasured g urgency order n b.worst) e (measured g urgency order b is))
+pub in_time_under : (g : Graph) (urgency order : List ℕ) (b : Built) → IsBuiltFor g urgency order b → b.excess ≡ 0 →
+    IsInTimeUnder g urgency order
+in_time_under g urgency order b is e =
+    (b.worst, subst (λ n. IsMeasured g urgency order n b.worst) e (measured g urgency order b is))
 
 -- some process is shown if the excess is above 0
-pub some_shown : (g : Graph) (urgency order : List ℕ) (t : Grown) → IsGrownFor g urgency order t → 0 < t.excess.time → t.excess.process ≡ None → ⊥
+pub some_shown : (g : Graph) (urgency order : List ℕ) (t : Grown) → IsGrownFor g urgency order t → 0 < t.excess.time →
+    t.excess.process ≡ None → ⊥
 some_shown g urgency order t is l e = omega (arith, nothing_late g urgency order t.trees.frozen t.excess is.excess e)
 
 -- nothing is late under the order that compiles the graph
-module _ (g : Graph) (w : WellFormed g) (urgency : List ℕ) (top : IsTopological g urgency) (first_top : IsTopological g (first_order g urgency))
+module _ (g : Graph) (w : WellFormed g) (urgency : List ℕ) (top : IsTopological g urgency)
+    (first_top : IsTopological g (first_order g urgency))
     (narrow : g.order ≡ None → IsNarrow g (first_order g urgency))
     (joins : HasSingleJoins g) (by : IsUrgencyOrder g urgency) where
   -- tables under it are its compilation
-  pub compilation : (order : List ℕ) → IsCompileOrder g urgency order → (b : Built) → IsBuiltFor g urgency order b → DoTablesFit g b.tables.nodes → b.excess ≡ 0 →
+  pub compilation : (order : List ℕ) → IsCompileOrder g urgency order → (b : Built) → IsBuiltFor g urgency order b →
+      DoTablesFit g b.tables.nodes → b.excess ≡ 0 →
       IsCompilation g urgency (record { built = b; order = order })
   compilation order taken b built fit e = record {
     compiled = record { narrow = narrow; taken = taken; in_time = in_time_under g urgency order b built e };

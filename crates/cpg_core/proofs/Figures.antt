@@ -16,14 +16,20 @@ use Rattle.cpg_core.specs.declared.choosing.TakenOrder.{TakenOrder}
 use Rattle.cpg_core.specs.declared.fault.CompileFault.{CompileFault}
 use Rattle.cpg_core.specs.declared.fault.CompileFault.TheVariants.{TooWide, Late, OutOfMemory}
 use Rattle.cpg_core.proofs.Compilations.{found_measured}
-use Rattle.cpg_core.proofs.CompiledLaws.{not_preferred_given, not_preferred_many, not_preferred_wide, not_preferred_worse, one_measure, preferred}
+use Rattle.cpg_core.proofs.CompiledLaws.{not_preferred_given, not_preferred_many, not_preferred_wide}
+use Rattle.cpg_core.proofs.CompiledLaws.{not_preferred_worse, one_measure, preferred}
 use Rattle.cpg_core.proofs.MeasuredFrom.{measured_from}
 
-pub figures_measure : (g : Graph) → WellFormed g → (urgency order : List ℕ) → IsTopological g order → (excess worst : ℕ) → HasFigures g order excess worst → IsMeasured g urgency order excess worst
-figures_measure g w urgency order top excess worst h = measured_from g w urgency order top h.frozen h.times excess worst h.greatest
+pub figures_measure : (g : Graph) → WellFormed g → (urgency order : List ℕ) → IsTopological g order →
+    (excess worst : ℕ) → HasFigures g order excess worst →
+    IsMeasured g urgency order excess worst
+figures_measure g w urgency order top excess worst h =
+    measured_from g w urgency order top h.frozen h.times excess worst h.greatest
 
-module _ (g : Graph) (w : WellFormed g) (urgency : List ℕ) (top : IsTopological g urgency) (first_top : IsTopological g (first_order g urgency)) where
-  module _ (narrow : g.order ≡ None → IsNarrow g (first_order g urgency)) (e v : ℕ) (first : HasFigures g (first_order g urgency) e v) where
+module _ (g : Graph) (w : WellFormed g) (urgency : List ℕ) (top : IsTopological g urgency)
+    (first_top : IsTopological g (first_order g urgency)) where
+  module _ (narrow : g.order ≡ None → IsNarrow g (first_order g urgency)) (e v : ℕ)
+      (first : HasFigures g (first_order g urgency) e v) where
     own : IsMeasured g urgency (first_order g urgency) e v
     own = figures_measure g w urgency (first_order g urgency) first_top e v first
 
@@ -58,7 +64,8 @@ module _ (g : Graph) (w : WellFormed g) (urgency : List ℕ) (top : IsTopologica
       late = λ l. ((e, v, own, l), inr (inr (order, track, inl (x, wide))));
     }
 
-    module _ (order : List ℕ) (track : HasTrackOrder g order) (order_top : IsTopological g order) (f u : ℕ) (figures : HasFigures g order f u) where
+    module _ (order : List ℕ) (track : HasTrackOrder g order) (order_top : IsTopological g order) (f u : ℕ)
+        (figures : HasFigures g order f u) where
       other : IsMeasured g urgency order f u
       other = figures_measure g w urgency order order_top f u figures
 
@@ -87,9 +94,11 @@ module _ (g : Graph) (w : WellFormed g) (urgency : List ℕ) (top : IsTopologica
       }
 
       -- the track order is
-      pub tracks_better : IsNarrow g order → g.order ≡ None → IsBetter f u e v → IsTaken g urgency (record { figures = record { excess = f; worst = u }; order = Some order })
+      pub tracks_better : IsNarrow g order → g.order ≡ None → IsBetter f u e v →
+          IsTaken g urgency (record { figures = record { excess = f; worst = u }; order = Some order })
       tracks_better own_narrow ungiven better = record {
-        taken = inl (preferred g w urgency top first_top narrow e v own order track f u other own_narrow ungiven better);
+        taken =
+            inl (preferred g w urgency top first_top narrow e v own order track f u other own_narrow ungiven better);
         measured = other;
         topological = order_top;
         narrow = own_narrow;
@@ -100,8 +109,10 @@ module _ (g : Graph) (w : WellFormed g) (urgency : List ℕ) (top : IsTopologica
       }
 
     -- the track order is the first one
-    pub first_same : (order : List ℕ) → HasTrackOrder g order → order ≡ first_order g urgency → IsTaken g urgency by_first
-    first_same order track same = first_better (first_order g urgency) (subst (HasTrackOrder g) same track) first_top e v first
+    pub first_same : (order : List ℕ) → HasTrackOrder g order → order ≡ first_order g urgency →
+        IsTaken g urgency by_first
+    first_same order track same =
+        first_better (first_order g urgency) (subst (HasTrackOrder g) same track) first_top e v first
         (λ better. elim better [ inl less ↦ omega (arith, less) | inr earlier ↦ omega (arith, earlier.1) ])
 
   -- ---- what is found by the trees of the first order
@@ -109,19 +120,25 @@ module _ (g : Graph) (w : WellFormed g) (urgency : List ℕ) (top : IsTopologica
   module _ (first : Grown) (is : IsGrownFor g urgency (first_order g urgency) first) where
     -- has the figures that it has
     pub grown_late : IsLateUnder g urgency (first_order g urgency) → 0 < first.excess.time
-    grown_late h = let same = one_measure g w urgency (first_order g urgency) first_top first.excess.time first.worst.time h.0 h.1 (found_measured g urgency (first_order g urgency) first is) h.2 in
+    grown_late h = let same = one_measure g w urgency (first_order g urgency) first_top first.excess.time
+        first.worst.time h.0 h.1 (found_measured g urgency (first_order g urgency) first is) h.2 in
         omega (arith, same.0, h.3)
 
     pub grown_in_time : (e v : ℕ) → IsMeasured g urgency (first_order g urgency) e v → e ≡ 0 → first.excess.time ≡ 0
-    grown_in_time e v m z = (one_measure g w urgency (first_order g urgency) first_top first.excess.time first.worst.time e v (found_measured g urgency (first_order g urgency) first is) m).0 ∙ z
+    grown_in_time e v m z = (one_measure g w urgency (first_order g urgency) first_top first.excess.time
+        first.worst.time e v (found_measured g urgency (first_order g urgency) first is) m).0 ∙ z
 
     -- without a track order
     pub grown_many : (g.order ≡ None → IsNarrow g (first_order g urgency)) → HasManyTracks g →
-        IsTaken g urgency (record { figures = record { excess = first.excess.time; worst = first.worst.time }; order = None })
+        IsTaken g urgency
+        (record { figures = record { excess = first.excess.time; worst = first.worst.time }; order = None })
     grown_many narrow many =
         let found = found_measured g urgency (first_order g urgency) first is in
         record {
-          taken = inr (refl, not_preferred_many g w urgency top first_top narrow first.excess.time first.worst.time found many);
+          taken = inr (
+            refl,
+            not_preferred_many g w urgency top first_top narrow first.excess.time first.worst.time found many,
+          );
           measured = found;
           topological = tt;
           narrow = tt;
@@ -129,19 +146,32 @@ module _ (g : Graph) (w : WellFormed g) (urgency : List ℕ) (top : IsTopologica
         }
 
   -- what is found by those of the order that is taken
-  pub tracked_in_time : (order : List ℕ) → IsTopological g order → (t : Grown) → IsGrownFor g urgency order t → (e v : ℕ) → IsMeasured g urgency order e v → e ≡ 0 → t.excess.time ≡ 0
-  tracked_in_time order order_top t is e v m z = (one_measure g w urgency order order_top t.excess.time t.worst.time e v (found_measured g urgency order t is) m).0 ∙ z
+  pub tracked_in_time : (order : List ℕ) → IsTopological g order → (t : Grown) → IsGrownFor g urgency order t →
+      (e v : ℕ) → IsMeasured g urgency order e v → e ≡ 0 →
+      t.excess.time ≡ 0
+  tracked_in_time order order_top t is e v m z =
+      (one_measure g w urgency order order_top t.excess.time t.worst.time e v (found_measured g urgency order t is) m).0
+      ∙ z
 
 -- a graph under whose compile's order nothing is late is accepted
-pub accepted : (g : Graph) (urgency : List ℕ) (t : TakenOrder) → (g.order ≡ None → IsNarrow g (first_order g urgency)) → IsTaken g urgency t → t.figures.excess ≡ 0 →
+pub accepted : (g : Graph) (urgency : List ℕ) (t : TakenOrder) → (g.order ≡ None → IsNarrow g (first_order g urgency)) →
+    IsTaken g urgency t →
+    t.figures.excess ≡ 0 →
     IsAccepted g urgency t.figures.worst
 accepted g urgency t narrow a e =
     let order = order_taken (first_order g urgency) t.order in
-    let is : IsMeasured g urgency order 0 t.figures.worst = subst (λ n. IsMeasured g urgency order n t.figures.worst) e a.measured in
-    record { order = order; compiled = record { narrow = narrow; taken = a.taken; in_time = (t.figures.worst, is) }; measured = is }
+    let is : IsMeasured g urgency order 0 t.figures.worst =
+    subst (λ n. IsMeasured g urgency order n t.figures.worst) e a.measured in
+    record {
+      order = order;
+      compiled = record { narrow = narrow; taken = a.taken; in_time = (t.figures.worst, is) };
+      measured = is;
+    }
 
 -- why a graph in which no item is too wide isn't compiled is why it has no greatest finish
-pub no_finish : (g : Graph) (urgency : List ℕ) (fault : CompileFault) → IsNarrow g (first_order g urgency) → ShowsCompileFault g urgency fault → ShowsNoFinish g urgency fault
+pub no_finish : (g : Graph) (urgency : List ℕ) (fault : CompileFault) → IsNarrow g (first_order g urgency) →
+    ShowsCompileFault g urgency fault →
+    ShowsNoFinish g urgency fault
 no_finish g urgency (TooWide x) narrow shows = shows.0
 no_finish g urgency (Late scenario process finish) narrow shows = (narrow, shows)
 no_finish g urgency OutOfMemory narrow shows = tt

@@ -1,5 +1,6 @@
 -- What is built under a compile's order has local knowledge.
-use Rattle.std.proofs.Common.{ℕ, ◌+◌, ◌≡◌, ◌<◌, ◌∙◌, List, ◌∷◌, Option, Some, None, option_map, get_or, slice_get, option_to_list, refl, sym, ap}
+use Rattle.std.proofs.Common.{ℕ, ◌+◌, ◌≡◌, ◌<◌, ◌∙◌, List, ◌∷◌, Option, Some, None, option_map, get_or, slice_get}
+use Rattle.std.proofs.Common.{option_to_list, refl, sym, ap}
 use Rattle.cpg_base.specs.Graph.{Graph, process_count, item_at, home, condition_of}
 use Rattle.cpg_base.specs.Bus.{slot_length}
 use Rattle.cpg_base.specs.Duration.{duration}
@@ -23,21 +24,27 @@ first_of_option : (o : Option ℕ) → slice_get (option_to_list o) 0 ≡ o
 first_of_option None = refl
 first_of_option (Some x) = refl
 
-module _ (g : Graph) (order : List ℕ) (frozen : List (Option ℕ)) (tables : List NodeTable) (times : HasRunTimes g order frozen tables) (s : Scenario) (is : IsScenario g s) (t : Times)
+module _ (g : Graph) (order : List ℕ) (frozen : List (Option ℕ)) (tables : List NodeTable)
+    (times : HasRunTimes g order frozen tables) (s : Scenario) (is : IsScenario g s) (t : Times)
     (run : IsRun g order frozen s t) where
   time_is : (x : ℕ) → time_of tables x s ≡ get_or t.times x None
   time_is x = ap (λ ts. slice_get ts 0) (times s t x is run) ∙ first_of_option (get_or t.times x None)
 
   pub end_is_seen : (time p : ℕ) → p < process_count g → seen_end g s t time p ≡ end_seen g tables s time p
   end_is_seen time p l = ap (λ o. seen time o (fault_of s p ∷ value_in_key s.values (condition_of g p)))
-      (end_is g order frozen s t run p l ∙ ap (option_map (λ start. start + duration g p (fault_of s p))) (sym (time_is p)))
+      (end_is g order frozen s t run p l
+      ∙ ap (option_map (λ start. start + duration g p (fault_of s p))) (sym (time_is p)))
 
   pub frame_is_seen : (time x : ℕ) → seen_frame g s t time x ≡ frame_seen g tables s time x
-  frame_is_seen time x = ap (λ o. seen time (option_map (λ start. start + slot_length g (home g x)) o) (value_of_frame s (item_at g x))) (sym (time_is x))
+  frame_is_seen time x =
+      ap (λ o. seen time (option_map (λ start. start + slot_length g (home g x)) o) (value_of_frame s (item_at g x)))
+      (sym (time_is x))
 
-module _ (g : Graph) (w : WellFormed g) (joins : HasSingleJoins g) (urgency : List ℕ) (urgent : IsUrgencyOrder g urgency) (top : IsTopological g urgency)
+module _ (g : Graph) (w : WellFormed g) (joins : HasSingleJoins g) (urgency : List ℕ)
+    (urgent : IsUrgencyOrder g urgency) (top : IsTopological g urgency)
     (first_top : IsTopological g (first_order g urgency)) where
-  pub know_locally : (order : List ℕ) → IsCompileOrder g urgency order → (b : Built) → IsBuiltFor g urgency order b → KnowLocally g b.tables.nodes
+  pub know_locally : (order : List ℕ) → IsCompileOrder g urgency order → (b : Built) → IsBuiltFor g urgency order b →
+      KnowLocally g b.tables.nodes
   know_locally order taken b is node time s u ls lu alike =
       let tables = b.tables.nodes in
       let times = is.exact.times in
@@ -45,7 +52,11 @@ module _ (g : Graph) (w : WellFormed g) (joins : HasSingleJoins g) (urgency : Li
       let one = a_run g order b.frozen s topological in
       let other = a_run g order b.frozen u topological in
       let same : AreAlike g node time s one.0 u other.0 = record {
-        ends = λ p l h. end_is_seen g order b.frozen tables times s ls one.0 one.1 time p l ∙ alike.ends p l h ∙ sym (end_is_seen g order b.frozen tables times u lu other.0 other.1 time p l);
-        frames = λ x l h. frame_is_seen g order b.frozen tables times s ls one.0 one.1 time x ∙ alike.frames x l h ∙ sym (frame_is_seen g order b.frozen tables times u lu other.0 other.1 time x);
+        ends = λ p l h. end_is_seen g order b.frozen tables times s ls one.0 one.1 time p l ∙ alike.ends p l h
+            ∙ sym (end_is_seen g order b.frozen tables times u lu other.0 other.1 time p l);
+        frames = λ x l h. frame_is_seen g order b.frozen tables times s ls one.0 one.1 time x ∙ alike.frames x l h
+            ∙ sym (frame_is_seen g order b.frozen tables times u lu other.0 other.1 time x);
       } in
-      local_tables g urgency order b.frozen tables node time s u one.0 other.0 (record { formed = w; joins = joins; urgent = urgent; topological = topological }) times ls lu one.1 other.1 same
+      local_tables g urgency order b.frozen tables node time s u one.0 other.0
+      (record { formed = w; joins = joins; urgent = urgent; topological = topological }) times ls lu
+      one.1 other.1 same

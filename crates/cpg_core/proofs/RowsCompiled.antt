@@ -19,26 +19,35 @@ use Rattle.cpg_core.specs.Compiled.{IsCompileOrder}
 use Rattle.cpg_core.proofs.Compilations.{compilation}
 use Rattle.cpg_core.proofs.CompiledLaws.{compile_topological}
 
-module _ (g : Graph) (urgency : List ℕ) (guards : Guards) (a : IsAdmitted g urgency guards) (first_top : IsTopological g (first_order g urgency))
+module _ (g : Graph) (urgency : List ℕ) (guards : Guards) (a : IsAdmitted g urgency guards)
+    (first_top : IsTopological g (first_order g urgency))
     (narrow : g.order ≡ None → IsNarrow g (first_order g urgency)) where
-  pub compiled_rows : (t : Grown) (r : BuiltRows) → AreBuiltRows g urgency t.order r → r.excess ≡ t.excess → t.excess.time ≡ 0 → IsCompileOrder g urgency t.order → AreCompiledRows g urgency r
+  pub compiled_rows : (t : Grown) (r : BuiltRows) → AreBuiltRows g urgency t.order r → r.excess ≡ t.excess →
+      t.excess.time ≡ 0 → IsCompileOrder g urgency t.order →
+      AreCompiledRows g urgency r
   compiled_rows t r are same zero taken =
-      let top : IsTopological g t.order = compile_topological g a.well_formed urgency a.topological first_top t.order taken in
+      let top : IsTopological g t.order =
+      compile_topological g a.well_formed urgency a.topological first_top t.order taken in
       let writable : AreWritable g r.rows.items = built_writable g urgency guards a t.order top r are in
       let own : IsCompileOrder g urgency r.order = subst (IsCompileOrder g urgency) (sym are.same) taken in
       record {
         writable = writable;
         compilation = λ tables w.
-            let built : IsBuiltFor g urgency r.order (built_of r tables) = subst (λ o. IsBuiltFor g urgency o (built_of r tables)) (sym are.same)
+            let built : IsBuiltFor g urgency r.order (built_of r tables) =
+            subst (λ o. IsBuiltFor g urgency o (built_of r tables)) (sym are.same)
             (built_tables g urgency guards a t.order top r are tables w) in
-            compilation g a.well_formed urgency a.topological first_top narrow a.joins a.urgency r.order own (built_of r tables) built
+            compilation g a.well_formed urgency a.topological first_top narrow a.joins a.urgency r.order own
+            (built_of r tables) built
             (built_fit g urgency guards a t.order top r are tables w) (ap (λ (p : Peak). p.time) same ∙ zero);
         tables = written g a.limits a.well_formed r.rows.items writable;
         written = is_written g a.limits a.well_formed r.rows.items writable;
       }
 
 -- what is assembled of such rows is a compilation
-pub assembled_compilation : (g : Graph) (urgency : List ℕ) (r : BuiltRows) (c : Compiled) → AreCompiledRows g urgency r → IsAssembledOf g r c.built → c.order ≡ r.order → IsCompilation g urgency c
+pub assembled_compilation : (g : Graph) (urgency : List ℕ) (r : BuiltRows) (c : Compiled) →
+    AreCompiledRows g urgency r → IsAssembledOf g r c.built → c.order ≡ r.order →
+    IsCompilation g urgency c
 assembled_compilation g urgency r c are is same =
     subst (λ b. IsCompilation g urgency (record { built = b; order = c.order })) (sym is.same)
-    (subst (λ o. IsCompilation g urgency (record { built = built_of r c.built.tables; order = o })) (sym same) (are.compilation c.built.tables is.written))
+    (subst (λ o. IsCompilation g urgency (record { built = built_of r c.built.tables; order = o })) (sym same)
+    (are.compilation c.built.tables is.written))

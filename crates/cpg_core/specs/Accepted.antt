@@ -14,8 +14,8 @@ abbrev pub order_taken : List ℕ → Option (List ℕ) → List ℕ
 order_taken first None = first
 order_taken first (Some order) = order
 
--- the compile's order with its greatest excess and greatest finish; if something is late under it, something is under the first order,
--- and nothing helps
+-- the compile's order with its greatest excess and greatest finish; if something is late under it, something is under
+-- the first order, and nothing helps
 pub record IsTaken (g : Graph) (urgency : List ℕ) (t : TakenOrder) : Type 0 where
   pub taken : IsCompileOrder g urgency (order_taken (first_order g urgency) t.order)
   pub measured : IsMeasured g urgency (order_taken (first_order g urgency) t.order) t.figures.excess t.figures.worst
@@ -29,8 +29,8 @@ pub record IsAccepted (g : Graph) (urgency : List ℕ) (worst : ℕ) : Type 0 wh
   pub compiled : IsCompiled g urgency order
   pub measured : IsMeasured g urgency order 0 worst
 
--- Why a graph has no greatest finish: the first item that is too wide by its views under the first order; or there is none, and the
--- graph is late, as its compile shows.
+-- Why a graph has no greatest finish: the first item that is too wide by its views under the first order; or there is
+-- none, and the graph is late, as its compile shows.
 abbrev pub ShowsNoFinish : Graph → List ℕ → CompileFault → Type 0
 ShowsNoFinish g urgency (TooWide x) = IsLeastWide g (first_order g urgency) x
 ShowsNoFinish g urgency (Late scenario process finish) =

@@ -19,8 +19,8 @@ use Rattle.cpg_core.specs.declared.fault.CompileFault.TheVariants.{TooWide, Late
 use Rattle.cpg_reach.specs.Wide.{IsLeastWide}
 use Rattle.cpg_core.specs.Compiled.{IsCompiled, IsLate, IsShownLate}
 
--- The tables for the compile's order are exact and keep all ten rules, and `c` has their greatest finish. No row has too many
--- columns, nor have all rows together. Nothing is late, and no node knows more than it has seen.
+-- The tables for the compile's order are exact and keep all ten rules, and `c` has their greatest finish. No row has
+-- too many columns, nor have all rows together. Nothing is late, and no node knows more than it has seen.
 pub record IsCompilation (g : Graph) (urgency : List ℕ) (c : Compiled) : Type 0 where
   pub compiled : IsCompiled g urgency c.order
   pub built : IsBuiltFor g urgency c.order c.built
@@ -29,8 +29,8 @@ pub record IsCompilation (g : Graph) (urgency : List ℕ) (c : Compiled) : Type 
   pub fit : DoTablesFit g c.built.tables.nodes
   pub local : KnowLocally g c.built.tables.nodes
 
--- What is made under the order that a graph gives is too large: a tree on the way to its rows, or, if nothing is late, the
--- rows.
+-- What is made under the order that a graph gives is too large: a tree on the way to its rows, or, if nothing is late,
+-- the rows.
 pub record HasWideRows (g : Graph) (urgency order : List ℕ) : Type 0 where
   pub grown : Grown
   pub is : IsGrownFor g urgency order grown
@@ -40,12 +40,14 @@ pub record HasWideRows (g : Graph) (urgency order : List ℕ) : Type 0 where
 abbrev pub IsTooLarge : Graph → List ℕ → List ℕ → Type 0
 IsTooLarge g urgency order = HasLargeTree g urgency order ⊎ HasWideRows g urgency order
 
--- What a fault of a compile means. Either it is the first item that is too wide by its views under the first order, and, if the
--- graph gives that order, what is made is too large. Or the graph is late, and the fault is the scenario, the process and the
--- end of the greatest excess under that order.
+-- What a fault of a compile means. Either it is the first item that is too wide by its views under the first order,
+-- and, if the graph gives that order, what is made is too large. Or the graph is late, and the fault is the scenario,
+-- the process and the end of the greatest excess under that order.
 abbrev pub ShowsCompileFault : Graph → List ℕ → CompileFault → Type 0
-ShowsCompileFault g urgency (TooWide x) = IsLeastWide g (first_order g urgency) x × (g.order ≢ None → IsTooLarge g urgency (first_order g urgency))
-ShowsCompileFault g urgency (Late scenario process finish) = IsLate g urgency × IsShownLate g urgency scenario process finish
+ShowsCompileFault g urgency (TooWide x) =
+    IsLeastWide g (first_order g urgency) x × (g.order ≢ None → IsTooLarge g urgency (first_order g urgency))
+ShowsCompileFault g urgency (Late scenario process finish) =
+    IsLate g urgency × IsShownLate g urgency scenario process finish
 ShowsCompileFault g urgency OutOfMemory = ⊤
 
 -- ---- the rows of the compile

@@ -1,9 +1,11 @@
 -- The least scenario that is left of a cube, by the numbers of one variable.
-use Rattle.std.proofs.Common.{ℕ, ◌+◌, ◌<◌, ◌≤◌, ◌≡◌, Bool, true, false, not, ◌&&◌, ◌||◌, List, Option, Some, None, IfSome, arith, refl, sym, ap, ◌∙◌, ⊎_elim, lt-ltb, le-ltb, le-leb, leb-true}
+use Rattle.std.proofs.Common.{ℕ, ◌+◌, ◌<◌, ◌≤◌, ◌≡◌, Bool, true, false, not, ◌&&◌, ◌||◌, List, Option, Some, None}
+use Rattle.std.proofs.Common.{IfSome, arith, refl, sym, ap, ◌∙◌, ⊎_elim, lt-ltb, le-ltb, le-leb, leb-true}
 use Rattle.std.specs.Prelude.{nat_lt, nat_le}
 use Rattle.std.specs.List.{list_any}
 use Rattle.std.proofs.Math.Bool.{or-false, and-true}
-use Rattle.std.proofs.lemmas.Bool.{cases_lt, and_parts, and_from, and_right, or_left, or_right, or_from, or_cases, false_from_ne_true}
+use Rattle.std.proofs.lemmas.Bool.{cases_lt, and_parts, and_from, and_right, or_left, or_right, or_from, or_cases}
+use Rattle.std.proofs.lemmas.Bool.{false_from_ne_true}
 use Rattle.cpg_base.specs.Graph.{Graph, process_count, IsVariable}
 use Rattle.cpg_base.specs.Scenario.{Scenario, IsScenario, number_of}
 use Rattle.cpg_base.specs.First.{IsFirst, earlier}
@@ -18,7 +20,9 @@ use Rattle.cpg_cube.proofs.Boxes.{number_within}
 use Rattle.cpg_cover.proofs.CoverLaws.{part_none}
 use Rattle.cpg_cube.proofs.Narrow.{matches-narrowed}
 
-pub lawful_if_some : (g : Graph) (order : List ℕ) (test : Scenario → Bool) (o : Option Scenario) → IsFirst g order test o → IfSome o (IsScenario g)
+pub lawful_if_some : (g : Graph) (order : List ℕ) (test : Scenario → Bool) (o : Option Scenario) →
+    IsFirst g order test o →
+    IfSome o (IsScenario g)
 lawful_if_some g order test None f = tt
 lawful_if_some g order test (Some s) f = f.lawful
 
@@ -27,8 +31,10 @@ one_more : (x m : ℕ) → nat_lt x (m + 1) ≡ (nat_lt x m || (nat_le m x && na
 one_more x m = ⊎_elim
     (λ (p : x < m). lt-ltb x (m + 1) (omega arith) ∙ sym (or_left _ _ (lt-ltb x m p)))
     (λ (p : m ≤ x). ⊎_elim
-    (λ (q : x < m + 1). lt-ltb x (m + 1) q ∙ sym (or_right _ _ (and_from _ _ (le-leb m x p) (le-leb x m (omega arith)))))
-    (λ (q : m + 1 ≤ x). le-ltb x (m + 1) q ∙ sym (or_from _ _ (le-ltb x m p) (and_right (nat_le m x) (nat_le x m) (false_from_ne_true _ (λ k. let y = leb-true x m k in omega arith)))))
+    (λ (q : x < m + 1). lt-ltb x (m + 1) q
+    ∙ sym (or_right _ _ (and_from _ _ (le-leb m x p) (le-leb x m (omega arith)))))
+    (λ (q : m + 1 ≤ x). le-ltb x (m + 1) q ∙ sym (or_from _ _ (le-ltb x m p)
+    (and_right (nat_le m x) (nat_le x m) (false_from_ne_true _ (λ k. let y = leb-true x m k in omega arith)))))
     (cases_lt x (m + 1)))
     (cases_lt x m)
 
@@ -54,33 +60,47 @@ module _ (g : Graph) (order : List ℕ) (by : List (List Literal)) (cube : List 
   abbrev pub is_left_below : ℕ → Scenario → Bool
   is_left_below m s = is_left by cube s && nat_lt (number_of s v) m
 
-  grown : (m : ℕ) (s : Scenario) → is_left_below (m + 1) s ≡ (is_left_below m s || is_left by (narrowed_by (only m) cube) s)
-  grown m s = shared (matches cube s) (not (list_any (λ b. matches b s) by)) (nat_lt (number_of s v) m) (holds s (only m)) (nat_lt (number_of s v) (m + 1)) (one_more (number_of s v) m)
-      ∙ ap (λ b. is_left_below m s || (b && not (list_any (λ b. matches b s) by))) (sym (matches-narrowed s (only m) cube))
+  grown : (m : ℕ) (s : Scenario) →
+      is_left_below (m + 1) s ≡ (is_left_below m s || is_left by (narrowed_by (only m) cube) s)
+  grown m s = shared (matches cube s) (not (list_any (λ b. matches b s) by)) (nat_lt (number_of s v) m)
+      (holds s (only m)) (nat_lt (number_of s v) (m + 1)) (one_more (number_of s v) m)
+      ∙ ap (λ b. is_left_below m s || (b && not (list_any (λ b. matches b s) by)))
+      (sym (matches-narrowed s (only m) cube))
 
   pub none_at_first : IsFirst g order (is_left_below 0) None
   none_at_first s i = and_right (is_left by cube s) (nat_lt (number_of s v) 0) (le-ltb (number_of s v) 0 (omega arith))
 
-  pub with_part : (m : ℕ) (found next : Option Scenario) → IsFirst g order (is_left_below m) found → IsFirst g order (is_left by (narrowed_by (only m) cube)) next →
+  pub with_part : (m : ℕ) (found next : Option Scenario) → IsFirst g order (is_left_below m) found →
+      IsFirst g order (is_left by (narrowed_by (only m) cube)) next →
       IsFirst g order (is_left_below (m + 1)) (earlier g order found next)
-  with_part m found next f h = first_same g order (λ s. is_left_below m s || is_left by (narrowed_by (only m) cube) s) (is_left_below (m + 1)) (earlier g order found next) (λ s i. sym (grown m s))
+  with_part m found next f h = first_same g order (λ s. is_left_below m s || is_left by (narrowed_by (only m) cube) s)
+      (is_left_below (m + 1)) (earlier g order found next) (λ s i. sym (grown m s))
       (first_or g order (is_left_below m) (is_left by (narrowed_by (only m) cube)) found next f h)
 
-  pub without_part : (m : ℕ) (found : Option Scenario) → with_literal (only m) cube ≡ None → IsFirst g order (is_left_below m) found → IsFirst g order (is_left_below (m + 1)) found
+  pub without_part : (m : ℕ) (found : Option Scenario) → with_literal (only m) cube ≡ None →
+      IsFirst g order (is_left_below m) found →
+      IsFirst g order (is_left_below (m + 1)) found
   without_part m found e f = first_same g order (is_left_below m) (is_left_below (m + 1)) found
-      (λ s i. sym (grown m s ∙ ap (λ b. is_left_below m s || b) (part_none g order by (only m) cube e s i) ∙ or-false (is_left_below m s))) f
+      (λ s i. sym (grown m s ∙ ap (λ b. is_left_below m s || b) (part_none g order by (only m) cube e s i)
+      ∙ or-false (is_left_below m s))) f
 
-  pub late_part : (m : ℕ) (found : Option Scenario) → IsLate g order (narrowed_by (only m) cube) found → IsFirst g order (is_left_below m) found → IsFirst g order (is_left_below (m + 1)) found
+  pub late_part : (m : ℕ) (found : Option Scenario) → IsLate g order (narrowed_by (only m) cube) found →
+      IsFirst g order (is_left_below m) found →
+      IsFirst g order (is_left_below (m + 1)) found
   late_part m None late f = absurd late
   late_part m (Some s) late f = record {
     lawful = f.lawful;
     holds = grown m s ∙ or_left _ _ f.holds;
     least = λ t i k. ⊎_elim
         (λ (a : is_left_below m t ≡ true). f.least t i a)
-        (λ (a : is_left by (narrowed_by (only m) cube) t ≡ true). late t i (and_parts (matches (narrowed_by (only m) cube) t) _ a).0)
+        (λ (a : is_left by (narrowed_by (only m) cube) t ≡ true).
+        late t i (and_parts (matches (narrowed_by (only m) cube) t) _ a).0)
         (or_cases _ _ (sym (grown m t) ∙ k));
   }
 
-  pub all_at_last : (few : process_count g ≤ 128) (found : Option Scenario) → IsVariable g v → IsFirst g order (is_left_below (top g.faults v + 1)) found → IsFirst g order (is_left by cube) found
+  pub all_at_last : (few : process_count g ≤ 128) (found : Option Scenario) → IsVariable g v →
+      IsFirst g order (is_left_below (top g.faults v + 1)) found →
+      IsFirst g order (is_left by cube) found
   all_at_last few found known f = first_same g order (is_left_below (top g.faults v + 1)) (is_left by cube) found
-      (λ s i. let w = number_within g few s i v known in ap (λ b. is_left by cube s && b) (lt-ltb (number_of s v) (top g.faults v + 1) (omega arith)) ∙ and-true (is_left by cube s)) f
+      (λ s i. let w = number_within g few s i v known in ap (λ b. is_left by cube s && b)
+      (lt-ltb (number_of s v) (top g.faults v + 1) (omega arith)) ∙ and-true (is_left by cube s)) f

@@ -1,5 +1,6 @@
 -- The search for what a list of cubes leaves of a cube, step by step.
-use Rattle.std.proofs.Common.{ℕ, ◌+◌, ◌-◌, ◌<◌, ◌≤◌, ◌≡◌, Bool, true, false, cond, not, ◌&&◌, ◌||◌, List, [], ◌∷◌, length, get_or, map, IsPermutation, IsTrue, Option, None, Some, arith, refl, sym, ap}
+use Rattle.std.proofs.Common.{ℕ, ◌+◌, ◌-◌, ◌<◌, ◌≤◌, ◌≡◌, Bool, true, false, cond, not, ◌&&◌, ◌||◌, List, [], ◌∷◌}
+use Rattle.std.proofs.Common.{length, get_or, map, IsPermutation, IsTrue, Option, None, Some, arith, refl, sym, ap}
 use Rattle.std.proofs.Common.{◌∙◌, subst, ltb-true, ltb-false}
 use Rattle.std.specs.Prelude.{remove, nat_lt, IfNone, IfSome}
 use Rattle.std.specs.List.{list_any}
@@ -24,9 +25,11 @@ use Rattle.cpg_cube.proofs.Mapped.{any_map}
 use Rattle.cpg_cover.proofs.Kept.{taken_out}
 
 -- literals in another order match the same
-pub matches_permutation : (one other : List Literal) (s : Scenario) → IsPermutation one other → matches one s ≡ matches other s
+pub matches_permutation : (one other : List Literal) (s : Scenario) → IsPermutation one other →
+    matches one s ≡ matches other s
 matches_permutation one other s p = same_truth (matches one s) (matches other s)
-    (λ t. all_from (holds s) other (λ l c. from_all (holds s) one l t (Contains-permutation other one l (IsPermutation-sym one other p) c)))
+    (λ t. all_from (holds s) other
+    (λ l c. from_all (holds s) one l t (Contains-permutation other one l (IsPermutation-sym one other p) c)))
     (λ t. all_from (holds s) one (λ l c. from_all (holds s) other l t (Contains-permutation one other l p c)))
 
 module _ (g : Graph) (order : List ℕ) where
@@ -35,20 +38,26 @@ module _ (g : Graph) (order : List ℕ) where
   earlier_none (Some s) = refl
 
   -- an answer that is a scenario is the least that is left
-  pub least_if_some : (test : Scenario → Bool) (o : Option Scenario) → IsFirst g order test o → IfSome o (IsLeast g order (λ s. IsTrue (test s)))
+  pub least_if_some : (test : Scenario → Bool) (o : Option Scenario) → IsFirst g order test o →
+      IfSome o (IsLeast g order (λ s. IsTrue (test s)))
   least_if_some test None f = tt
   least_if_some test (Some s) f = f
 
   -- what is outside one cube of the list, of which some literals tell all where the cube matches
-  pub left_by_taken : {X : Type 0} (seen : X → List Literal) (xs : List X) (i : ℕ) (d : X) (literals cube : List Literal) (o : Option Scenario) → i < length xs
-      → ((s : Scenario) → IsScenario g s → matches cube s ≡ true → matches literals s ≡ matches (seen (get_or xs i d)) s)
-      → IsFirst g order (λ s. is_left (map seen (remove xs i)) cube s && not (matches literals s)) o → IsFirst g order (is_left (map seen xs) cube) o
-  left_by_taken seen xs i d literals cube o h same f = first_same g order (λ s. is_left (map seen (remove xs i)) cube s && not (matches literals s)) (is_left (map seen xs) cube) o
+  pub left_by_taken : {X : Type 0} (seen : X → List Literal) (xs : List X) (i : ℕ) (d : X)
+      (literals cube : List Literal) (o : Option Scenario) → i < length xs
+      → ((s : Scenario) → IsScenario g s → matches cube s ≡ true →
+      matches literals s ≡ matches (seen (get_or xs i d)) s)
+      → IsFirst g order (λ s. is_left (map seen (remove xs i)) cube s && not (matches literals s)) o →
+      IsFirst g order (is_left (map seen xs) cube) o
+  left_by_taken seen xs i d literals cube o h same f = first_same g order
+      (λ s. is_left (map seen (remove xs i)) cube s && not (matches literals s)) (is_left (map seen xs) cube) o
       (λ s lawful.
       let all = any_map (λ b. matches b s) seen xs ∙ taken_out (λ x. matches (seen x) s) xs i d h in
       let rest = any_map (λ b. matches b s) seen (remove xs i) in
       ap (λ u. (matches cube s && not u) && not (matches literals s)) rest
-      ∙ none_of_either (matches cube s) (list_any (λ x. matches (seen x) s) (remove xs i)) (matches literals s) (matches (seen (get_or xs i d)) s) (same s lawful)
+      ∙ none_of_either (matches cube s) (list_any (λ x. matches (seen x) s) (remove xs i)) (matches literals s)
+      (matches (seen (get_or xs i d)) s) (same s lawful)
       ∙ sym (ap (λ u. matches cube s && not u) all))
       f
     where
@@ -65,28 +74,42 @@ module _ (g : Graph) (order : List ℕ) where
 module _ (g : Graph) (few : process_count g ≤ 128) (order : List ℕ) (by : List (List Literal)) where
   -- ---- beside a literal
 
-  pub first_below : (l : Literal) (cube : List Literal) (o : Option Scenario) → IfSome (range_below l) (λ m. IsFirst g order (is_left by (narrowed_by m cube)) o) → IfNone (range_below l) (o ≡ None)
+  pub first_below : (l : Literal) (cube : List Literal) (o : Option Scenario) →
+      IfSome (range_below l) (λ m. IsFirst g order (is_left by (narrowed_by m cube)) o) →
+      IfNone (range_below l) (o ≡ None)
       → IsFirst g order (λ s. is_below_range g few order by l s && is_left by cube s) o
   first_below l cube o some none = by_case (nat_lt 0 l.low) refl some none
     where
-      by_case : (b : Bool) → nat_lt 0 l.low ≡ b → IfSome (cond b (Some (record { variable = l.variable; low = 0; high = l.low - 1 })) None) (λ m. IsFirst g order (is_left by (narrowed_by m cube)) o)
-          → IfNone (cond b (Some (let m : Literal = record { variable = l.variable; low = 0; high = l.low - 1 } in m)) None) (o ≡ None) →
+      by_case : (b : Bool) → nat_lt 0 l.low ≡ b →
+          IfSome (cond b (Some (record { variable = l.variable; low = 0; high = l.low - 1 })) None)
+          (λ m. IsFirst g order (is_left by (narrowed_by m cube)) o)
+          → IfNone (cond b (Some (let m : Literal = record { variable = l.variable; low = 0; high = l.low - 1 } in m))
+          None) (o ≡ None) →
           IsFirst g order (λ s. is_below_range g few order by l s && is_left by cube s) o
       by_case true t f n = left_below g few order by l cube o (ltb-true 0 l.low t) f
-      by_case false t f n = let h = ltb-false 0 l.low t in subst (IsFirst g order (λ s. is_below_range g few order by l s && is_left by cube s)) (sym n)
+      by_case false t f n = let h = ltb-false 0 l.low t in
+          subst (IsFirst g order (λ s. is_below_range g few order by l s && is_left by cube s)) (sym n)
           (none_below g few order by l cube (omega arith))
 
-  pub first_above : (l : Literal) (cube : List Literal) (o : Option Scenario) → IsVariable g l.variable → IfSome (range_above g.faults l) (λ m. IsFirst g order (is_left by (narrowed_by m cube)) o) →
+  pub first_above : (l : Literal) (cube : List Literal) (o : Option Scenario) → IsVariable g l.variable →
+      IfSome (range_above g.faults l) (λ m. IsFirst g order (is_left by (narrowed_by m cube)) o) →
       IfNone (range_above g.faults l) (o ≡ None)
       → IsFirst g order (λ s. is_above_range g few order by l s && is_left by cube s) o
   first_above l cube o known some none = by_case (nat_lt l.high (top g.faults l.variable)) refl some none
     where
-      by_case : (b : Bool) → nat_lt l.high (top g.faults l.variable) ≡ b → IfSome (cond b (Some (record { variable = l.variable; low = l.high + 1; high = top g.faults l.variable })) None)
+      by_case : (b : Bool) → nat_lt l.high (top g.faults l.variable) ≡ b →
+          IfSome
+          (cond b (Some (record { variable = l.variable; low = l.high + 1; high = top g.faults l.variable })) None)
           (λ m. IsFirst g order (is_left by (narrowed_by m cube)) o)
-          → IfNone (cond b (Some (let m : Literal = record { variable = l.variable; low = l.high + 1; high = top g.faults l.variable } in m)) None) (o ≡ None) →
+          → IfNone (cond b (Some (let m : Literal = record {
+            variable = l.variable;
+            low = l.high + 1;
+            high = top g.faults l.variable;
+          } in m)) None) (o ≡ None) →
           IsFirst g order (λ s. is_above_range g few order by l s && is_left by cube s) o
       by_case true t f n = left_above g few order by l cube o known f
-      by_case false t f n = subst (IsFirst g order (λ s. is_above_range g few order by l s && is_left by cube s)) (sym n)
+      by_case false t f n =
+          subst (IsFirst g order (λ s. is_above_range g few order by l s && is_left by cube s)) (sym n)
           (none_above g few order by l cube known (ltb-false l.high (top g.faults l.variable) t))
 
   -- ---- outside literals
@@ -98,19 +121,27 @@ module _ (g : Graph) (few : process_count g ≤ 128) (order : List ℕ) (by : Li
       → IsFirst g order (λ s. is_below_range g few order by l s && is_left by cube s) below
       → IsFirst g order (λ s. is_above_range g few order by l s && is_left by cube s) above
       → IsFirst g order (λ s. is_left by (narrowed_by l cube) s && not (matches ls s)) within
-      → IsFirst g order (λ s. is_left by cube s && not (matches (l ∷ ls) s)) (earlier g order (earlier g order below above) within)
+      → IsFirst g order (λ s. is_left by cube s && not (matches (l ∷ ls) s))
+      (earlier g order (earlier g order below above) within)
   outside_one l ls cube below above within x y z = first_same g order
-      (λ s. ((is_below_range g few order by l s && is_left by cube s) || (is_above_range g few order by l s && is_left by cube s)) || (is_left by (narrowed_by l cube) s && not (matches ls s)))
+      (λ s. ((is_below_range g few order by l s && is_left by cube s)
+      || (is_above_range g few order by l s && is_left by cube s))
+      || (is_left by (narrowed_by l cube) s && not (matches ls s)))
       (λ s. is_left by cube s && not (matches (l ∷ ls) s))
       (earlier g order (earlier g order below above) within)
-      (λ s i. ap (λ m. ((is_below_range g few order by l s && is_left by cube s) || (is_above_range g few order by l s && is_left by cube s)) ||
+      (λ s i. ap (λ m. ((is_below_range g few order by l s && is_left by cube s)
+      || (is_above_range g few order by l s && is_left by cube s)) ||
       ((m && not (list_any (λ b. matches b s) by)) && not (matches ls s))) (matches-narrowed s l cube)
-      ∙ gathered (is_below_range g few order by l s) (is_above_range g few order by l s) (holds s l) (matches cube s) (not (list_any (λ b. matches b s) by)) (matches ls s) (in_range g few s i l))
-      (first_or g order (λ s. (is_below_range g few order by l s && is_left by cube s) || (is_above_range g few order by l s && is_left by cube s))
+      ∙ gathered (is_below_range g few order by l s) (is_above_range g few order by l s) (holds s l) (matches cube s)
+      (not (list_any (λ b. matches b s) by)) (matches ls s) (in_range g few s i l))
+      (first_or g order (λ s. (is_below_range g few order by l s && is_left by cube s)
+      || (is_above_range g few order by l s && is_left by cube s))
       (λ s. is_left by (narrowed_by l cube) s && not (matches ls s)) (earlier g order below above) within
-      (first_or g order (λ s. is_below_range g few order by l s && is_left by cube s) (λ s. is_above_range g few order by l s && is_left by cube s) below above x y) z)
+      (first_or g order (λ s. is_below_range g few order by l s && is_left by cube s)
+      (λ s. is_above_range g few order by l s && is_left by cube s) below above x y) z)
     where
-      gathered : (a b h m u r : Bool) → not h ≡ (a || b) → (((a && (m && u)) || (b && (m && u))) || (((h && m) && u) && not r)) ≡ ((m && u) && not (h && r))
+      gathered : (a b h m u r : Bool) → not h ≡ (a || b) →
+          (((a && (m && u)) || (b && (m && u))) || (((h && m) && u) && not r)) ≡ ((m && u) && not (h && r))
       gathered true true true m u r e = cc
       gathered true false true m u r e = cc
       gathered false true true m u r e = cc
@@ -153,14 +184,19 @@ module _ (g : Graph) (few : process_count g ≤ 128) (order : List ℕ) (by : Li
 module _ (g : Graph) (order : List ℕ) (by : List (List Literal)) (l : Literal) (cube : List Literal) where
   -- if the literal leaves no number, nothing is left
   pub part_none : with_literal l cube ≡ None → IsFirst g order (is_left by (narrowed_by l cube)) None
-  part_none e = λ s i. and_left (matches (narrowed_by l cube) s) (not (list_any (λ b. matches b s) by)) (matches-narrowed s l cube ∙ with-none s l cube e)
+  part_none e = λ s i. and_left (matches (narrowed_by l cube) s) (not (list_any (λ b. matches b s) by))
+      (matches-narrowed s l cube ∙ with-none s l cube e)
 
-  pub within_none : (ls : List Literal) → with_literal l cube ≡ None → IsFirst g order (λ s. is_left by (narrowed_by l cube) s && not (matches ls s)) None
+  pub within_none : (ls : List Literal) → with_literal l cube ≡ None →
+      IsFirst g order (λ s. is_left by (narrowed_by l cube) s && not (matches ls s)) None
   within_none ls e = λ s i. and_left (is_left by (narrowed_by l cube) s) (not (matches ls s)) (part_none e s i)
 
-  module _ (c : List Literal) (some : with_literal l cube ≡ Some c) (kept : List (List Literal)) (same : (s : Scenario) → IsScenario g s → is_left kept c s ≡ is_left by c s) where
+  module _ (c : List Literal) (some : with_literal l cube ≡ Some c) (kept : List (List Literal))
+      (same : (s : Scenario) → IsScenario g s → is_left kept c s ≡ is_left by c s) where
     -- the cubes that are kept leave the same
-    pub within_kept : (ls : List Literal) (o : Option Scenario) → IsFirst g order (λ s. is_left kept c s && not (matches ls s)) o →
+    pub within_kept : (ls : List Literal) (o : Option Scenario) →
+        IsFirst g order (λ s. is_left kept c s && not (matches ls s)) o →
         IsFirst g order (λ s. is_left by (narrowed_by l cube) s && not (matches ls s)) o
-    within_kept ls o f = first_same g order (λ s. is_left kept c s && not (matches ls s)) (λ s. is_left by (narrowed_by l cube) s && not (matches ls s)) o
+    within_kept ls o f = first_same g order (λ s. is_left kept c s && not (matches ls s))
+        (λ s. is_left by (narrowed_by l cube) s && not (matches ls s)) o
         (λ s i. ap (λ b. b && not (matches ls s)) (same s i ∙ ap (λ d. is_left by d s) (sym (with-is l cube c some)))) f

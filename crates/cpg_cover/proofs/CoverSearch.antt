@@ -1,10 +1,12 @@
 -- Splitting a cube by the literals of others finds the least scenario that none of them matches.
-use Rattle.std.proofs.Common.{ℕ, ◌+◌, ◌-◌, ◌<◌, ◌≤◌, ◌≡◌, Bool, true, false, cond, not, ◌&&◌, ◌||◌, List, [], ◌∷◌, ◌++◌, Contains, Option, Some, None, arith, refl, sym, ap, ap₂, ◌∙◌, subst, ⊎_elim}
+use Rattle.std.proofs.Common.{ℕ, ◌+◌, ◌-◌, ◌<◌, ◌≤◌, ◌≡◌, Bool, true, false, cond, not, ◌&&◌, ◌||◌, List, [], ◌∷◌, ◌++◌}
+use Rattle.std.proofs.Common.{Contains, Option, Some, None, arith, refl, sym, ap, ap₂, ◌∙◌, subst, ⊎_elim}
 use Rattle.std.proofs.Common.{lt-ltb, le-ltb}
 use Rattle.std.specs.Prelude.{nat_lt, All}
 use Rattle.std.specs.List.{list_any}
 use Rattle.std.proofs.Math.Bool.{or-false}
-use Rattle.std.proofs.lemmas.Bool.{cases_lt, and_parts, and_from, and_left, and_right, both_ways, false_from_ne_true, or_left, or_right, or_from, ltb-true, not_from_false}
+use Rattle.std.proofs.lemmas.Bool.{cases_lt, and_parts, and_from, and_left, and_right, both_ways, false_from_ne_true}
+use Rattle.std.proofs.lemmas.Bool.{or_left, or_right, or_from, ltb-true, not_from_false}
 use Rattle.std.proofs.lemmas.List.Elements.{All-head, All-tail, Contains-append_cases}
 use Rattle.std.proofs.lemmas.List.Folds.{list_any-append}
 use Rattle.cpg_base.specs.Graph.{Graph, process_count, IsVariable}
@@ -24,14 +26,17 @@ use Rattle.cpg_cube.proofs.Narrow.{matches-narrowed, cube-narrowed}
 
 -- ---- the parts of a cube outside another
 
-any_of_one : (b : Bool) (c : List Literal) (s : Scenario) → list_any (λ x. matches x s) (cond b (c ∷ []) []) ≡ (b && matches c s)
+any_of_one : (b : Bool) (c : List Literal) (s : Scenario) →
+    list_any (λ x. matches x s) (cond b (c ∷ []) []) ≡ (b && matches c s)
 any_of_one true c s = or-false (matches c s)
 any_of_one false c s = refl
 
 only : {X : Type 0} (P : X → Type 0) (x y : X) → Contains (x ∷ []) y → P x → P y
-only P x y c h = ⊎_elim (λ (e : x ≡ y). subst P e h) (λ (d : Contains [] y). absurd (Contains-nil y d)) (Contains-cases x [] y c)
+only P x y c h =
+    ⊎_elim (λ (e : x ≡ y). subst P e h) (λ (d : Contains [] y). absurd (Contains-nil y d)) (Contains-cases x [] y c)
 
-together : (p h n m : Bool) → (p ≡ true → h ≡ true → n ≡ true) → (n ≡ true → (p ≡ true) × (h ≡ true)) → (p && (h && m)) ≡ (n && m)
+together : (p h n m : Bool) → (p ≡ true → h ≡ true → n ≡ true) → (n ≡ true → (p ≡ true) × (h ≡ true)) →
+    (p && (h && m)) ≡ (n && m)
 together true true true m f k = refl
 together true true false m f k = cc (f refl refl)
 together true false true m f k = cc (k refl).1
@@ -52,49 +57,66 @@ joined false true false false r e = refl
 joined false false false m r e = cc
 
 module _ (g : Graph) (few : process_count g ≤ 128) (s : Scenario) (lawful : IsScenario g s) where
-  matches_below : (l : Literal) (cube : List Literal) → list_any (λ c. matches c s) (part_below l cube) ≡ (nat_lt (number_of s l.variable) l.low && matches cube s)
+  matches_below : (l : Literal) (cube : List Literal) →
+      list_any (λ c. matches c s) (part_below l cube) ≡ (nat_lt (number_of s l.variable) l.low && matches cube s)
   matches_below l cube =
       let m : Literal = record { variable = l.variable; low = 0; high = l.low - 1 } in
       any_of_one (nat_lt 0 l.low) (narrowed_by m cube) s
       ∙ ap (λ b. nat_lt 0 l.low && b) (matches-narrowed s m cube)
       ∙ together (nat_lt 0 l.low) (holds s m) (nat_lt (number_of s l.variable) l.low) (matches cube s)
-      (λ a b. lt-ltb (number_of s l.variable) l.low (let x = ltb-true 0 l.low a in let y = holds-high s m b in omega arith))
-      (λ t. let h = ltb-true (number_of s l.variable) l.low t in (lt-ltb 0 l.low (omega arith), holds-from s m (omega arith) (omega arith)))
+      (λ a b.
+      lt-ltb (number_of s l.variable) l.low (let x = ltb-true 0 l.low a in let y = holds-high s m b in omega arith))
+      (λ t. let h = ltb-true (number_of s l.variable) l.low t in
+      (lt-ltb 0 l.low (omega arith), holds-from s m (omega arith) (omega arith)))
 
-  matches_above : (l : Literal) (cube : List Literal) → IsVariable g l.variable → list_any (λ c. matches c s) (part_above g.faults l cube) ≡ (nat_lt l.high (number_of s l.variable) && matches cube s)
+  matches_above : (l : Literal) (cube : List Literal) → IsVariable g l.variable →
+      list_any (λ c. matches c s) (part_above g.faults l cube)
+      ≡ (nat_lt l.high (number_of s l.variable) && matches cube s)
   matches_above l cube known =
       let m : Literal = record { variable = l.variable; low = l.high + 1; high = top g.faults l.variable } in
       let w = number_within g few s lawful l.variable known in
       any_of_one (nat_lt l.high (top g.faults l.variable)) (narrowed_by m cube) s
       ∙ ap (λ b. nat_lt l.high (top g.faults l.variable) && b) (matches-narrowed s m cube)
-      ∙ together (nat_lt l.high (top g.faults l.variable)) (holds s m) (nat_lt l.high (number_of s l.variable)) (matches cube s)
+      ∙ together (nat_lt l.high (top g.faults l.variable)) (holds s m) (nat_lt l.high (number_of s l.variable))
+      (matches cube s)
       (λ a b. lt-ltb l.high (number_of s l.variable) (let y = holds-low s m b in omega arith))
-      (λ t. let h = ltb-true l.high (number_of s l.variable) t in (lt-ltb l.high (top g.faults l.variable) (omega arith), holds-from s m (omega arith) (omega arith)))
+      (λ t. let h = ltb-true l.high (number_of s l.variable) t in
+      (lt-ltb l.high (top g.faults l.variable) (omega arith), holds-from s m (omega arith) (omega arith)))
 
   -- a number is in the range, below it or above it
-  pub in_range : (l : Literal) → not (holds s l) ≡ (nat_lt (number_of s l.variable) l.low || nat_lt l.high (number_of s l.variable))
+  pub in_range : (l : Literal) →
+      not (holds s l) ≡ (nat_lt (number_of s l.variable) l.low || nat_lt l.high (number_of s l.variable))
   in_range l = ⊎_elim
-      (λ (a : number_of s l.variable < l.low). outside (λ h. let b = holds-low s l h in omega arith) (or_left _ _ (lt-ltb _ _ a)))
+      (λ (a : number_of s l.variable < l.low).
+      outside (λ h. let b = holds-low s l h in omega arith) (or_left _ _ (lt-ltb _ _ a)))
       (λ (a : l.low ≤ number_of s l.variable). ⊎_elim
-      (λ (b : l.high < number_of s l.variable). outside (λ h. let c = holds-high s l h in omega arith) (or_right _ _ (lt-ltb _ _ b)))
-      (λ (b : number_of s l.variable ≤ l.high). ap not (holds-from s l a b) ∙ sym (or_from _ _ (le-ltb _ _ a) (le-ltb _ _ b)))
+      (λ (b : l.high < number_of s l.variable).
+      outside (λ h. let c = holds-high s l h in omega arith) (or_right _ _ (lt-ltb _ _ b)))
+      (λ (b : number_of s l.variable ≤ l.high). ap not (holds-from s l a b)
+      ∙ sym (or_from _ _ (le-ltb _ _ a) (le-ltb _ _ b)))
       (cases_lt l.high (number_of s l.variable)))
       (cases_lt (number_of s l.variable) l.low)
     where
-      outside : (holds s l ≡ true → ⊥) → (nat_lt (number_of s l.variable) l.low || nat_lt l.high (number_of s l.variable)) ≡ true →
+      outside : (holds s l ≡ true → ⊥) →
+          (nat_lt (number_of s l.variable) l.low || nat_lt l.high (number_of s l.variable)) ≡ true →
           not (holds s l) ≡ (nat_lt (number_of s l.variable) l.low || nat_lt l.high (number_of s l.variable))
       outside n e = ap not (false_from_ne_true (holds s l) n) ∙ sym e
 
   -- some part matches exactly if the cube does and the other doesn't
-  pub matches_parts : (ls cube : List Literal) → All (λ l. IsVariable g l.variable) ls → list_any (λ c. matches c s) (parts_outside g.faults ls cube) ≡ (matches cube s && not (matches ls s))
+  pub matches_parts : (ls cube : List Literal) → All (λ l. IsVariable g l.variable) ls →
+      list_any (λ c. matches c s) (parts_outside g.faults ls cube) ≡ (matches cube s && not (matches ls s))
   matches_parts [] cube known = sym (and_right (matches cube s) false refl)
   matches_parts (l ∷ ls) cube known =
       let k = All-head (λ m. IsVariable g m.variable) l ls known in
-      list_any-append (λ c. matches c s) (part_below l cube ++ part_above g.faults l cube) (parts_outside g.faults ls (narrowed_by l cube))
+      list_any-append (λ c. matches c s) (part_below l cube ++ part_above g.faults l cube)
+      (parts_outside g.faults ls (narrowed_by l cube))
       ∙ ap₂ ◌||◌
-      (list_any-append (λ c. matches c s) (part_below l cube) (part_above g.faults l cube) ∙ ap₂ ◌||◌ (matches_below l cube) (matches_above l cube k))
-      (matches_parts ls (narrowed_by l cube) (All-tail (λ m. IsVariable g m.variable) l ls known) ∙ ap (λ b. b && not (matches ls s)) (matches-narrowed s l cube))
-      ∙ joined (nat_lt (number_of s l.variable) l.low) (nat_lt l.high (number_of s l.variable)) (holds s l) (matches cube s) (matches ls s) (in_range l)
+      (list_any-append (λ c. matches c s) (part_below l cube) (part_above g.faults l cube)
+      ∙ ap₂ ◌||◌ (matches_below l cube) (matches_above l cube k))
+      (matches_parts ls (narrowed_by l cube) (All-tail (λ m. IsVariable g m.variable) l ls known)
+      ∙ ap (λ b. b && not (matches ls s)) (matches-narrowed s l cube))
+      ∙ joined (nat_lt (number_of s l.variable) l.low) (nat_lt l.high (number_of s l.variable)) (holds s l)
+      (matches cube s) (matches ls s) (in_range l)
 
 -- ---- the steps of a search
 
@@ -104,52 +126,71 @@ module _ (g : Graph) (order : List ℕ) (by : List (List Literal)) (cube : List 
   left_of_none none = λ s i. and_left (matches cube s) (not (list_any (λ b. matches b s) by)) (none s i)
 
   -- its least scenario is left if no cube of the list matches that
-  pub left_at_once : (least : Scenario) → IsFirst g order (matches cube) (Some least) → list_any (λ b. matches b least) by ≡ false → IsFirst g order (is_left by cube) (Some least)
+  pub left_at_once : (least : Scenario) → IsFirst g order (matches cube) (Some least) →
+      list_any (λ b. matches b least) by ≡ false →
+      IsFirst g order (is_left by cube) (Some least)
   left_at_once least first e = record {
     lawful = first.lawful;
-    holds = and_from (matches cube least) (not (list_any (λ b. matches b least) by)) first.holds (not_from_false (list_any (λ b. matches b least) by) e);
+    holds = and_from (matches cube least) (not (list_any (λ b. matches b least) by)) first.holds
+        (not_from_false (list_any (λ b. matches b least) by) e);
     least = λ t i k. first.least t i (and_parts (matches cube t) (not (list_any (λ b. matches b t) by)) k).0;
   }
 
 module _ (g : Graph) (few : process_count g ≤ 128) where
   -- the parts are cubes
-  below_is : (l : Literal) (cube : List Literal) → IsVariable g l.variable → IsCube g cube → (c : List Literal) → Contains (part_below l cube) c → IsCube g c
+  below_is : (l : Literal) (cube : List Literal) → IsVariable g l.variable → IsCube g cube → (c : List Literal) →
+      Contains (part_below l cube) c → IsCube g c
   below_is l cube known is c k = one (nat_lt 0 l.low) k
     where
-      one : (b : Bool) → Contains (cond b (narrowed_by (record { variable = l.variable; low = 0; high = l.low - 1 }) cube ∷ []) []) c → IsCube g c
+      one : (b : Bool) →
+          Contains (cond b (narrowed_by (record { variable = l.variable; low = 0; high = l.low - 1 }) cube ∷ []) []) c →
+          IsCube g c
       one true h = only (IsCube g) (narrowed_by (record { variable = l.variable; low = 0; high = l.low - 1 }) cube) c h
           (cube-narrowed g (record { variable = l.variable; low = 0; high = l.low - 1 }) cube known is)
       one false h = absurd (Contains-nil c h)
 
-  above_is : (l : Literal) (cube : List Literal) → IsVariable g l.variable → IsCube g cube → (c : List Literal) → Contains (part_above g.faults l cube) c → IsCube g c
+  above_is : (l : Literal) (cube : List Literal) → IsVariable g l.variable → IsCube g cube → (c : List Literal) →
+      Contains (part_above g.faults l cube) c → IsCube g c
   above_is l cube known is c k = one (nat_lt l.high (top g.faults l.variable)) k
     where
-      one : (b : Bool) → Contains (cond b (narrowed_by (record { variable = l.variable; low = l.high + 1; high = top g.faults l.variable }) cube ∷ []) []) c → IsCube g c
-      one true h = only (IsCube g) (narrowed_by (record { variable = l.variable; low = l.high + 1; high = top g.faults l.variable }) cube) c h
-          (cube-narrowed g (record { variable = l.variable; low = l.high + 1; high = top g.faults l.variable }) cube known is)
+      one : (b : Bool) → Contains (cond b (narrowed_by
+          (record { variable = l.variable; low = l.high + 1; high = top g.faults l.variable }) cube ∷ []) []) c →
+          IsCube g c
+      one true h = only (IsCube g)
+          (narrowed_by (record { variable = l.variable; low = l.high + 1; high = top g.faults l.variable }) cube) c h
+          (cube-narrowed g
+          (record { variable = l.variable; low = l.high + 1; high = top g.faults l.variable }) cube known is)
       one false h = absurd (Contains-nil c h)
 
-  pub parts_are : (ls cube : List Literal) → All (λ l. IsVariable g l.variable) ls → IsCube g cube → (c : List Literal) → Contains (parts_outside g.faults ls cube) c → IsCube g c
+  pub parts_are : (ls cube : List Literal) → All (λ l. IsVariable g l.variable) ls → IsCube g cube →
+      (c : List Literal) → Contains (parts_outside g.faults ls cube) c → IsCube g c
   parts_are [] cube known is c k = absurd (Contains-nil c k)
   parts_are (l ∷ ls) cube known is c k =
       let h = All-head (λ m. IsVariable g m.variable) l ls known in
       ⊎_elim
-      (λ (a : Contains (part_below l cube ++ part_above g.faults l cube) c). ⊎_elim (below_is l cube h is c) (above_is l cube h is c)
+      (λ (a : Contains (part_below l cube ++ part_above g.faults l cube) c).
+      ⊎_elim (below_is l cube h is c) (above_is l cube h is c)
       (Contains-append_cases (part_below l cube) (part_above g.faults l cube) c a))
-      (λ (a : Contains (parts_outside g.faults ls (narrowed_by l cube)) c). parts_are ls (narrowed_by l cube) (All-tail (λ m. IsVariable g m.variable) l ls known) (cube-narrowed g l cube h is) c a)
-      (Contains-append_cases (part_below l cube ++ part_above g.faults l cube) (parts_outside g.faults ls (narrowed_by l cube)) c k)
+      (λ (a : Contains (parts_outside g.faults ls (narrowed_by l cube)) c). parts_are ls (narrowed_by l cube)
+      (All-tail (λ m. IsVariable g m.variable) l ls known) (cube-narrowed g l cube h is) c a)
+      (Contains-append_cases (part_below l cube ++ part_above g.faults l cube)
+      (parts_outside g.faults ls (narrowed_by l cube)) c k)
 
   -- what is left by one more cube is left in some part of what is outside it
-  pub left_in_parts : (b : List Literal) (bs : List (List Literal)) (cube : List Literal) (s : Scenario) → IsScenario g s → All (λ l. IsVariable g l.variable) b →
+  pub left_in_parts : (b : List Literal) (bs : List (List Literal)) (cube : List Literal) (s : Scenario) →
+      IsScenario g s →
+      All (λ l. IsVariable g l.variable) b →
       list_any (λ c. is_left bs c s) (parts_outside g.faults b cube) ≡ is_left (b ∷ bs) cube s
   left_in_parts b bs cube s i known =
       both_any (not (list_any (λ d. matches d s) bs)) (parts_outside g.faults b cube)
       ∙ ap (λ x. x && not (list_any (λ d. matches d s) bs)) (matches_parts g few s i b cube known)
       ∙ none_of_either (matches cube s) (matches b s) (list_any (λ d. matches d s) bs)
     where
-      both_any : (u : Bool) (cs : List (List Literal)) → list_any (λ c. matches c s && u) cs ≡ (list_any (λ c. matches c s) cs && u)
+      both_any : (u : Bool) (cs : List (List Literal)) →
+          list_any (λ c. matches c s && u) cs ≡ (list_any (λ c. matches c s) cs && u)
       both_any u [] = refl
-      both_any u (c ∷ cs) = ap (λ x. (matches c s && u) || x) (both_any u cs) ∙ spread (matches c s) (list_any (λ d. matches d s) cs) u
+      both_any u (c ∷ cs) =
+          ap (λ x. (matches c s && u) || x) (both_any u cs) ∙ spread (matches c s) (list_any (λ d. matches d s) cs) u
         where
           spread : (x y z : Bool) → ((x && z) || (y && z)) ≡ ((x || y) && z)
           spread true true true = refl
@@ -165,24 +206,35 @@ module _ (g : Graph) (few : process_count g ≤ 128) where
 
   module _ (order : List ℕ) where
     -- by answers to the parts
-    pub left_by_parts : (b : List Literal) (bs : List (List Literal)) (cube : List Literal) (answer : List Literal → Option Scenario) → All (λ l. IsVariable g l.variable) b
+    pub left_by_parts : (b : List Literal) (bs : List (List Literal)) (cube : List Literal)
+        (answer : List Literal → Option Scenario) →
+        All (λ l. IsVariable g l.variable) b
         → ((c : List Literal) → Contains (parts_outside g.faults b cube) c → IsFirst g order (is_left bs c) (answer c))
         → IsFirst g order (is_left (b ∷ bs) cube) (first_of g order answer (parts_outside g.faults b cube))
-    left_by_parts b bs cube answer known h = first_same g order (λ s. list_any (λ c. is_left bs c s) (parts_outside g.faults b cube)) (is_left (b ∷ bs) cube)
+    left_by_parts b bs cube answer known h =
+        first_same g order (λ s. list_any (λ c. is_left bs c s) (parts_outside g.faults b cube)) (is_left (b ∷ bs) cube)
         (first_of g order answer (parts_outside g.faults b cube))
         (λ s i. left_in_parts b bs cube s i known)
         (first_of_all g order (is_left bs) answer (parts_outside g.faults b cube) h)
 
     -- ---- the whole search
 
-    when_met : (by : List (List Literal)) (cube : List Literal) (o : Option Scenario) → IsCube g cube → (is_met g.faults cube ≡ true → IsFirst g order (is_left by cube) o) → (m : Bool) →
+    when_met : (by : List (List Literal)) (cube : List Literal) (o : Option Scenario) → IsCube g cube →
+        (is_met g.faults cube ≡ true → IsFirst g order (is_left by cube) o) → (m : Bool) →
         is_met g.faults cube ≡ m → IsFirst g order (is_left by cube) (cond m o None)
     when_met by cube o is f true e = f e
-    when_met by cube o is f false e = left_of_none g order by cube (λ s i. false_from_ne_true (matches cube s) (λ t. both_ways (is_met g.faults cube) e (met_by g few cube is s i t)))
+    when_met by cube o is f false e = left_of_none g order by cube (λ s i.
+        false_from_ne_true (matches cube s) (λ t. both_ways (is_met g.faults cube) e (met_by g few cube is s i t)))
 
-    pub uncovered_is : (by : List (List Literal)) (cube : List Literal) → All (All (λ l. IsVariable g l.variable)) by → IsCube g cube → IsFirst g order (is_left by cube) (uncovered g order by cube)
-    uncovered_is [] cube known is = when_met [] cube (Some (lows g cube)) is (λ e. left_at_once g order [] cube (lows g cube) (lows-least g few cube is e order) refl) (is_met g.faults cube) refl
-    uncovered_is (b ∷ bs) cube known is = when_met (b ∷ bs) cube (first_of g order (uncovered g order bs) (parts_outside g.faults b cube)) is
+    pub uncovered_is : (by : List (List Literal)) (cube : List Literal) → All (All (λ l. IsVariable g l.variable)) by →
+        IsCube g cube →
+        IsFirst g order (is_left by cube) (uncovered g order by cube)
+    uncovered_is [] cube known is = when_met [] cube (Some (lows g cube)) is
+        (λ e. left_at_once g order [] cube (lows g cube) (lows-least g few cube is e order) refl)
+        (is_met g.faults cube) refl
+    uncovered_is (b ∷ bs) cube known is =
+        when_met (b ∷ bs) cube (first_of g order (uncovered g order bs) (parts_outside g.faults b cube)) is
         (λ e. left_by_parts b bs cube (uncovered g order bs) (All-head (All (λ l. IsVariable g l.variable)) b bs known)
-        (λ c k. uncovered_is bs c (All-tail (All (λ l. IsVariable g l.variable)) b bs known) (parts_are b cube (All-head (All (λ l. IsVariable g l.variable)) b bs known) is c k)))
+        (λ c k. uncovered_is bs c (All-tail (All (λ l. IsVariable g l.variable)) b bs known)
+        (parts_are b cube (All-head (All (λ l. IsVariable g l.variable)) b bs known) is c k)))
         (is_met g.faults cube) refl

@@ -1,5 +1,6 @@
 -- What is left of the parts of a cube below and above a literal; and what an answer says.
-use Rattle.std.proofs.Common.{ℕ, ◌+◌, ◌-◌, ◌<◌, ◌≤◌, ◌≡◌, ◌↔◌, IsTrue, subst, Bool, true, false, not, ◌&&◌, List, Option, Some, None, arith, refl, sym, ap, ◌∙◌, lt-ltb, le-ltb}
+use Rattle.std.proofs.Common.{ℕ, ◌+◌, ◌-◌, ◌<◌, ◌≤◌, ◌≡◌, ◌↔◌, IsTrue, subst, Bool, true, false, not, ◌&&◌, List}
+use Rattle.std.proofs.Common.{Option, Some, None, arith, refl, sym, ap, ◌∙◌, lt-ltb, le-ltb}
 use Rattle.std.specs.Prelude.{nat_lt, All}
 use Rattle.std.specs.List.{list_any}
 use Rattle.std.proofs.lemmas.Bool.{both_ways, and_parts, and_left, not-true, not-false, ltb-true}
@@ -41,7 +42,8 @@ module _ (g : Graph) (few : process_count g ≤ 128) (order : List ℕ) (by : Li
   -- ---- the parts below and above a literal
 
   pub left_below : (l : Literal) (rest : List Literal) (o : Option Scenario) → 0 < l.low → IsFirst g order
-      (is_left by (narrowed_by (record { variable = l.variable; low = 0; high = l.low - 1 }) rest)) o → IsFirst g order (λ s. is_below_range l s && is_left by rest s) o
+      (is_left by (narrowed_by (record { variable = l.variable; low = 0; high = l.low - 1 }) rest)) o →
+      IsFirst g order (λ s. is_below_range l s && is_left by rest s) o
   left_below l rest o some f =
       let m : Literal = record { variable = l.variable; low = 0; high = l.low - 1 } in
       first_same g order (is_left by (narrowed_by m rest)) (λ s. is_below_range l s && is_left by rest s) o
@@ -52,7 +54,8 @@ module _ (g : Graph) (few : process_count g ≤ 128) (order : List ℕ) (by : Li
       f
 
   pub left_above : (l : Literal) (rest : List Literal) (o : Option Scenario) → IsVariable g l.variable →
-      IsFirst g order (is_left by (narrowed_by (record { variable = l.variable; low = l.high + 1; high = top g.faults l.variable }) rest)) o →
+      IsFirst g order (is_left by
+      (narrowed_by (record { variable = l.variable; low = l.high + 1; high = top g.faults l.variable }) rest)) o →
       IsFirst g order (λ s. is_above_range l s && is_left by rest s) o
   left_above l rest o known f =
       let m : Literal = record { variable = l.variable; low = l.high + 1; high = top g.faults l.variable } in
@@ -65,38 +68,56 @@ module _ (g : Graph) (few : process_count g ≤ 128) (order : List ℕ) (by : Li
       f
 
   -- no number is below a low of 0, or above the top
-  pub none_below : (l : Literal) (rest : List Literal) → l.low ≡ 0 → IsFirst g order (λ s. is_below_range l s && is_left by rest s) None
-  none_below l rest e = λ s i. and_left (is_below_range l s) (is_left by rest s) (le-ltb (number_of s l.variable) l.low (omega arith))
+  pub none_below : (l : Literal) (rest : List Literal) → l.low ≡ 0 →
+      IsFirst g order (λ s. is_below_range l s && is_left by rest s) None
+  none_below l rest e =
+      λ s i. and_left (is_below_range l s) (is_left by rest s) (le-ltb (number_of s l.variable) l.low (omega arith))
 
-  pub none_above : (l : Literal) (rest : List Literal) → IsVariable g l.variable → top g.faults l.variable ≤ l.high → IsFirst g order (λ s. is_above_range l s && is_left by rest s) None
-  none_above l rest known h = λ s i. and_left (is_above_range l s) (is_left by rest s) (le-ltb l.high (number_of s l.variable) (let w = number_within g few s i l.variable known in omega arith))
+  pub none_above : (l : Literal) (rest : List Literal) → IsVariable g l.variable → top g.faults l.variable ≤ l.high →
+      IsFirst g order (λ s. is_above_range l s && is_left by rest s) None
+  none_above l rest known h = λ s i. and_left (is_above_range l s) (is_left by rest s)
+      (le-ltb l.high (number_of s l.variable) (let w = number_within g few s i l.variable known in omega arith))
 
 -- ---- what an answer says
 
 module _ (g : Graph) (order : List ℕ) (by : List (List Literal)) (cube : List Literal) where
-  pub covered_from_none : IsFirst g order (is_left by cube) None → (s : Scenario) → IsScenario g s → matches cube s ≡ true → list_any (λ b. matches b s) by ≡ true
-  covered_from_none f s i t = not-false (list_any (λ b. matches b s) by) (sym (ap (λ b. b && not (list_any (λ b. matches b s) by)) t) ∙ f s i)
+  pub covered_from_none : IsFirst g order (is_left by cube) None → (s : Scenario) → IsScenario g s →
+      matches cube s ≡ true →
+      list_any (λ b. matches b s) by ≡ true
+  covered_from_none f s i t =
+      not-false (list_any (λ b. matches b s) by) (sym (ap (λ b. b && not (list_any (λ b. matches b s) by)) t) ∙ f s i)
 
-  pub none_from_covered : ((s : Scenario) → IsScenario g s → matches cube s ≡ true → list_any (λ b. matches b s) by ≡ true) → IsFirst g order (is_left by cube) None
+  pub none_from_covered :
+      ((s : Scenario) → IsScenario g s → matches cube s ≡ true → list_any (λ b. matches b s) by ≡ true) →
+      IsFirst g order (is_left by cube) None
   none_from_covered h = λ s i. neither (matches cube s) (list_any (λ b. matches b s) by) (h s i)
 
-  pub left_from_some : (s : Scenario) → IsFirst g order (is_left by cube) (Some s) → (matches cube s ≡ true) × (list_any (λ b. matches b s) by ≡ false)
+  pub left_from_some : (s : Scenario) → IsFirst g order (is_left by cube) (Some s) →
+      (matches cube s ≡ true) × (list_any (λ b. matches b s) by ≡ false)
   left_from_some s f =
       let r = and_parts (matches cube s) (not (list_any (λ b. matches b s) by)) f.holds in
       (r.0, not-true (list_any (λ b. matches b s) by) r.1)
 
   -- ---- the whole search: None exactly if all is covered, else the least that isn't
 
-  module _ (few : process_count g ≤ 128) (known : All (All (λ l. IsVariable g l.variable)) by) (is : IsCube g cube) where
-    pub none_where_covered : (uncovered g order by cube ≡ None) ↔ ((s : Scenario) → IsScenario g s → matches cube s ≡ true → list_any (λ b. matches b s) by ≡ true)
-    none_where_covered = (λ e. covered_from_none (subst (IsFirst g order (is_left by cube)) e answer), λ h. not_some (uncovered g order by cube) answer h)
+  module _ (few : process_count g ≤ 128) (known : All (All (λ l. IsVariable g l.variable)) by)
+      (is : IsCube g cube) where
+    pub none_where_covered : (uncovered g order by cube ≡ None) ↔
+        ((s : Scenario) → IsScenario g s → matches cube s ≡ true → list_any (λ b. matches b s) by ≡ true)
+    none_where_covered = (
+      λ e. covered_from_none (subst (IsFirst g order (is_left by cube)) e answer),
+      λ h. not_some (uncovered g order by cube) answer h,
+    )
       where
         answer : IsFirst g order (is_left by cube) (uncovered g order by cube)
         answer = uncovered_is g few order by cube known is
 
-        not_some : (o : Option Scenario) → IsFirst g order (is_left by cube) o → ((s : Scenario) → IsScenario g s → matches cube s ≡ true → list_any (λ b. matches b s) by ≡ true) → o ≡ None
+        not_some : (o : Option Scenario) → IsFirst g order (is_left by cube) o →
+            ((s : Scenario) → IsScenario g s → matches cube s ≡ true → list_any (λ b. matches b s) by ≡ true) → o ≡ None
         not_some None f h = refl
-        not_some (Some s) f h = let r = left_from_some s f in absurd (both_ways (list_any (λ b. matches b s) by) r.1 (h s f.lawful r.0))
+        not_some (Some s) f h = let r = left_from_some s f in
+            absurd (both_ways (list_any (λ b. matches b s) by) r.1 (h s f.lawful r.0))
 
-    pub some_is_least : (s : Scenario) → uncovered g order by cube ≡ Some s → IsLeast g order (λ t. IsTrue (is_left by cube t)) s
+    pub some_is_least : (s : Scenario) → uncovered g order by cube ≡ Some s →
+        IsLeast g order (λ t. IsTrue (is_left by cube t)) s
     some_is_least s e = subst (IsFirst g order (is_left by cube)) e (uncovered_is g few order by cube known is)

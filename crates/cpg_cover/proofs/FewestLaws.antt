@@ -1,10 +1,13 @@
--- The fewest faults of numbers that no cube of a list matches: by one cube, by steps of a variable, and by parts without common variables.
-use Rattle.std.proofs.Common.{slice_set, ℕ, zero, suc, ◌+◌, ◌-◌, ◌<◌, ◌≤◌, ◌≡◌, ◌≢◌, min, max, Bool, true, false, cond, ◌&&◌, ◌||◌, ◌==◌, List, [], ◌∷◌, ◌++◌, length, get_or, take, sum_by, arith}
+-- The fewest faults of numbers that no cube of a list matches: by one cube, by steps of a variable, and by parts
+-- without common variables.
+use Rattle.std.proofs.Common.{slice_set, ℕ, zero, suc, ◌+◌, ◌-◌, ◌<◌, ◌≤◌, ◌≡◌, ◌≢◌, min, max, Bool, true, false, cond}
+use Rattle.std.proofs.Common.{◌&&◌, ◌||◌, ◌==◌, List, [], ◌∷◌, ◌++◌, length, get_or, take, sum_by, arith}
 use Rattle.std.proofs.Common.{refl, sym, ap, ap₂, ◌∙◌, ⊎_elim, le-leb, leb-true, eq-eqb, ne_eqb}
 use Rattle.std.specs.Prelude.{nat_le}
 use Rattle.std.specs.List.{list_all, list_any, insert}
 use Rattle.std.proofs.Math.Bool.{or-false, and-true}
-use Rattle.std.proofs.lemmas.Bool.{cases_Bool, cases_eq, cases_lt, cond-true, cond-false, both_ways, and_parts, and_from, or_left, or_right, or_cases, false_from_ne_true}
+use Rattle.std.proofs.lemmas.Bool.{cases_Bool, cases_eq, cases_lt, cond-true, cond-false, both_ways, and_parts}
+use Rattle.std.proofs.lemmas.Bool.{and_from, or_left, or_right, or_cases, false_from_ne_true}
 use Rattle.std.proofs.lemmas.List.{take_more}
 use Rattle.std.proofs.lemmas.List.Elements.{All-head, All-tail, Contains-get_or}
 use Rattle.std.proofs.lemmas.List.Folds.{list_all-append, list_any-append}
@@ -12,18 +15,22 @@ use Rattle.cpg_base.specs.Numbers.{numbers_below, same_bool}
 use Rattle.cpg_base.proofs.Lists.{from_any_false, Contains-numbers}
 use Rattle.cpg_base.proofs.Sums.{same_sum_by, sum_by-le_each, sum_by-add, le-sum_by, sum_changed}
 use Rattle.cpg_cube.specs.declared.literal.Literal.{Literal}
-use Rattle.cpg_cover.specs.Fewest.{holds_at, matches_at, is_any_at, AreValues, Needs, NeedsOutside, NeedsWithout, after, IsStep, AreMarked}
+use Rattle.cpg_cover.specs.Fewest.{holds_at, matches_at, is_any_at, AreValues, Needs, NeedsOutside, NeedsWithout, after}
+use Rattle.cpg_cover.specs.Fewest.{IsStep, AreMarked}
 
 -- ---- lists that grow
 
 module _ {X : Type 0} (test : X → Bool) (xs : List X) (i : ℕ) (d : X) (h : i < length xs) where
   taken_all : list_all test (take (i + 1) xs) ≡ (list_all test (take i xs) && test (get_or xs i d))
-  taken_all = ap (list_all test) (take_more xs i d h) ∙ list_all-append test (take i xs) (get_or xs i d ∷ []) ∙ ap (λ b. list_all test (take i xs) && b) (and-true (test (get_or xs i d)))
+  taken_all = ap (list_all test) (take_more xs i d h) ∙ list_all-append test (take i xs) (get_or xs i d ∷ [])
+      ∙ ap (λ b. list_all test (take i xs) && b) (and-true (test (get_or xs i d)))
 
   taken_any : list_any test (take (i + 1) xs) ≡ (list_any test (take i xs) || test (get_or xs i d))
-  taken_any = ap (list_any test) (take_more xs i d h) ∙ list_any-append test (take i xs) (get_or xs i d ∷ []) ∙ ap (λ b. list_any test (take i xs) || b) (or-false (test (get_or xs i d)))
+  taken_any = ap (list_any test) (take_more xs i d h) ∙ list_any-append test (take i xs) (get_or xs i d ∷ [])
+      ∙ ap (λ b. list_any test (take i xs) || b) (or-false (test (get_or xs i d)))
 
-  pub all_one_more : list_all test (take i xs) ≡ true → test (get_or xs i d) ≡ true → list_all test (take (i + 1) xs) ≡ true
+  pub all_one_more : list_all test (take i xs) ≡ true → test (get_or xs i d) ≡ true →
+      list_all test (take (i + 1) xs) ≡ true
   all_one_more a b = taken_all ∙ and_from _ _ a b
 
   pub any_of_before : list_any test (take i xs) ≡ true → list_any test (take (i + 1) xs) ≡ true
@@ -32,13 +39,18 @@ module _ {X : Type 0} (test : X → Bool) (xs : List X) (i : ℕ) (d : X) (h : i
   pub any_of_last : test (get_or xs i d) ≡ true → list_any test (take (i + 1) xs) ≡ true
   any_of_last a = taken_any ∙ or_right _ _ a
 
-pub all_before_last : {X : Type 0} (test : X → Bool) (xs : List X) (x : X) → list_all test (xs ++ x ∷ []) ≡ true → (list_all test xs ≡ true) × (test x ≡ true)
-all_before_last test xs x t = let r = and_parts _ _ (sym (list_all-append test xs (x ∷ [])) ∙ t) in (r.0, (and_parts _ _ r.1).0)
+pub all_before_last : {X : Type 0} (test : X → Bool) (xs : List X) (x : X) → list_all test (xs ++ x ∷ []) ≡ true →
+    (list_all test xs ≡ true) × (test x ≡ true)
+all_before_last test xs x t = let r = and_parts _ _ (sym (list_all-append test xs (x ∷ [])) ∙ t) in
+    (r.0, (and_parts _ _ r.1).0)
 
-pub any_before_last : {X : Type 0} (test : X → Bool) (xs : List X) (x : X) → list_any test (xs ++ x ∷ []) ≡ true → (list_any test xs || test x) ≡ true
-any_before_last test xs x t = ap (λ b. list_any test xs || b) (sym (or-false (test x))) ∙ sym (list_any-append test xs (x ∷ [])) ∙ t
+pub any_before_last : {X : Type 0} (test : X → Bool) (xs : List X) (x : X) → list_any test (xs ++ x ∷ []) ≡ true →
+    (list_any test xs || test x) ≡ true
+any_before_last test xs x t =
+    ap (λ b. list_any test xs || b) (sym (or-false (test x))) ∙ sym (list_any-append test xs (x ∷ [])) ∙ t
 
-pub any_inserted : {X : Type 0} (test : X → Bool) (xs : List X) (i : ℕ) (x : X) → list_any test (insert xs i x) ≡ true → (list_any test xs || test x) ≡ true
+pub any_inserted : {X : Type 0} (test : X → Bool) (xs : List X) (i : ℕ) (x : X) → list_any test (insert xs i x) ≡ true →
+    (list_any test xs || test x) ≡ true
 any_inserted test [] zero x t = sym (or-false (test x)) ∙ t
 any_inserted test [] (suc i) x t = sym (or-false (test x)) ∙ t
 any_inserted test (y ∷ ys) zero x t = turn (test x) (test y || list_any test ys) t
@@ -73,23 +85,32 @@ held_high n l t = leb-true (n l.variable) l.high (and_parts (nat_le l.low (n l.v
 pub counted : (n : ℕ → ℕ) (count v : ℕ) → v < count → n v ≤ sum_by n (numbers_below count)
 counted n count v h = le-sum_by n (numbers_below count) v (Contains-numbers count v h)
 
-pub outside_more : (ls : List Literal) (i : ℕ) (d : Literal) (a r : ℕ) → i < length ls → NeedsOutside (take i ls) a → (0 < r → (get_or ls i d).variable < 128)
-    → ((n : ℕ → ℕ) → holds_at n (get_or ls i d) ≡ false → r ≤ n (get_or ls i d).variable) → NeedsOutside (take (i + 1) ls) (min a r)
+pub outside_more : (ls : List Literal) (i : ℕ) (d : Literal) (a r : ℕ) → i < length ls → NeedsOutside (take i ls) a →
+    (0 < r → (get_or ls i d).variable < 128)
+    → ((n : ℕ → ℕ) → holds_at n (get_or ls i d) ≡ false → r ≤ n (get_or ls i d).variable) →
+    NeedsOutside (take (i + 1) ls) (min a r)
 outside_more ls i d a r h f small g count e n t = ⊎_elim
-    (λ (b : list_all (holds_at n) (take i ls) ≡ true). by_last (false_from_ne_true _ (λ k. both_ways _ t (all_one_more (holds_at n) ls i d h b k))))
+    (λ (b : list_all (holds_at n) (take i ls) ≡ true).
+    by_last (false_from_ne_true _ (λ k. both_ways _ t (all_one_more (holds_at n) ls i d h b k))))
     (λ (b : list_all (holds_at n) (take i ls) ≡ false). let x = f count e n b in omega arith)
     (cases_Bool (list_all (holds_at n) (take i ls)))
   where
     by_last : holds_at n (get_or ls i d) ≡ false → min a r ≤ sum_by n (numbers_below count)
     by_last k = ⊎_elim
-        (λ (p : 0 < r). let s = small p in let x = g n k in let y = counted n count (get_or ls i d).variable (omega arith) in omega arith)
+        (λ (p : 0 < r). let s = small p in
+        let x = g n k in
+        let y = counted n count (get_or ls i d).variable (omega arith) in
+        omega arith)
         (λ (p : r ≤ 0). omega arith)
         (cases_lt 0 r)
 
-pub each_more : (cubes : List (List Literal)) (i : ℕ) (d : List Literal) (a r : ℕ) → i < length cubes → Needs (take i cubes) a → NeedsOutside (get_or cubes i d) r →
+pub each_more : (cubes : List (List Literal)) (i : ℕ) (d : List Literal) (a r : ℕ) → i < length cubes →
+    Needs (take i cubes) a →
+    NeedsOutside (get_or cubes i d) r →
     Needs (take (i + 1) cubes) (max a r)
 each_more cubes i d a r h f g count e n values t =
-    let x = f count e n values (false_from_ne_true _ (λ k. both_ways _ t (any_of_before (matches_at n) cubes i d h k))) in
+    let x =
+    f count e n values (false_from_ne_true _ (λ k. both_ways _ t (any_of_before (matches_at n) cubes i d h k))) in
     let y = g count e n (false_from_ne_true _ (λ k. both_ways _ t (any_of_last (matches_at n) cubes i d h k))) in
     omega arith
 
@@ -116,7 +137,8 @@ after_values v n values u h = let a = after_le v u n in let b = values u h in om
 after_sum : (v : ℕ) (n : ℕ → ℕ) (count : ℕ) → sum_by (after v n) (numbers_below count) ≤ sum_by n (numbers_below count)
 after_sum v n count = sum_by-le_each (after v n) n (numbers_below count) (λ u c. after_le v u n)
 
-after_less : (v : ℕ) (n : ℕ → ℕ) (count : ℕ) → v < count → 1 ≤ n v → sum_by (after v n) (numbers_below count) + 1 ≡ sum_by n (numbers_below count)
+after_less : (v : ℕ) (n : ℕ → ℕ) (count : ℕ) → v < count → 1 ≤ n v →
+    sum_by (after v n) (numbers_below count) + 1 ≡ sum_by n (numbers_below count)
 after_less v n count h some =
     let a = sum_changed (after v n) n count v h (λ u d. after_other v u n (λ e. d (sym e))) in
     let b = after_here v n in
@@ -124,9 +146,12 @@ after_less v n count h some =
 
 -- what the steps of a list keep
 abbrev pub Steps : List (List Literal) → ℕ → Bool → ℕ → List (List Literal) → Type 0
-Steps cubes v more budget rest = (n : ℕ → ℕ) → IsStep v more budget n → is_any_at (after v n) rest ≡ true → is_any_at n cubes ≡ true
+Steps cubes v more budget rest =
+    (n : ℕ → ℕ) → IsStep v more budget n → is_any_at (after v n) rest ≡ true → is_any_at n cubes ≡ true
 
-step_from : (v : ℕ) (more : Bool) (budget count : ℕ) (n : ℕ → ℕ) → count ≡ 128 → AreValues n → (more ≡ false → n v ≡ 0) → (more ≡ true → 1 ≤ n v) → sum_by (after v n) (numbers_below count) ≤ budget →
+step_from : (v : ℕ) (more : Bool) (budget count : ℕ) (n : ℕ → ℕ) → count ≡ 128 → AreValues n →
+    (more ≡ false → n v ≡ 0) → (more ≡ true → 1 ≤ n v) →
+    sum_by (after v n) (numbers_below count) ≤ budget →
     IsStep v more budget n
 step_from v more budget count n e values off on few = record {
   values = values;
@@ -135,30 +160,42 @@ step_from v more budget count n e values off on few = record {
   few = λ u h. let a = counted (after v n) count u (omega arith) in omega arith;
 }
 
-by_step : (cubes rest : List (List Literal)) (v : ℕ) (more : Bool) (budget r count : ℕ) (n : ℕ → ℕ) → Steps cubes v more budget rest → Needs rest r → count ≡ 128 → AreValues n → IsStep v more budget n →
+by_step : (cubes rest : List (List Literal)) (v : ℕ) (more : Bool) (budget r count : ℕ) (n : ℕ → ℕ) →
+    Steps cubes v more budget rest → Needs rest r → count ≡ 128 → AreValues n →
+    IsStep v more budget n →
     is_any_at n cubes ≡ false → r ≤ sum_by (after v n) (numbers_below count)
-by_step cubes rest v more budget r count n keeps needs e values is t = needs count e (after v n) (after_values v n values) (false_from_ne_true _ (λ k. both_ways _ t (keeps n is k)))
+by_step cubes rest v more budget r count n keeps needs e values is t =
+    needs count e (after v n) (after_values v n values) (false_from_ne_true _ (λ k. both_ways _ t (keeps n is k)))
 
-pub without_from : (cubes rest : List (List Literal)) (v budget r : ℕ) → Steps cubes v false budget rest → Needs rest r → NeedsWithout cubes v budget r
+pub without_from : (cubes rest : List (List Literal)) (v budget r : ℕ) → Steps cubes v false budget rest →
+    Needs rest r →
+    NeedsWithout cubes v budget r
 without_from cubes rest v budget r keeps needs count e n values none few t =
     let s = after_sum v n count in
-    let x = by_step cubes rest v false budget r count n keeps needs e values (step_from v false budget count n e values (λ k. none) (λ k. cc) (omega arith)) t in
+    let x = by_step cubes rest v false budget r count n keeps needs e values
+    (step_from v false budget count n e values (λ k. none) (λ k. cc) (omega arith)) t in
     omega arith
 
-pub value_from : (cubes off on : List (List Literal)) (v budget a b r : ℕ) → 128 ≤ v → Steps cubes v false budget off → Needs off a → Steps cubes v true budget on → Needs on b → r ≤ a → r ≤ b →
+pub value_from : (cubes off on : List (List Literal)) (v budget a b r : ℕ) → 128 ≤ v → Steps cubes v false budget off →
+    Needs off a → Steps cubes v true budget on → Needs on b → r ≤ a → r ≤ b →
     r ≤ budget + 1 → Needs cubes r
 value_from cubes off on v budget a b r large keeps needs keeps' needs' la lb lr count e n values t = ⊎_elim
     (λ (p : budget < sum_by n (numbers_below count)). omega arith)
     (λ (p : sum_by n (numbers_below count) ≤ budget).
     let s = after_sum v n count in
     ⊎_elim
-    (λ (q : 0 < n v). let x = by_step cubes on v true budget b count n keeps' needs' e values (step_from v true budget count n e values (λ k. cc) (λ k. omega arith) (omega arith)) t in omega arith)
-    (λ (q : n v ≤ 0). let x = by_step cubes off v false budget a count n keeps needs e values (step_from v false budget count n e values (λ k. omega arith) (λ k. cc) (omega arith)) t in omega arith)
+    (λ (q : 0 < n v). let x = by_step cubes on v true budget b count n keeps' needs' e values
+    (step_from v true budget count n e values (λ k. cc) (λ k. omega arith) (omega arith)) t in
+    omega arith)
+    (λ (q : n v ≤ 0). let x = by_step cubes off v false budget a count n keeps needs e values
+    (step_from v false budget count n e values (λ k. omega arith) (λ k. cc) (omega arith)) t in
+    omega arith)
     (cases_lt 0 (n v)))
     (cases_lt budget (sum_by n (numbers_below count)))
 
 -- if there is no room for a fault
-pub count_without : (cubes : List (List Literal)) (v budget w r : ℕ) → v < 128 → NeedsWithout cubes v budget w → r ≤ w → r ≤ 1 → Needs cubes r
+pub count_without : (cubes : List (List Literal)) (v budget w r : ℕ) → v < 128 → NeedsWithout cubes v budget w → r ≤ w →
+    r ≤ 1 → Needs cubes r
 count_without cubes v budget w r small needs lw lr count e n values t = ⊎_elim
     (λ (p : 0 < sum_by n (numbers_below count)). omega arith)
     (λ (p : sum_by n (numbers_below count) ≤ 0).
@@ -167,7 +204,9 @@ count_without cubes v budget w r small needs lw lr count e n values t = ⊎_elim
     omega arith)
     (cases_lt 0 (sum_by n (numbers_below count)))
 
-pub count_from : (cubes more : List (List Literal)) (v budget w most b r : ℕ) → v < 128 → NeedsWithout cubes v budget w → most ≤ budget → most < w → 0 < most → Steps cubes v true (most - 1) more →
+pub count_from : (cubes more : List (List Literal)) (v budget w most b r : ℕ) → v < 128 →
+    NeedsWithout cubes v budget w → most ≤ budget → most < w → 0 < most →
+    Steps cubes v true (most - 1) more →
     Needs more b → r ≤ b + 1 → r ≤ most + 1 → Needs cubes r
 count_from cubes more v budget w most b r small needs lm lw some keeps needs' lb lr count e n values t = ⊎_elim
     (λ (p : most < sum_by n (numbers_below count)). omega arith)
@@ -175,7 +214,8 @@ count_from cubes more v budget w most b r small needs lm lw some keeps needs' lb
     ⊎_elim
     (λ (q : 0 < n v).
     let s = after_less v n count (omega arith) (omega arith) in
-    let x = by_step cubes more v true (most - 1) b count n keeps needs' e values (step_from v true (most - 1) count n e values (λ k. cc) (λ k. omega arith) (omega arith)) t in
+    let x = by_step cubes more v true (most - 1) b count n keeps needs' e values
+    (step_from v true (most - 1) count n e values (λ k. cc) (λ k. omega arith) (omega arith)) t in
     omega arith)
     (λ (q : n v ≤ 0). let y = needs count e n values (omega arith) (omega arith) t in omega arith)
     (cases_lt 0 (n v)))
@@ -187,17 +227,24 @@ count_from cubes more v budget w most b r small needs lm lw some keeps needs' lb
 abbrev kept_at : List Bool → Bool → (ℕ → ℕ) → ℕ → ℕ
 kept_at marks wanted n v = cond (same_bool (get_or marks v false) wanted) (n v) 0
 
-same_all_at : (marks : List Bool) (wanted : Bool) (n : ℕ → ℕ) (ls : List Literal) → list_all (λ l. same_bool (get_or marks l.variable false) wanted) ls ≡ true →
+same_all_at : (marks : List Bool) (wanted : Bool) (n : ℕ → ℕ) (ls : List Literal) →
+    list_all (λ l. same_bool (get_or marks l.variable false) wanted) ls ≡ true →
     matches_at (kept_at marks wanted n) ls ≡ matches_at n ls
 same_all_at marks wanted n [] t = refl
 same_all_at marks wanted n (l ∷ ls) t =
-    let r = and_parts (same_bool (get_or marks l.variable false) wanted) (list_all (λ l. same_bool (get_or marks l.variable false) wanted) ls) t in
-    ap₂ ◌&&◌ (ap (λ x. nat_le l.low x && nat_le x l.high) (cond-true (same_bool (get_or marks l.variable false) wanted) (n l.variable) 0 r.0)) (same_all_at marks wanted n ls r.1)
+    let r = and_parts (same_bool (get_or marks l.variable false) wanted)
+    (list_all (λ l. same_bool (get_or marks l.variable false) wanted) ls) t in
+    ap₂ ◌&&◌ (ap (λ x. nat_le l.low x && nat_le x l.high) (cond-true (same_bool (get_or marks l.variable false) wanted)
+    (n l.variable) 0 r.0)) (same_all_at marks wanted n ls r.1)
 
-same_any_at : (marks : List Bool) (wanted : Bool) (n : ℕ → ℕ) (cubes : List (List Literal)) → AreMarked marks wanted cubes → is_any_at (kept_at marks wanted n) cubes ≡ is_any_at n cubes
+same_any_at : (marks : List Bool) (wanted : Bool) (n : ℕ → ℕ) (cubes : List (List Literal)) →
+    AreMarked marks wanted cubes →
+    is_any_at (kept_at marks wanted n) cubes ≡ is_any_at n cubes
 same_any_at marks wanted n [] h = refl
-same_any_at marks wanted n (c ∷ cs) h = ap₂ ◌||◌ (same_all_at marks wanted n c (All-head (λ d. list_all (λ l. same_bool (get_or marks l.variable false) wanted) d ≡ true) c cs h))
-    (same_any_at marks wanted n cs (All-tail (λ d. list_all (λ l. same_bool (get_or marks l.variable false) wanted) d ≡ true) c cs h))
+same_any_at marks wanted n (c ∷ cs) h = ap₂ ◌||◌ (same_all_at marks wanted n c
+    (All-head (λ d. list_all (λ l. same_bool (get_or marks l.variable false) wanted) d ≡ true) c cs h))
+    (same_any_at marks wanted n cs
+    (All-tail (λ d. list_all (λ l. same_bool (get_or marks l.variable false) wanted) d ≡ true) c cs h))
 
 kept_values : (marks : List Bool) (wanted : Bool) (n : ℕ → ℕ) → AreValues n → AreValues (kept_at marks wanted n)
 kept_values marks wanted n values v h = one (same_bool (get_or marks v false) wanted)
@@ -206,23 +253,31 @@ kept_values marks wanted n values v h = one (same_bool (get_or marks v false) wa
     one true = values v h
     one false = omega arith
 
-of_part : (cubes part : List (List Literal)) (marks : List Bool) (wanted : Bool) (r count : ℕ) (n : ℕ → ℕ) → AreMarked marks wanted part →
+of_part : (cubes part : List (List Literal)) (marks : List Bool) (wanted : Bool) (r count : ℕ) (n : ℕ → ℕ) →
+    AreMarked marks wanted part →
     ((m : ℕ → ℕ) → is_any_at m part ≡ true → is_any_at m cubes ≡ true) → Needs part r
     → count ≡ 128 → AreValues n → is_any_at n cubes ≡ false → r ≤ sum_by (kept_at marks wanted n) (numbers_below count)
-of_part cubes part marks wanted r count n marked keeps needs e values t = needs count e (kept_at marks wanted n) (kept_values marks wanted n values)
+of_part cubes part marks wanted r count n marked keeps needs e values t =
+    needs count e (kept_at marks wanted n) (kept_values marks wanted n values)
     (same_any_at marks wanted n part marked ∙ false_from_ne_true _ (λ k. both_ways _ t (keeps n k)))
 
-both_parts : (marks : List Bool) (n : ℕ → ℕ) (count : ℕ) → sum_by (kept_at marks true n) (numbers_below count) + sum_by (kept_at marks false n) (numbers_below count) ≡ sum_by n (numbers_below count)
+both_parts : (marks : List Bool) (n : ℕ → ℕ) (count : ℕ) →
+    sum_by (kept_at marks true n) (numbers_below count) + sum_by (kept_at marks false n) (numbers_below count)
+    ≡ sum_by n (numbers_below count)
 both_parts marks n count = sym (sum_by-add (kept_at marks true n) (kept_at marks false n) (numbers_below count))
-    ∙ same_sum_by (λ v. kept_at marks true n v + kept_at marks false n v) n (numbers_below count) (λ v c. one (get_or marks v false) (n v))
+    ∙ same_sum_by (λ v. kept_at marks true n v + kept_at marks false n v) n (numbers_below count)
+    (λ v c. one (get_or marks v false) (n v))
   where
     one : (b : Bool) (x : ℕ) → cond (same_bool b true) x 0 + cond (same_bool b false) x 0 ≡ x
     one true x = omega arith
     one false x = omega arith
 
-pub parts_from : (cubes first others : List (List Literal)) (marks : List Bool) (a b r : ℕ) → AreMarked marks true first → AreMarked marks false others →
+pub parts_from : (cubes first others : List (List Literal)) (marks : List Bool) (a b r : ℕ) →
+    AreMarked marks true first →
+    AreMarked marks false others →
     ((m : ℕ → ℕ) → is_any_at m first ≡ true → is_any_at m cubes ≡ true)
-    → ((m : ℕ → ℕ) → is_any_at m others ≡ true → is_any_at m cubes ≡ true) → Needs first a → Needs others b → r ≤ a + b → Needs cubes r
+    → ((m : ℕ → ℕ) → is_any_at m others ≡ true → is_any_at m cubes ≡ true) → Needs first a → Needs others b →
+    r ≤ a + b → Needs cubes r
 parts_from cubes first others marks a b r m m' k k' f f' l count e n values t =
     let x = of_part cubes first marks true a count n m k f e values t in
     let y = of_part cubes others marks false b count n m' k' f' e values t in
@@ -232,61 +287,76 @@ parts_from cubes first others marks a b r m m' k k' f f' l count e n values t =
 pub needs_fewer : (cubes : List (List Literal)) (a b : ℕ) → b ≤ a → Needs cubes a → Needs cubes b
 needs_fewer cubes a b l f count e n values t = let x = f count e n values t in omega arith
 
-pub needs_by : (cubes part : List (List Literal)) (r : ℕ) → ((m : ℕ → ℕ) → is_any_at m part ≡ true → is_any_at m cubes ≡ true) → Needs part r → Needs cubes r
+pub needs_by : (cubes part : List (List Literal)) (r : ℕ) →
+    ((m : ℕ → ℕ) → is_any_at m part ≡ true → is_any_at m cubes ≡ true) → Needs part r → Needs cubes r
 needs_by cubes part r k f count e n values t = f count e n values (false_from_ne_true _ (λ x. both_ways _ t (k n x)))
 
 -- ---- cubes without common variables
 
 -- the faults of the marked variables are as many at least
 abbrev pub NeedsOfMarked : List (List Literal) → List Bool → ℕ → Type 0
-NeedsOfMarked cubes marks r = (count : ℕ) → count ≡ 128 → (n : ℕ → ℕ) → AreValues n → is_any_at n cubes ≡ false → r ≤ sum_by (kept_at marks true n) (numbers_below count)
+NeedsOfMarked cubes marks r = (count : ℕ) → count ≡ 128 → (n : ℕ → ℕ) → AreValues n → is_any_at n cubes ≡ false →
+    r ≤ sum_by (kept_at marks true n) (numbers_below count)
 
 -- the numbers of variables that are marked later and weren't before
 abbrev new_at : List Bool → List Bool → (ℕ → ℕ) → ℕ → ℕ
 new_at marks later n v = cond (same_bool (get_or later v false) true && same_bool (get_or marks v false) false) (n v) 0
 
-same_new_at : (marks later : List Bool) (n : ℕ → ℕ) (ls : List Literal) → list_all (λ l. same_bool (get_or marks l.variable false) false) ls ≡ true →
-    list_all (λ l. same_bool (get_or later l.variable false) true) ls ≡ true → matches_at (new_at marks later n) ls ≡ matches_at n ls
+same_new_at : (marks later : List Bool) (n : ℕ → ℕ) (ls : List Literal) →
+    list_all (λ l. same_bool (get_or marks l.variable false) false) ls ≡ true →
+    list_all (λ l. same_bool (get_or later l.variable false) true) ls ≡ true →
+    matches_at (new_at marks later n) ls ≡ matches_at n ls
 same_new_at marks later n [] t u = refl
 same_new_at marks later n (l ∷ ls) t u =
-    let r = and_parts (same_bool (get_or marks l.variable false) false) (list_all (λ m. same_bool (get_or marks m.variable false) false) ls) t in
-    let q = and_parts (same_bool (get_or later l.variable false) true) (list_all (λ m. same_bool (get_or later m.variable false) true) ls) u in
+    let r = and_parts (same_bool (get_or marks l.variable false) false)
+    (list_all (λ m. same_bool (get_or marks m.variable false) false) ls) t in
+    let q = and_parts (same_bool (get_or later l.variable false) true)
+    (list_all (λ m. same_bool (get_or later m.variable false) true) ls) u in
     ap₂ ◌&&◌ (ap (λ x. nat_le l.low x && nat_le x l.high)
-    (cond-true (same_bool (get_or later l.variable false) true && same_bool (get_or marks l.variable false) false) (n l.variable) 0 (and_from _ _ q.0 r.0))) (same_new_at marks later n ls r.1 q.1)
+    (cond-true (same_bool (get_or later l.variable false) true && same_bool (get_or marks l.variable false) false)
+    (n l.variable) 0 (and_from _ _ q.0 r.0))) (same_new_at marks later n ls r.1 q.1)
 
-both_marks : (m k : Bool) (x : ℕ) → (m ≡ true → k ≡ true) → cond (same_bool m true) x 0 + cond (same_bool k true && same_bool m false) x 0 ≤ cond (same_bool k true) x 0
+both_marks : (m k : Bool) (x : ℕ) → (m ≡ true → k ≡ true) →
+    cond (same_bool m true) x 0 + cond (same_bool k true && same_bool m false) x 0 ≤ cond (same_bool k true) x 0
 both_marks true true x h = omega arith
 both_marks true false x h = cc (h refl)
 both_marks false true x h = omega arith
 both_marks false false x h = omega arith
 
-pub marked_more : (cubes : List (List Literal)) (c : List Literal) (marks later : List Bool) (a b r : ℕ) → NeedsOfMarked cubes marks a →
+pub marked_more : (cubes : List (List Literal)) (c : List Literal) (marks later : List Bool) (a b r : ℕ) →
+    NeedsOfMarked cubes marks a →
     ((n : ℕ → ℕ) → is_any_at n cubes ≡ false → matches_at n c ≡ false) → NeedsOutside c b
-    → list_all (λ l. same_bool (get_or marks l.variable false) false) c ≡ true → ((v : ℕ) → get_or marks v false ≡ true → get_or later v false ≡ true) →
+    → list_all (λ l. same_bool (get_or marks l.variable false) false) c ≡ true →
+    ((v : ℕ) → get_or marks v false ≡ true → get_or later v false ≡ true) →
     list_all (λ l. same_bool (get_or later l.variable false) true) c ≡ true → r ≤ a + b
     → NeedsOfMarked cubes later r
 marked_more cubes c marks later a b r f one g t h u l count e n values off =
     let x = f count e n values off in
     let y = g count e (new_at marks later n) (same_new_at marks later n c t u ∙ one n off) in
     let z = sum_by-add (kept_at marks true n) (new_at marks later n) (numbers_below count) in
-    let w = sum_by-le_each (λ v. kept_at marks true n v + new_at marks later n v) (kept_at later true n) (numbers_below count)
+    let w = sum_by-le_each (λ v. kept_at marks true n v + new_at marks later n v) (kept_at later true n)
+    (numbers_below count)
     (λ v k. both_marks (get_or marks v false) (get_or later v false) (n v) (h v)) in
     omega arith
 
 pub marked_all : (cubes : List (List Literal)) (marks : List Bool) (r : ℕ) → NeedsOfMarked cubes marks r → Needs cubes r
 marked_all cubes marks r f count e n values off =
     let x = f count e n values off in
-    let w = sum_by-le_each (kept_at marks true n) n (numbers_below count) (λ v k. one (same_bool (get_or marks v false) true) (n v)) in
+    let w = sum_by-le_each (kept_at marks true n) n (numbers_below count)
+    (λ v k. one (same_bool (get_or marks v false) true) (n v)) in
     omega arith
   where
     one : (b : Bool) (x : ℕ) → cond b x 0 ≤ x
     one true x = omega arith
     one false x = omega arith
 
-pub one_is_off : (cubes : List (List Literal)) (i : ℕ) (d : List Literal) → i < length cubes → (n : ℕ → ℕ) → is_any_at n cubes ≡ false → matches_at n (get_or cubes i d) ≡ false
+pub one_is_off : (cubes : List (List Literal)) (i : ℕ) (d : List Literal) → i < length cubes → (n : ℕ → ℕ) →
+    is_any_at n cubes ≡ false →
+    matches_at n (get_or cubes i d) ≡ false
 one_is_off cubes i d h n off = from_any_false (matches_at n) cubes (get_or cubes i d) off (Contains-get_or cubes i d h)
 
-pub still_marked : (marks : List Bool) (i v : ℕ) → get_or marks v false ≡ true → get_or (slice_set marks i true) v false ≡ true
+pub still_marked : (marks : List Bool) (i v : ℕ) → get_or marks v false ≡ true →
+    get_or (slice_set marks i true) v false ≡ true
 still_marked [] i v t = cc
 still_marked (m ∷ ms) zero zero t = refl
 still_marked (m ∷ ms) zero (suc v) t = t
@@ -298,12 +368,16 @@ now_marked [] i h = absurd (omega arith)
 now_marked (m ∷ ms) zero h = refl
 now_marked (m ∷ ms) (suc i) h = now_marked ms i (omega arith)
 
-pub all_still_marked : (marks later : List Bool) (ls : List Literal) → ((v : ℕ) → get_or marks v false ≡ true → get_or later v false ≡ true) →
-    list_all (λ l. same_bool (get_or marks l.variable false) true) ls ≡ true → list_all (λ l. same_bool (get_or later l.variable false) true) ls ≡ true
+pub all_still_marked : (marks later : List Bool) (ls : List Literal) →
+    ((v : ℕ) → get_or marks v false ≡ true → get_or later v false ≡ true) →
+    list_all (λ l. same_bool (get_or marks l.variable false) true) ls ≡ true →
+    list_all (λ l. same_bool (get_or later l.variable false) true) ls ≡ true
 all_still_marked marks later [] h t = refl
 all_still_marked marks later (l ∷ ls) h t =
-    let r = and_parts (same_bool (get_or marks l.variable false) true) (list_all (λ m. same_bool (get_or marks m.variable false) true) ls) t in
-    and_from _ _ (is_marked (get_or later l.variable false) (h l.variable (was_marked (get_or marks l.variable false) r.0))) (all_still_marked marks later ls h r.1)
+    let r = and_parts (same_bool (get_or marks l.variable false) true)
+    (list_all (λ m. same_bool (get_or marks m.variable false) true) ls) t in
+    and_from _ _ (is_marked (get_or later l.variable false)
+    (h l.variable (was_marked (get_or marks l.variable false) r.0))) (all_still_marked marks later ls h r.1)
   where
     was_marked : (b : Bool) → same_bool b true ≡ true → b ≡ true
     was_marked true e = refl

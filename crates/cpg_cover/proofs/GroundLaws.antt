@@ -1,5 +1,7 @@
--- Numbers beyond the lows of a cube: if no cube of a list is matched by them but with more faults than are left, the list covers the cube.
-use Rattle.std.proofs.Common.{ℕ, zero, suc, ◌+◌, ◌-◌, ◌<◌, ◌≤◌, ◌≡◌, true, false, List, Some, length, get_or, sum_by, arith, refl, sym, ap, ◌∙◌, ⊎_elim, le-ltb, leb-true, Contains, add-one}
+-- Numbers beyond the lows of a cube: if no cube of a list is matched by them but with more faults than are left, the
+-- list covers the cube.
+use Rattle.std.proofs.Common.{ℕ, zero, suc, ◌+◌, ◌-◌, ◌<◌, ◌≤◌, ◌≡◌, true, false, List, Some, length, get_or, sum_by}
+use Rattle.std.proofs.Common.{arith, refl, sym, ap, ◌∙◌, ⊎_elim, le-ltb, leb-true, Contains, add-one}
 use Rattle.std.specs.Prelude.{nat_le, nat_lt}
 use Rattle.std.specs.List.{list_any}
 use Rattle.std.proofs.lemmas.Bool.{cases_Bool, cases_lt, cond-false, both_ways, and_parts, false_from_ne_true}
@@ -26,20 +28,24 @@ use Rattle.cpg_cube.proofs.Meeting.{small_variable, holds_where_spanned}
 use Rattle.cpg_cover.proofs.FewestLaws.{held}
 
 -- a sum up to numbers from which on all is 0
-sum_short : (f : ℕ → ℕ) (a b : ℕ) → a ≤ b → ((v : ℕ) → a ≤ v → v < b → f v ≡ 0) → sum_by f (numbers_below b) ≡ sum_by f (numbers_below a)
+sum_short : (f : ℕ → ℕ) (a b : ℕ) → a ≤ b → ((v : ℕ) → a ≤ v → v < b → f v ≡ 0) →
+    sum_by f (numbers_below b) ≡ sum_by f (numbers_below a)
 sum_short f a zero l h = let e : a ≡ 0 = omega arith in ap (λ m. sum_by f (numbers_below m)) (sym e)
 sum_short f a (suc b) l h = ⊎_elim
     (λ (p : b < a). let e : suc b ≡ a = omega arith in ap (λ m. sum_by f (numbers_below m)) e)
     (λ (p : a ≤ b).
-    let x : sum_by f (numbers_below (suc b)) ≡ sum_by f (numbers_below b) + f b = ap (λ m. sum_by f (numbers_below m)) (sym (add-one b)) ∙ ap (sum_by f) (below_push b) ∙
+    let x : sum_by f (numbers_below (suc b)) ≡ sum_by f (numbers_below b) + f b =
+    ap (λ m. sum_by f (numbers_below m)) (sym (add-one b)) ∙ ap (sum_by f) (below_push b) ∙
     sum_by_push f (numbers_below b) b in
     let y = sum_short f a b p (λ v k m. h v k (omega arith)) in
     let z = h b p (omega arith) in
     let r : sum_by f (numbers_below (suc b)) ≡ sum_by f (numbers_below a) = omega arith in r)
     (cases_lt b a)
 
-module _ (g : Graph) (limits : IsWithinLimits g) (cube : List Literal) (is : IsCube g cube) (low high : List ℕ) (are : AreBounds cube low high) (long : length low ≡ 256) (left : ℕ)
-    (some : budget_left (is_open g.faults) asked_of_literal g.faults cube ≡ Some left) (s : Scenario) (i : IsScenario g s) (t : matches cube s ≡ true) where
+module _ (g : Graph) (limits : IsWithinLimits g) (cube : List Literal) (is : IsCube g cube) (low high : List ℕ)
+    (are : AreBounds cube low high) (long : length low ≡ 256) (left : ℕ)
+    (some : budget_left (is_open g.faults) asked_of_literal g.faults cube ≡ Some left) (s : Scenario)
+    (i : IsScenario g s) (t : matches cube s ≡ true) where
   low_le : (v : ℕ) → get_or low v 0 ≤ number_of s v
   low_le v = ⊎_elim
       (λ (h : v < 256). let a = are.low v h in let b = low_in-le cube s v t in omega arith)
@@ -61,7 +67,8 @@ module _ (g : Graph) (limits : IsWithinLimits g) (cube : List Literal) (is : IsC
 
   narrow_at : (l : Literal) → Contains cube l → beyond low (number_of s) l.variable ≤ l.high - l.low
   narrow_at l c =
-      let a = are.low l.variable (small_variable g limits l.variable (All-contains (λ m. IsVariable g m.variable) cube l is.known c)) in
+      let a = are.low l.variable
+      (small_variable g limits l.variable (All-contains (λ m. IsVariable g m.variable) cube l is.known c)) in
       let b = (range_of_literal g.faults cube l is.rising c).0 in
       let d = holds-high s l (from_all (holds s) cube l t c) in
       omega arith
@@ -71,7 +78,8 @@ module _ (g : Graph) (limits : IsWithinLimits g) (cube : List Literal) (is : IsC
 
   beyond_values : AreValues (beyond low (number_of s))
   beyond_values v h =
-      let a = cond-false (nat_lt v 128) (fault_of s v) (number_of_value (get_or s.values (v - 128) false)) (le-ltb v 128 h) in
+      let a = cond-false (nat_lt v 128) (fault_of s v) (number_of_value (get_or s.values (v - 128) false))
+      (le-ltb v 128 h) in
       let b = number_of_value-le (get_or s.values (v - 128) false) in
       let e : number_of s v ≡ number_of_value (get_or s.values (v - 128) false) = a in
       omega arith
@@ -86,14 +94,21 @@ module _ (g : Graph) (limits : IsWithinLimits g) (cube : List Literal) (is : IsC
       let d = (budget_some (is_open g.faults) asked_of_literal g.faults left cube some).1 in
       let x = sum_by-add (beyond low (number_of s)) (low_in cube) (numbers_below n) in
       let y = same_sum_by (λ v. beyond low (number_of s) v + low_in cube v) (number_of s) (numbers_below n)
-      (λ v k. let h = numbers-Contains n v k in let p = are.low v (omega arith) in let q = low_le v in let r : beyond low (number_of s) v + low_in cube v ≡ number_of s v = omega arith in r) in
+      (λ v k. let h = numbers-Contains n v k in
+      let p = are.low v (omega arith) in
+      let q = low_le v in
+      let r : beyond low (number_of s) v + low_in cube v ≡ number_of s v = omega arith in
+      r) in
       let z = sum_short (beyond low (number_of s)) n count (omega arith) (λ v k m.
-      let u = unknown-zero g s i v (⊎_elim (λ (p : v < n). absurd (omega arith)) (λ p. absurd (let w = p.0 in omega arith))) in
+      let u = unknown-zero g s i v
+      (⊎_elim (λ (p : v < n). absurd (omega arith)) (λ p. absurd (let w = p.0 in omega arith))) in
       let r : beyond low (number_of s) v ≡ 0 = omega arith in r) in
       omega arith
 
-  pub is_covered : {X : Type 0} (seen : X → List Literal) (by : List X) (cubes : List (List Literal)) (few : ℕ) → Needs cubes few → left < few
-      → (is_any_at (beyond low (number_of s)) cubes ≡ true → list_any (λ b. matches (seen b) s) by ≡ true) → list_any (λ b. matches (seen b) s) by ≡ true
+  pub is_covered : {X : Type 0} (seen : X → List Literal) (by : List X) (cubes : List (List Literal)) (few : ℕ) →
+      Needs cubes few → left < few
+      → (is_any_at (beyond low (number_of s)) cubes ≡ true → list_any (λ b. matches (seen b) s) by ≡ true) →
+      list_any (λ b. matches (seen b) s) by ≡ true
   is_covered seen by cubes few needs more keeps = ⊎_elim
       (λ (p : list_any (λ b. matches (seen b) s) by ≡ true). p)
       (λ (p : list_any (λ b. matches (seen b) s) by ≡ false).

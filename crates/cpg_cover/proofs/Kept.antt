@@ -1,5 +1,6 @@
 -- A list that keeps the cubes that meet a cube leaves the same of it; and taking one cube out of a list.
-use Rattle.std.proofs.Common.{ℕ, zero, suc, ◌+◌, ◌<◌, ◌≤◌, ◌≡◌, Bool, true, false, not, ◌&&◌, ◌||◌, List, [], ◌∷◌, ◌++◌, length, get_or, take, drop, map, arith, refl, sym, ap, ◌∙◌, ⊎_elim}
+use Rattle.std.proofs.Common.{ℕ, zero, suc, ◌+◌, ◌<◌, ◌≤◌, ◌≡◌, Bool, true, false, not, ◌&&◌, ◌||◌, List, [], ◌∷◌, ◌++◌}
+use Rattle.std.proofs.Common.{length, get_or, take, drop, map, arith, refl, sym, ap, ◌∙◌, ⊎_elim}
 use Rattle.std.specs.Prelude.{remove, slice_index_or, All}
 use Rattle.std.specs.List.{list_all, list_any}
 use Rattle.std.proofs.Math.Bool.{and-true, or-false}
@@ -18,33 +19,47 @@ pub left_same : {X : Type 0} (f : X → List Literal) (xs ys : List X) (cube : L
     (matches cube s ≡ true → list_any (λ b. matches (f b) s) xs ≡ list_any (λ b. matches (f b) s) ys)
     → is_left (map f xs) cube s ≡ is_left (map f ys) cube s
 left_same f xs ys cube s h = ⊎_elim
-    (λ (t : matches cube s ≡ true). ap (λ u. matches cube s && not u) (any_map (λ b. matches b s) f xs ∙ h t ∙ sym (any_map (λ b. matches b s) f ys)))
-    (λ (e : matches cube s ≡ false). ap (λ m. m && not (list_any (λ b. matches b s) (map f xs))) e ∙ sym (ap (λ m. m && not (list_any (λ b. matches b s) (map f ys))) e))
+    (λ (t : matches cube s ≡ true). ap (λ u. matches cube s && not u)
+    (any_map (λ b. matches b s) f xs ∙ h t ∙ sym (any_map (λ b. matches b s) f ys)))
+    (λ (e : matches cube s ≡ false). ap (λ m. m && not (list_any (λ b. matches b s) (map f xs))) e
+    ∙ sym (ap (λ m. m && not (list_any (λ b. matches b s) (map f ys))) e))
     (cases_Bool (matches cube s))
 
 module _ {X : Type 0} (test : X → Bool) where
-  pub kept_push : (kept by : List X) (i : ℕ) (d : X) → i < length by → list_any test kept ≡ list_any test (take i by) → list_any test (kept ++ get_or by i d ∷ []) ≡ list_any test (take (i + 1) by)
-  kept_push kept by i d h e = list_any-append test kept (get_or by i d ∷ []) ∙ ap (λ x. x || list_any test (get_or by i d ∷ [])) e ∙ sym (list_any-append test (take i by) (get_or by i d ∷ [])) ∙
+  pub kept_push : (kept by : List X) (i : ℕ) (d : X) → i < length by → list_any test kept ≡ list_any test (take i by) →
+      list_any test (kept ++ get_or by i d ∷ []) ≡ list_any test (take (i + 1) by)
+  kept_push kept by i d h e =
+      list_any-append test kept (get_or by i d ∷ []) ∙ ap (λ x. x || list_any test (get_or by i d ∷ [])) e
+      ∙ sym (list_any-append test (take i by) (get_or by i d ∷ [])) ∙
       sym (ap (list_any test) (take_more by i d h))
 
-  pub kept_skip : (kept by : List X) (i : ℕ) (d : X) → i < length by → test (get_or by i d) ≡ false → list_any test kept ≡ list_any test (take i by) →
+  pub kept_skip : (kept by : List X) (i : ℕ) (d : X) → i < length by → test (get_or by i d) ≡ false →
+      list_any test kept ≡ list_any test (take i by) →
       list_any test kept ≡ list_any test (take (i + 1) by)
-  kept_skip kept by i d h n e = e ∙ sym (or-false (list_any test (take i by))) ∙ ap (λ x. list_any test (take i by) || x) (sym (or-false (test (get_or by i d)) ∙ n))
+  kept_skip kept by i d h n e = e ∙ sym (or-false (list_any test (take i by)))
+      ∙ ap (λ x. list_any test (take i by) || x) (sym (or-false (test (get_or by i d)) ∙ n))
       ∙ sym (list_any-append test (take i by) (get_or by i d ∷ [])) ∙ sym (ap (list_any test) (take_more by i d h))
 
-  pub all_push : (kept by : List X) (i : ℕ) (d : X) → i < length by → list_all test kept ≡ list_all test (take i by) → list_all test (kept ++ get_or by i d ∷ []) ≡ list_all test (take (i + 1) by)
-  all_push kept by i d h e = list_all-append test kept (get_or by i d ∷ []) ∙ ap (λ x. x && list_all test (get_or by i d ∷ [])) e ∙ sym (list_all-append test (take i by) (get_or by i d ∷ [])) ∙
+  pub all_push : (kept by : List X) (i : ℕ) (d : X) → i < length by → list_all test kept ≡ list_all test (take i by) →
+      list_all test (kept ++ get_or by i d ∷ []) ≡ list_all test (take (i + 1) by)
+  all_push kept by i d h e =
+      list_all-append test kept (get_or by i d ∷ []) ∙ ap (λ x. x && list_all test (get_or by i d ∷ [])) e
+      ∙ sym (list_all-append test (take i by) (get_or by i d ∷ [])) ∙
       sym (ap (list_all test) (take_more by i d h))
 
-  pub all_skip : (kept by : List X) (i : ℕ) (d : X) → i < length by → test (get_or by i d) ≡ true → list_all test kept ≡ list_all test (take i by) →
+  pub all_skip : (kept by : List X) (i : ℕ) (d : X) → i < length by → test (get_or by i d) ≡ true →
+      list_all test kept ≡ list_all test (take i by) →
       list_all test kept ≡ list_all test (take (i + 1) by)
-  all_skip kept by i d h n e = e ∙ sym (and-true (list_all test (take i by))) ∙ ap (λ x. list_all test (take i by) && x) (sym (and-true (test (get_or by i d)) ∙ n))
+  all_skip kept by i d h n e = e ∙ sym (and-true (list_all test (take i by)))
+      ∙ ap (λ x. list_all test (take i by) && x) (sym (and-true (test (get_or by i d)) ∙ n))
       ∙ sym (list_all-append test (take i by) (get_or by i d ∷ [])) ∙ sym (ap (list_all test) (take_more by i d h))
 
-  pub taken_out : (xs : List X) (i : ℕ) (d : X) → i < length xs → list_any test xs ≡ (test (get_or xs i d) || list_any test (remove xs i))
+  pub taken_out : (xs : List X) (i : ℕ) (d : X) → i < length xs →
+      list_any test xs ≡ (test (get_or xs i d) || list_any test (remove xs i))
   taken_out [] i d h = absurd (omega arith)
   taken_out (x ∷ xs) zero d h = refl
-  taken_out (x ∷ xs) (suc i) d h = ap (λ b. test x || b) (taken_out xs i d (omega arith)) ∙ turn (test x) (test (get_or xs i d)) (list_any test (remove xs i))
+  taken_out (x ∷ xs) (suc i) d h = ap (λ b. test x || b) (taken_out xs i d (omega arith))
+      ∙ turn (test x) (test (get_or xs i d)) (list_any test (remove xs i))
     where
       turn : (a b c : Bool) → (a || (b || c)) ≡ (b || (a || c))
       turn true true c = refl
@@ -62,14 +77,16 @@ all_unmapped P f (x ∷ xs) h (suc k) d l = all_unmapped P f xs (λ j e m. h (su
 
 -- ---- a rising list is short
 
-rising_place : (ls : List Literal) (i : ℕ) (d : Literal) → IsRising ls → i < length ls → i ≤ (slice_index_or ls i d).variable
+rising_place : (ls : List Literal) (i : ℕ) (d : Literal) → IsRising ls → i < length ls →
+    i ≤ (slice_index_or ls i d).variable
 rising_place ls zero d r h = omega arith
 rising_place ls (suc i) d r h =
     let a = rising_place ls i d r (omega arith) in
     let b = r i (suc i) d (omega arith) h in
     omega arith
 
-pub rising_short : (ls : List Literal) (d : Literal) → IsRising ls → ((i : ℕ) → i < length ls → (slice_index_or ls i d).variable < 256) → length ls ≤ 256
+pub rising_short : (ls : List Literal) (d : Literal) → IsRising ls →
+    ((i : ℕ) → i < length ls → (slice_index_or ls i d).variable < 256) → length ls ≤ 256
 rising_short [] d r small = omega arith
 rising_short (l ∷ ls) d r small =
     let a = rising_place (l ∷ ls) (length ls) d r (omega arith) in

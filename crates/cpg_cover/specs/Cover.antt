@@ -1,6 +1,7 @@
--- What a list of cubes leaves of a cube: the least scenario that the cube matches and none of the list does. The cube is split by
--- the literals of the list's cubes.
-use Rattle.std.specs.Prelude.{ℕ, ◌+◌, ◌-◌, Bool, not, ◌&&◌, nat_lt, if◌then◌else◌, List, [], ◌∷◌, ◌++◌, Option, None, Some}
+-- What a list of cubes leaves of a cube: the least scenario that the cube matches and none of the list does. The cube
+-- is split by the literals of the list's cubes.
+use Rattle.std.specs.Prelude.{ℕ, ◌+◌, ◌-◌, Bool, not, ◌&&◌, nat_lt, if◌then◌else◌, List, [], ◌∷◌, ◌++◌, Option, None}
+use Rattle.std.specs.Prelude.{Some}
 use Rattle.std.specs.List.{list_any}
 use Rattle.cpg_base.specs.Graph.{Graph}
 use Rattle.cpg_base.specs.Scenario.{Scenario}
@@ -19,7 +20,8 @@ is_left by cube s = matches cube s && not (list_any (λ b. matches b s) by)
 
 -- the part of a cube below a literal's range, if there may be one
 abbrev pub part_below : Literal → List Literal → List (List Literal)
-part_below l cube = if nat_lt 0 l.low then narrowed_by (record { variable = l.variable; low = 0; high = l.low - 1 }) cube ∷ [] else []
+part_below l cube = if nat_lt 0 l.low
+    then narrowed_by (record { variable = l.variable; low = 0; high = l.low - 1 }) cube ∷ [] else []
 
 -- the part of a cube above a literal's range, if there may be one
 abbrev pub part_above : ℕ → Literal → List Literal → List (List Literal)
@@ -34,4 +36,5 @@ parts_outside k (l ∷ ls) cube = part_below l cube ++ part_above k l cube ++ pa
 -- the least scenario that a list of cubes leaves of a cube, or None if it leaves none
 abbrev pub uncovered : Graph → List ℕ → List (List Literal) → List Literal → Option Scenario
 uncovered g order [] cube = if is_met g.faults cube then Some (lows g cube) else None
-uncovered g order (b ∷ bs) cube = if is_met g.faults cube then first_of g order (uncovered g order bs) (parts_outside g.faults b cube) else None
+uncovered g order (b ∷ bs) cube = if is_met g.faults cube
+    then first_of g order (uncovered g order bs) (parts_outside g.faults b cube) else None

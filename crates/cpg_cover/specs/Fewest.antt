@@ -1,5 +1,6 @@
 -- The fewest faults of numbers that no cube of a list matches. Numbers are a function of the variable.
-use Rattle.std.specs.Prelude.{ℕ, ◌-◌, ◌≡◌, ◌≤◌, ◌<◌, Bool, true, false, ◌&&◌, ◌==◌, nat_le, if◌then◌else◌, List, All, get_or, sum_by}
+use Rattle.std.specs.Prelude.{ℕ, ◌-◌, ◌≡◌, ◌≤◌, ◌<◌, Bool, true, false, ◌&&◌, ◌==◌, nat_le, if◌then◌else◌, List, All}
+use Rattle.std.specs.Prelude.{get_or, sum_by}
 use Rattle.std.specs.List.{list_all, list_any}
 use Rattle.cpg_base.specs.Numbers.{numbers_below, same_bool}
 use Rattle.cpg_cube.specs.declared.literal.Literal.{Literal}
@@ -26,11 +27,13 @@ AreValues n = (v : ℕ) → 128 ≤ v → n v ≤ 1
 -- if a cube isn't matched, there are at least so many faults (the count of variables for faults stands as a number
 -- apart, for the prover's sake)
 abbrev pub NeedsOutside : List Literal → ℕ → Type 0
-NeedsOutside cube r = (count : ℕ) → count ≡ 128 → (n : ℕ → ℕ) → matches_at n cube ≡ false → r ≤ sum_by n (numbers_below count)
+NeedsOutside cube r =
+    (count : ℕ) → count ≡ 128 → (n : ℕ → ℕ) → matches_at n cube ≡ false → r ≤ sum_by n (numbers_below count)
 
 -- if no cube of a list is matched, there are at least so many faults
 abbrev pub Needs : List (List Literal) → ℕ → Type 0
-Needs cubes r = (count : ℕ) → count ≡ 128 → (n : ℕ → ℕ) → AreValues n → is_any_at n cubes ≡ false → r ≤ sum_by n (numbers_below count)
+Needs cubes r = (count : ℕ) → count ≡ 128 → (n : ℕ → ℕ) → AreValues n → is_any_at n cubes ≡ false →
+    r ≤ sum_by n (numbers_below count)
 
 -- if no cube of a list is matched, the number of a variable is 0, and there are no more faults than the budget, there
 -- are at least so many
@@ -57,7 +60,8 @@ rest_holds n (Asked l) = holds_at n l
 
 -- the variables of each cube are marked so
 abbrev pub AreMarked : List Bool → Bool → List (List Literal) → Type 0
-AreMarked marks wanted cubes = All (λ c. list_all (λ l. same_bool (get_or marks l.variable false) wanted) c ≡ true) cubes
+AreMarked marks wanted cubes =
+    All (λ c. list_all (λ l. same_bool (get_or marks l.variable false) wanted) c ≡ true) cubes
 
 -- the later marks have the earlier ones and those of the variables of literals
 pub record AreMore (cube : List Literal) (marks later : List Bool) : Type 0 where
@@ -69,7 +73,8 @@ pub record AreMore (cube : List Literal) (marks later : List Bool) : Type 0 wher
 abbrev pub beyond : List ℕ → (ℕ → ℕ) → ℕ → ℕ
 beyond low s v = s v - get_or low v 0
 
--- the numbers are not below the lows, and a literal holds if it has all numbers that its variable has with so many faults left
+-- the numbers are not below the lows, and a literal holds if it has all numbers that its variable has with so many
+-- faults left
 pub record IsOn (low high : List ℕ) (left : ℕ) (s : ℕ → ℕ) : Type 0 where
   pub lows : (v : ℕ) → get_or low v 0 ≤ s v
   pub spanned : (l : Literal) → spans low high left l ≡ true → holds_at s l ≡ true

@@ -9,4 +9,5 @@ range_below l = if nat_lt 0 l.low then Some (record { variable = l.variable; low
 
 -- the range above it, if there is one
 abbrev pub range_above : ℕ → Literal → Option Literal
-range_above k l = if nat_lt l.high (top k l.variable) then Some (record { variable = l.variable; low = l.high + 1; high = top k l.variable }) else None
+range_above k l = if nat_lt l.high (top k l.variable)
+    then Some (record { variable = l.variable; low = l.high + 1; high = top k l.variable }) else None

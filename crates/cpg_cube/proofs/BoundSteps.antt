@@ -1,8 +1,10 @@
 -- The bounds of a cube, literal by literal.
-use Rattle.std.proofs.Common.{ℕ, ◌+◌, ◌<◌, ◌≡◌, ◌≢◌, max, ◌==◌, List, [], ◌∷◌, ◌++◌, length, get_or, take, Contains, replicate, arith, refl, sym, ap, ◌∙◌, subst, ⊎_elim, eq-eqb, ne_eqb}
+use Rattle.std.proofs.Common.{ℕ, ◌+◌, ◌<◌, ◌≡◌, ◌≢◌, max, ◌==◌, List, [], ◌∷◌, ◌++◌, length, get_or, take, Contains}
+use Rattle.std.proofs.Common.{replicate, arith, refl, sym, ap, ◌∙◌, subst, ⊎_elim, eq-eqb, ne_eqb}
 use Rattle.std.specs.Prelude.{slice_set, slice_index_or}
 use Rattle.std.proofs.lemmas.Bool.{cases_eq, cond-true, cond-false}
-use Rattle.std.proofs.lemmas.List.{get_or-replicate, get_or-take, get_or-set_same, get_or-set_other, get_or_default, length-take-le, take_more}
+use Rattle.std.proofs.lemmas.List.{get_or-replicate, get_or-take, get_or-set_same, get_or-set_other, get_or_default}
+use Rattle.std.proofs.lemmas.List.{length-take-le, take_more}
 use Rattle.cpg_base.proofs.Lists.{Contains-first, Contains-rest}
 use Rattle.cpg_cube.specs.Cube.{Literal, IsRising, low_in}
 use Rattle.cpg_cube.specs.Bounds.{bound_in, AreBounds, AreRaised}
@@ -26,7 +28,8 @@ module _ (l : Literal) (v : ℕ) where
   pub bound_else : (ls : List Literal) → l.variable ≢ v → bound_in (l ∷ ls) v ≡ bound_in ls v
   bound_else ls n = cond-false (l.variable == v) l.high (bound_in ls v) (ne_eqb l.variable v n)
 
-pub low_in-last : (ls : List Literal) (l : Literal) → ((m : Literal) → Contains ls m → m.variable < l.variable) → low_in (ls ++ l ∷ []) l.variable ≡ l.low
+pub low_in-last : (ls : List Literal) (l : Literal) → ((m : Literal) → Contains ls m → m.variable < l.variable) →
+    low_in (ls ++ l ∷ []) l.variable ≡ l.low
 low_in-last [] l h = low_here l l.variable [] refl
 low_in-last (m ∷ ms) l h =
     let less = h m (Contains-first m ms) in
@@ -39,7 +42,8 @@ low_in-before (m ∷ ms) l v n = ⊎_elim
     (λ (d : m.variable ≡ v → ⊥). low_else m v (ms ++ l ∷ []) d ∙ low_in-before ms l v n ∙ sym (low_else m v ms d))
     (cases_eq m.variable v)
 
-bound_in-last : (ls : List Literal) (l : Literal) → ((m : Literal) → Contains ls m → m.variable < l.variable) → bound_in (ls ++ l ∷ []) l.variable ≡ l.high
+bound_in-last : (ls : List Literal) (l : Literal) → ((m : Literal) → Contains ls m → m.variable < l.variable) →
+    bound_in (ls ++ l ∷ []) l.variable ≡ l.high
 bound_in-last [] l h = bound_here l l.variable [] refl
 bound_in-last (m ∷ ms) l h =
     let less = h m (Contains-first m ms) in
@@ -59,37 +63,53 @@ module _ (ls : List Literal) (i : ℕ) (d : Literal) (rising : IsRising ls) (wit
       let long = length-take-le i ls (omega arith) in
       let k = c.1 in
       let place : c.0 < i = omega arith in
-      let same : m ≡ get_or ls c.0 d = sym c.2 ∙ get_or-take i ls c.0 m place ∙ get_or_default ls c.0 m d (omega arith) in
+      let same : m ≡ get_or ls c.0 d =
+      sym c.2 ∙ get_or-take i ls c.0 m place ∙ get_or_default ls c.0 m d (omega arith) in
       subst (λ (n : Literal). n.variable < (slice_index_or ls i d).variable) (sym same) (rising c.0 i d place within)
 
-  pub bounds_push : (lows highs : List ℕ) → length lows ≡ 256 → length highs ≡ 256 → (slice_index_or ls i d).variable < 256 → AreBounds (take i ls) lows highs
-      → AreBounds (take (i + 1) ls) (slice_set lows (slice_index_or ls i d).variable (slice_index_or ls i d).low) (slice_set highs (slice_index_or ls i d).variable (slice_index_or ls i d).high)
+  pub bounds_push : (lows highs : List ℕ) → length lows ≡ 256 → length highs ≡ 256 →
+      (slice_index_or ls i d).variable < 256 →
+      AreBounds (take i ls) lows highs
+      → AreBounds (take (i + 1) ls) (slice_set lows (slice_index_or ls i d).variable (slice_index_or ls i d).low)
+      (slice_set highs (slice_index_or ls i d).variable (slice_index_or ls i d).high)
   bounds_push lows highs m n small b =
       let l = slice_index_or ls i d in
-      subst (λ c. AreBounds c (slice_set lows l.variable l.low) (slice_set highs l.variable l.high)) (sym (take_more ls i d within)) (record {
+      subst (λ c. AreBounds c (slice_set lows l.variable l.low) (slice_set highs l.variable l.high))
+      (sym (take_more ls i d within)) (record {
         low = λ v h. ⊎_elim
-            (λ (e : l.variable ≡ v). subst (λ w. get_or (slice_set lows l.variable l.low) w 0 ≡ low_in (take i ls ++ l ∷ []) w) e
-            (get_or-set_same lows l.variable l.low 0 (omega arith) ∙ sym (low_in-last (take i ls) l (λ k c. lower_before k c))))
-            (λ (o : l.variable ≡ v → ⊥). get_or-set_other lows l.variable v l.low 0 (λ e. o (sym e)) ∙ b.low v h ∙ sym (low_in-before (take i ls) l v o))
+            (λ (e : l.variable ≡ v).
+            subst (λ w. get_or (slice_set lows l.variable l.low) w 0 ≡ low_in (take i ls ++ l ∷ []) w) e
+            (get_or-set_same lows l.variable l.low 0 (omega arith)
+            ∙ sym (low_in-last (take i ls) l (λ k c. lower_before k c))))
+            (λ (o : l.variable ≡ v → ⊥). get_or-set_other lows l.variable v l.low 0 (λ e. o (sym e)) ∙ b.low v h
+            ∙ sym (low_in-before (take i ls) l v o))
             (cases_eq l.variable v);
         high = λ v h. ⊎_elim
-            (λ (e : l.variable ≡ v). subst (λ w. get_or (slice_set highs l.variable l.high) w 0 ≡ bound_in (take i ls ++ l ∷ []) w) e
-            (get_or-set_same highs l.variable l.high 0 (omega arith) ∙ sym (bound_in-last (take i ls) l (λ k c. lower_before k c))))
-            (λ (o : l.variable ≡ v → ⊥). get_or-set_other highs l.variable v l.high 0 (λ e. o (sym e)) ∙ b.high v h ∙ sym (bound_in-before (take i ls) l v o))
+            (λ (e : l.variable ≡ v).
+            subst (λ w. get_or (slice_set highs l.variable l.high) w 0 ≡ bound_in (take i ls ++ l ∷ []) w) e
+            (get_or-set_same highs l.variable l.high 0 (omega arith)
+            ∙ sym (bound_in-last (take i ls) l (λ k c. lower_before k c))))
+            (λ (o : l.variable ≡ v → ⊥). get_or-set_other highs l.variable v l.high 0 (λ e. o (sym e)) ∙ b.high v h
+            ∙ sym (bound_in-before (take i ls) l v o))
             (cases_eq l.variable v);
       })
 
-  pub raised_push : (lows later : List ℕ) → length later ≡ 256 → (slice_index_or ls i d).variable < 256 → AreRaised (take i ls) lows later
-      → AreRaised (take (i + 1) ls) lows (slice_set later (slice_index_or ls i d).variable (max (get_or later (slice_index_or ls i d).variable 0) (slice_index_or ls i d).low))
+  pub raised_push : (lows later : List ℕ) → length later ≡ 256 → (slice_index_or ls i d).variable < 256 →
+      AreRaised (take i ls) lows later
+      → AreRaised (take (i + 1) ls) lows (slice_set later (slice_index_or ls i d).variable
+      (max (get_or later (slice_index_or ls i d).variable 0) (slice_index_or ls i d).low))
   raised_push lows later m small are v h =
       let l = slice_index_or ls i d in
       let x = max (get_or later l.variable 0) l.low in
-      subst (λ c. get_or (slice_set later l.variable x) v 0 ≡ max (get_or lows v 0) (low_in c v)) (sym (take_more ls i d within)) (⊎_elim
-      (λ (e : l.variable ≡ v). subst (λ w. get_or (slice_set later l.variable x) w 0 ≡ max (get_or lows w 0) (low_in (take i ls ++ l ∷ []) w)) e
+      subst (λ c. get_or (slice_set later l.variable x) v 0 ≡ max (get_or lows v 0) (low_in c v))
+      (sym (take_more ls i d within)) (⊎_elim
+      (λ (e : l.variable ≡ v). subst
+      (λ w. get_or (slice_set later l.variable x) w 0 ≡ max (get_or lows w 0) (low_in (take i ls ++ l ∷ []) w)) e
       (let a = get_or-set_same later l.variable x 0 (omega arith) in
       let b = are l.variable small in
       let c = low_in-last (take i ls) l (λ k c. lower_before k c) in
       let z = low_in-none (take i ls) l.variable (λ k c. let n = lower_before k c in (λ e. omega arith)) in
       omega arith))
-      (λ (o : l.variable ≡ v → ⊥). get_or-set_other later l.variable v x 0 (λ e. o (sym e)) ∙ are v h ∙ ap (max (get_or lows v 0)) (sym (low_in-before (take i ls) l v o)))
+      (λ (o : l.variable ≡ v → ⊥). get_or-set_other later l.variable v x 0 (λ e. o (sym e)) ∙ are v h
+      ∙ ap (max (get_or lows v 0)) (sym (low_in-before (take i ls) l v o)))
       (cases_eq l.variable v))

@@ -1,5 +1,6 @@
 -- Demands that are taken from a budget one by one fit exactly if their sum does.
-use Rattle.std.proofs.Common.{ℕ, ◌+◌, ◌-◌, ◌≤◌, ◌≡◌, Bool, true, false, cond, ◌&&◌, List, [], ◌∷◌, Option, Some, None, sum_by, arith, refl, sym, ap, ◌∙◌, ⊎_elim, le-leb, leb-true}
+use Rattle.std.proofs.Common.{ℕ, ◌+◌, ◌-◌, ◌≤◌, ◌≡◌, Bool, true, false, cond, ◌&&◌, List, [], ◌∷◌, Option, Some, None}
+use Rattle.std.proofs.Common.{sum_by, arith, refl, sym, ap, ◌∙◌, ⊎_elim, le-leb, leb-true}
 use Rattle.std.specs.Prelude.{nat_le, is_some}
 use Rattle.std.specs.List.{list_all}
 use Rattle.std.proofs.lemmas.Bool.{cases_Bool, and_parts, and_from}
@@ -10,20 +11,25 @@ use Rattle.cpg_cube.specs.Bounds.{budget_left}
 
 module _ (test : Literal → Bool) (demand : Literal → ℕ) where
   -- a literal that passes and whose demand is met, and one that doesn't
-  budget_first : (left : ℕ) (l : Literal) (ls : List Literal) → test l ≡ true → demand l ≤ left → budget_left test demand left (l ∷ ls) ≡ budget_left test demand (left - demand l) ls
-  budget_first left l ls t h = ap (λ b. cond b (budget_left test demand (left - demand l) ls) None) (and_from (test l) (nat_le (demand l) left) t (le-leb (demand l) left h))
+  budget_first : (left : ℕ) (l : Literal) (ls : List Literal) → test l ≡ true → demand l ≤ left →
+      budget_left test demand left (l ∷ ls) ≡ budget_left test demand (left - demand l) ls
+  budget_first left l ls t h = ap (λ b. cond b (budget_left test demand (left - demand l) ls) None)
+      (and_from (test l) (nat_le (demand l) left) t (le-leb (demand l) left h))
 
-  budget_stops : (left : ℕ) (l : Literal) (ls : List Literal) → (test l && nat_le (demand l) left) ≡ false → budget_left test demand left (l ∷ ls) ≡ None
+  budget_stops : (left : ℕ) (l : Literal) (ls : List Literal) → (test l && nat_le (demand l) left) ≡ false →
+      budget_left test demand left (l ∷ ls) ≡ None
   budget_stops left l ls e = ap (λ b. cond b (budget_left test demand (left - demand l) ls) None) e
 
-  pub budget_fits : (left : ℕ) (ls : List Literal) → list_all test ls ≡ true → sum_by demand ls ≤ left → is_some (budget_left test demand left ls) ≡ true
+  pub budget_fits : (left : ℕ) (ls : List Literal) → list_all test ls ≡ true → sum_by demand ls ≤ left →
+      is_some (budget_left test demand left ls) ≡ true
   budget_fits left [] t h = refl
   budget_fits left (l ∷ ls) t h =
       let r = and_parts (test l) (list_all test ls) t in
       let s = sum_by-cons demand l ls in
       ap is_some (budget_first left l ls r.0 (omega arith)) ∙ budget_fits (left - demand l) ls r.1 (omega arith)
 
-  pub budget_some : (left rest : ℕ) (ls : List Literal) → budget_left test demand left ls ≡ Some rest → (list_all test ls ≡ true) × (rest + sum_by demand ls ≡ left)
+  pub budget_some : (left rest : ℕ) (ls : List Literal) → budget_left test demand left ls ≡ Some rest →
+      (list_all test ls ≡ true) × (rest + sum_by demand ls ≡ left)
   budget_some left rest [] e = let same : left ≡ rest = cc in (refl, omega arith)
   budget_some left rest (l ∷ ls) e = ⊎_elim
       (λ (t : (test l && nat_le (demand l) left) ≡ true).
@@ -33,14 +39,20 @@ module _ (test : Literal → Bool) (demand : Literal → ℕ) where
       let s = sum_by-cons demand l ls in
       let n = more.1 in
       (and_from (test l) (list_all test ls) r.0 more.0, omega arith))
-      (λ (t : (test l && nat_le (demand l) left) ≡ false). let wrong : None ≡ Some rest = sym (budget_stops left l ls t) ∙ e in cc)
+      (λ (t : (test l && nat_le (demand l) left) ≡ false).
+      let wrong : None ≡ Some rest = sym (budget_stops left l ls t) ∙ e in
+      cc)
       (cases_Bool (test l && nat_le (demand l) left))
 
-  fitting : (left : ℕ) (ls : List Literal) (o : Option ℕ) → budget_left test demand left ls ≡ o → is_some o ≡ true → (list_all test ls ≡ true) × (sum_by demand ls ≤ left)
+  fitting : (left : ℕ) (ls : List Literal) (o : Option ℕ) → budget_left test demand left ls ≡ o → is_some o ≡ true →
+      (list_all test ls ≡ true) × (sum_by demand ls ≤ left)
   fitting left ls None e t = cc
   fitting left ls (Some rest) e t = let r = budget_some left rest ls e in let n = r.1 in (r.0, omega arith)
 
-  pub budget_is : (left : ℕ) (ls : List Literal) → is_some (budget_left test demand left ls) ≡ (list_all test ls && nat_le (sum_by demand ls) left)
-  budget_is left ls = same_truth (is_some (budget_left test demand left ls)) (list_all test ls && nat_le (sum_by demand ls) left)
+  pub budget_is : (left : ℕ) (ls : List Literal) →
+      is_some (budget_left test demand left ls) ≡ (list_all test ls && nat_le (sum_by demand ls) left)
+  budget_is left ls =
+      same_truth (is_some (budget_left test demand left ls)) (list_all test ls && nat_le (sum_by demand ls) left)
       (λ t. let r = fitting left ls (budget_left test demand left ls) refl t in and_from _ _ r.0 (le-leb _ _ r.1))
-      (λ t. let r = and_parts (list_all test ls) (nat_le (sum_by demand ls) left) t in budget_fits left ls r.0 (leb-true _ _ r.1))
+      (λ t. let r = and_parts (list_all test ls) (nat_le (sum_by demand ls) left) t in
+      budget_fits left ls r.0 (leb-true _ _ r.1))

@@ -1,5 +1,6 @@
 -- A narrowing's literal is exchanged for another one on its variable.
-use Rattle.std.proofs.Common.{ℕ, zero, suc, ◌<◌, ◌≤◌, ◌≡◌, ◌≢◌, true, false, List, [], ◌∷◌, Option, Some, None, length, get_or, Contains, arith, refl, sym, ap, ◌∙◌, subst, eq-eqb, ne_eqb, length-set}
+use Rattle.std.proofs.Common.{ℕ, zero, suc, ◌<◌, ◌≤◌, ◌≡◌, ◌≢◌, true, false, List, [], ◌∷◌, Option, Some, None, length}
+use Rattle.std.proofs.Common.{get_or, Contains, arith, refl, sym, ap, ◌∙◌, subst, eq-eqb, ne_eqb, length-set}
 use Rattle.std.proofs.Common.{le-leb}
 use Rattle.std.specs.Prelude.{IfSome, nat_le, slice_set, remove}
 use Rattle.std.proofs.lemmas.Bool.{cond-true, cond-false, lt-leb}
@@ -20,57 +21,75 @@ module _ (l : Literal) where
 
   range_other : (ms : List Literal) → ((y : Literal) → Contains ms y → l.variable < y.variable) → range_left l ms ≡ l
   range_other [] h = refl
-  range_other (m ∷ ms) h = after m ms (λ e. let k = h m (Contains-first m ms) in omega arith) ∙ range_other ms (λ y c. h y (Contains-rest m ms y c))
+  range_other (m ∷ ms) h = after m ms (λ e. let k = h m (Contains-first m ms) in omega arith)
+      ∙ range_other ms (λ y c. h y (Contains-rest m ms y c))
 
-  put_first : (ms : List Literal) → ((y : Literal) → Contains ms y → l.variable < y.variable) → narrowed_by l ms ≡ l ∷ ms
+  put_first : (ms : List Literal) → ((y : Literal) → Contains ms y → l.variable < y.variable) →
+      narrowed_by l ms ≡ l ∷ ms
   put_first [] h = refl
   put_first (m ∷ ms) h = narrowed-before l m ms (h m (Contains-first m ms))
 
   -- ---- no literal was on the variable
 
-  range_removed : (cube : List Literal) (i : ℕ) (d : Literal) → IsRising cube → i < length cube → (get_or cube i d).variable ≡ l.variable → range_left l (remove cube i) ≡ l
+  range_removed : (cube : List Literal) (i : ℕ) (d : Literal) → IsRising cube → i < length cube →
+      (get_or cube i d).variable ≡ l.variable →
+      range_left l (remove cube i) ≡ l
   range_removed [] i d r h e = absurd (omega (arith, h))
-  range_removed (m ∷ ms) zero d r h e = range_other ms (λ y c. let k = AllPairs-first Lower m ms r y c in omega (arith, k, e))
+  range_removed (m ∷ ms) zero d r h e =
+      range_other ms (λ y c. let k = AllPairs-first Lower m ms r y c in omega (arith, k, e))
   range_removed (m ∷ ms) (suc i) d r h e =
       let k = r 0 (suc i) d (omega arith) h in
-      after m (remove ms i) (λ s. omega (arith, s, k, e)) ∙ range_removed ms i d (AllPairs-rest Lower m ms r) (omega (arith, h)) e
+      after m (remove ms i) (λ s. omega (arith, s, k, e))
+      ∙ range_removed ms i d (AllPairs-rest Lower m ms r) (omega (arith, h)) e
 
-  put_removed : (cube : List Literal) (i : ℕ) (d : Literal) → IsRising cube → i < length cube → (get_or cube i d).variable ≡ l.variable → narrowed_by l (remove cube i) ≡ slice_set cube i l
+  put_removed : (cube : List Literal) (i : ℕ) (d : Literal) → IsRising cube → i < length cube →
+      (get_or cube i d).variable ≡ l.variable →
+      narrowed_by l (remove cube i) ≡ slice_set cube i l
   put_removed [] i d r h e = absurd (omega (arith, h))
-  put_removed (m ∷ ms) zero d r h e = put_first ms (λ y c. let k = AllPairs-first Lower m ms r y c in omega (arith, k, e))
+  put_removed (m ∷ ms) zero d r h e =
+      put_first ms (λ y c. let k = AllPairs-first Lower m ms r y c in omega (arith, k, e))
   put_removed (m ∷ ms) (suc i) d r h e =
       let k = r 0 (suc i) d (omega arith) h in
-      narrowed-after l m (remove ms i) (omega (arith, k, e)) ∙ ap (λ ns. m ∷ ns) (put_removed ms i d (AllPairs-rest Lower m ms r) (omega (arith, h)) e)
+      narrowed-after l m (remove ms i) (omega (arith, k, e))
+      ∙ ap (λ ns. m ∷ ns) (put_removed ms i d (AllPairs-rest Lower m ms r) (omega (arith, h)) e)
 
   -- ---- one was
 
   module _ (was : Literal) (same : was.variable ≡ l.variable) where
-    range_set : (cube : List Literal) (i : ℕ) (d : Literal) → IsRising cube → i < length cube → (get_or cube i d).variable ≡ l.variable → range_left l (slice_set cube i was) ≡ meet_literal l was
+    range_set : (cube : List Literal) (i : ℕ) (d : Literal) → IsRising cube → i < length cube →
+        (get_or cube i d).variable ≡ l.variable →
+        range_left l (slice_set cube i was) ≡ meet_literal l was
     range_set [] i d r h e = absurd (omega (arith, h))
     range_set (m ∷ ms) zero d r h e = cond-true _ _ _ (eq-eqb l.variable was.variable (sym same))
     range_set (m ∷ ms) (suc i) d r h e =
         let k = r 0 (suc i) d (omega arith) h in
-        after m (slice_set ms i was) (λ s. omega (arith, s, k, e)) ∙ range_set ms i d (AllPairs-rest Lower m ms r) (omega (arith, h)) e
+        after m (slice_set ms i was) (λ s. omega (arith, s, k, e))
+        ∙ range_set ms i d (AllPairs-rest Lower m ms r) (omega (arith, h)) e
 
-    put_set : (cube : List Literal) (i : ℕ) (d : Literal) → IsRising cube → i < length cube → (get_or cube i d).variable ≡ l.variable →
+    put_set : (cube : List Literal) (i : ℕ) (d : Literal) → IsRising cube → i < length cube →
+        (get_or cube i d).variable ≡ l.variable →
         narrowed_by l (slice_set cube i was) ≡ slice_set cube i (meet_literal l was)
     put_set [] i d r h e = absurd (omega (arith, h))
     put_set (m ∷ ms) zero d r h e = narrowed-here l was ms (sym same)
     put_set (m ∷ ms) (suc i) d r h e =
         let k = r 0 (suc i) d (omega arith) h in
-        narrowed-after l m (slice_set ms i was) (omega (arith, k, e)) ∙ ap (λ ns. m ∷ ns) (put_set ms i d (AllPairs-rest Lower m ms r) (omega (arith, h)) e)
+        narrowed-after l m (slice_set ms i was) (omega (arith, k, e))
+        ∙ ap (λ ns. m ∷ ns) (put_set ms i d (AllPairs-rest Lower m ms r) (omega (arith, h)) e)
 
 -- ---- either
 
 blank : Literal
 blank = record { variable = 0; low = 0; high = 0 }
 
-module _ (l : Literal) (cube : List Literal) (r : IsRising cube) (place : ℕ) (h : place < length cube) (e : (get_or cube place blank).variable ≡ l.variable) where
-  range_at : (was : Option Literal) → IfSome was (λ w. w.variable ≡ l.variable) → range_left l (restored_at place was cube) ≡ left_of l was
+module _ (l : Literal) (cube : List Literal) (r : IsRising cube) (place : ℕ) (h : place < length cube)
+    (e : (get_or cube place blank).variable ≡ l.variable) where
+  range_at : (was : Option Literal) → IfSome was (λ w. w.variable ≡ l.variable) →
+      range_left l (restored_at place was cube) ≡ left_of l was
   range_at None b = range_removed l cube place blank r h e
   range_at (Some was) b = range_set l was b cube place blank r h e
 
-  put_at : (was : Option Literal) → IfSome was (λ w. w.variable ≡ l.variable) → narrowed_by l (restored_at place was cube) ≡ slice_set cube place (left_of l was)
+  put_at : (was : Option Literal) → IfSome was (λ w. w.variable ≡ l.variable) →
+      narrowed_by l (restored_at place was cube) ≡ slice_set cube place (left_of l was)
   put_at None b = put_removed l cube place blank r h e
   put_at (Some was) b = put_set l was b cube place blank r h e
 
@@ -84,11 +103,13 @@ set_removed x [] i = refl
 set_removed x (m ∷ ms) zero = refl
 set_removed x (m ∷ ms) (suc i) = ap (λ zs. m ∷ zs) (set_removed x ms i)
 
-back_at : (x : Literal) (cube : List Literal) (place : ℕ) (was : Option Literal) → restored_at place was (slice_set cube place x) ≡ restored_at place was cube
+back_at : (x : Literal) (cube : List Literal) (place : ℕ) (was : Option Literal) →
+    restored_at place was (slice_set cube place x) ≡ restored_at place was cube
 back_at x cube place None = set_removed x cube place
 back_at x cube place (Some was) = set_twice x was cube place
 
-module _ (l : Literal) (cube : List Literal) (r : IsRising cube) (n : Narrowing) (h : n.place < length cube) (is : IsOn l.variable n cube) (left : Literal) (e : left ≡ left_of l n.was) where
+module _ (l : Literal) (cube : List Literal) (r : IsRising cube) (n : Narrowing) (h : n.place < length cube)
+    (is : IsOn l.variable n cube) (left : Literal) (e : left ≡ left_of l n.was) where
   range_exchanged : range_left l (restored n cube) ≡ left
   range_exchanged = range_at l cube r n.place h (is.now blank) n.was is.before ∙ sym e
 
@@ -97,12 +118,14 @@ module _ (l : Literal) (cube : List Literal) (r : IsRising cube) (n : Narrowing)
 
   pub none_exchanged : left.high < left.low → with_literal l (restored n cube) ≡ None
   none_exchanged empty =
-      let none : nat_le (range_left l (restored n cube)).low (range_left l (restored n cube)).high ≡ false = rw range_exchanged (lt-leb left.low left.high empty) in
+      let none : nat_le (range_left l (restored n cube)).low (range_left l (restored n cube)).high ≡ false =
+      rw range_exchanged (lt-leb left.low left.high empty) in
       cond-false _ _ _ none
 
   pub some_exchanged : left.low ≤ left.high → with_literal l (restored n cube) ≡ Some (slice_set cube n.place left)
   some_exchanged met =
-      let some : nat_le (range_left l (restored n cube)).low (range_left l (restored n cube)).high ≡ true = rw range_exchanged (le-leb left.low left.high met) in
+      let some : nat_le (range_left l (restored n cube)).low (range_left l (restored n cube)).high ≡ true =
+      rw range_exchanged (le-leb left.low left.high met) in
       cond-true _ _ _ some ∙ ap Some put_exchanged
 
   pub rising_exchanged : IsRising (restored n cube) → IsRising (slice_set cube n.place left)

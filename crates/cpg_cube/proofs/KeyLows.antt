@@ -1,5 +1,6 @@
 -- The lows of a cube along an order are the key of its least scenario, and so they are by its bounds.
-use Rattle.std.proofs.Common.{ℕ, ◌<◌, ◌≤◌, ◌≡◌, true, List, [], ◌∷◌, Option, Some, None, All, Contains, IsPermutation, arith, refl, sym, ap, ap₂, ◌∙◌, inl, inr}
+use Rattle.std.proofs.Common.{ℕ, ◌<◌, ◌≤◌, ◌≡◌, true, List, [], ◌∷◌, Option, Some, None, All, Contains, IsPermutation}
+use Rattle.std.proofs.Common.{arith, refl, sym, ap, ap₂, ◌∙◌, inl, inr}
 use Rattle.std.specs.Prelude.{nat_le}
 use Rattle.std.specs.List.{list_all}
 use Rattle.std.proofs.lemmas.Bool.{and_parts, leb-true}
@@ -20,12 +21,15 @@ use Rattle.cpg_cube.proofs.KeyOrder.{within_order}
 
 -- ---- numbers that are the same on all variables
 
-module _ (g : Graph) (few : process_count g ≤ 128) (few_conditions : condition_count g ≤ 32) (low other : ℕ → ℕ) (same : (v : ℕ) → v < 256 → low v ≡ other v) where
+module _ (g : Graph) (few : process_count g ≤ 128) (few_conditions : condition_count g ≤ 32) (low other : ℕ → ℕ)
+    (same : (v : ℕ) → v < 256 → low v ≡ other v) where
   same_value : (p : ℕ) (o : Option ℕ) → condition_of g p ≡ o → low_of_value low o ≡ low_of_value other o
   same_value p None e = refl
-  same_value p (Some c) e = let l = condition_of_below g p c e in ap (λ (n : ℕ). n ∷ []) (same (value_variable c) (omega (arith, l, few_conditions)))
+  same_value p (Some c) e = let l = condition_of_below g p c e in
+      ap (λ (n : ℕ). n ∷ []) (same (value_variable c) (omega (arith, l, few_conditions)))
 
-  pub same_along : (order : List ℕ) → All (λ p. p < process_count g) order → lows_along g order low ≡ lows_along g order other
+  pub same_along : (order : List ℕ) → All (λ p. p < process_count g) order →
+      lows_along g order low ≡ lows_along g order other
   same_along order within = same_flat_map (lows_of g low) (lows_of g other) order (λ p m.
       let l = All-contains (λ p. p < process_count g) order p within m in
       ap₂ ◌∷◌ (same p (omega (arith, l, few))) (same_value p (condition_of g p) refl))
@@ -36,18 +40,23 @@ module _ (g : Graph) (few : process_count g ≤ 128) (cube : List Literal) (met 
   low_le_top : (l : Literal) → Contains cube l → l.low ≤ top g.faults l.variable
   low_le_top l j =
       let open_all = (and_parts (list_all (is_open g.faults) cube) (nat_le (asked_faults cube) g.faults) met).0 in
-      leb-true l.low (top g.faults l.variable) (and_parts (nat_le l.low l.high) (nat_le l.low (top g.faults l.variable)) (from_all (is_open g.faults) cube l open_all j)).1
+      leb-true l.low (top g.faults l.variable) (and_parts (nat_le l.low l.high) (nat_le l.low (top g.faults l.variable))
+      (from_all (is_open g.faults) cube l open_all j)).1
 
   number_is : (v : ℕ) → IsVariable g v → number_of (lows g cube) v ≡ low_in cube v
   number_is v known = made_number g few (low_in cube) v known (low_in-top g.faults cube low_le_top v)
 
-  value_is : (p : ℕ) (o : Option ℕ) → condition_of g p ≡ o → low_of_value (low_in cube) o ≡ value_in_key (lows g cube).values o
+  value_is : (p : ℕ) (o : Option ℕ) → condition_of g p ≡ o →
+      low_of_value (low_in cube) o ≡ value_in_key (lows g cube).values o
   value_is p None e = refl
   value_is p (Some d) e = ap (λ (n : ℕ). n ∷ []) (
       let l = condition_of_below g p d e in
       sym (number_is (value_variable d) (inr (omega arith, omega (arith, l)))) ∙ number_of-value (lows g cube) d)
 
-  pub lows_are_key : (order : List ℕ) → IsPermutation (numbers_below (process_count g)) order → lows_along g order (low_in cube) ≡ key g order (lows g cube)
-  lows_are_key order all = same_flat_map (lows_of g (low_in cube)) (λ p. fault_of (lows g cube) p ∷ value_in_key (lows g cube).values (condition_of g p)) order (λ p m.
+  pub lows_are_key : (order : List ℕ) → IsPermutation (numbers_below (process_count g)) order →
+      lows_along g order (low_in cube) ≡ key g order (lows g cube)
+  lows_are_key order all = same_flat_map (lows_of g (low_in cube))
+      (λ p. fault_of (lows g cube) p ∷ value_in_key (lows g cube).values (condition_of g p)) order (λ p m.
       let l = All-contains (λ p. p < process_count g) order p (within_order (process_count g) order all) m in
-      ap₂ ◌∷◌ (sym (number_is p (inl l)) ∙ number_of-fault (lows g cube) p (omega (arith, l, few))) (value_is p (condition_of g p) refl))
+      ap₂ ◌∷◌ (sym (number_is p (inl l)) ∙ number_of-fault (lows g cube) p (omega (arith, l, few)))
+      (value_is p (condition_of g p) refl))

@@ -1,9 +1,12 @@
 -- Columns with keys, sorted by these, and the columns alone.
 use Rattle.std.proofs.lemmas.List.Elements.{All-tail, Contains-get_or}
 use Rattle.cpg_base.proofs.Lists.{numbers-Contains}
-use Rattle.std.proofs.Common.{Ordering, Less, Equal, Greater, ℕ, suc, ◌+◌, ◌-◌, ◌*◌, ◌<◌, ◌≤◌, ◌≡◌, ◌≢◌, ◌==◌, Bool, true, false, List, [], ◌∷◌, ◌++◌, length, subst, map, get_or, All, Option, None}
-use Rattle.std.proofs.Common.{Some, IsPermutation, nat_lt, if◌then◌else◌, arith, refl, sym, ap, ap₂, ◌∙◌, inl, inr, eq-eqb, ne_eqb, lt-ltb, le-ltb, length-append}
-use Rattle.std.proofs.lemmas.Bool.{cases_Bool, cases_eq, cases_lt, cases_order, cond-true, cond-false, both_ways, false_from_ne_true}
+use Rattle.std.proofs.Common.{Ordering, Less, Equal, Greater, ℕ, suc, ◌+◌, ◌-◌, ◌*◌, ◌<◌, ◌≤◌, ◌≡◌, ◌≢◌, ◌==◌, Bool}
+use Rattle.std.proofs.Common.{true, false, List, [], ◌∷◌, ◌++◌, length, subst, map, get_or, All, Option, None}
+use Rattle.std.proofs.Common.{Some, IsPermutation, nat_lt, if◌then◌else◌, arith, refl, sym, ap, ap₂, ◌∙◌, inl, inr}
+use Rattle.std.proofs.Common.{eq-eqb, ne_eqb, lt-ltb, le-ltb, length-append}
+use Rattle.std.proofs.lemmas.Bool.{cases_Bool, cases_eq, cases_lt, cases_order, cond-true, cond-false, both_ways}
+use Rattle.std.proofs.lemmas.Bool.{false_from_ne_true}
 use Rattle.std.specs.Ordering.{nat_cmp, is_lt, ordering_then}
 use Rattle.std.specs.Cmp.{IsStrictWeakOrder}
 use Rattle.std.specs.Cmp.Lexicographic.{slice_cmp}
@@ -17,7 +20,9 @@ use Rattle.cpg_base.specs.Numbers.{is_below, numbers_below}
 use Rattle.cpg_base.proofs.Below.{below_irreflexive, below_one_way, not_below_transitive, below-cons_less}
 use Rattle.cpg_base.proofs.Keyed.{cmp_less, cmp_same}
 use Rattle.cpg_base.proofs.Pairs.{AllPairs-map}
-use Rattle.cpg_cube.specs.Keys.{low_of_value, lows_of, lows_along, AreByLows, IsFirstByLows, IsFirstByKeys, variable_of_value, variables_of, variables_along, asked_from, key_along, key_by, AreBytes}
+use Rattle.cpg_cube.specs.Keys.{low_of_value, lows_of, lows_along, AreByLows, IsFirstByLows, IsFirstByKeys}
+use Rattle.cpg_cube.specs.Keys.{variable_of_value, variables_of, variables_along, asked_from, key_along, key_by}
+use Rattle.cpg_cube.specs.Keys.{AreBytes}
 use Rattle.cpg_cube.specs.Keys.{IsKeyOf}
 use Rattle.cpg_cube.specs.declared.sorting.Ranked.{Ranked}
 use Rattle.cpg_cube.specs.declared.sorting.Placed.{Placed}
@@ -32,12 +37,14 @@ is_total {T} = ranks_by nat_list_cmp_total (λ (r : Ranked T). r.key.items)
 -- ---- keys tell the order of the lows that they are made of
 
 cmp_more : (x y : ℕ) → y < x → nat_cmp x y ≡ Greater
-cmp_more x y l = cond-false (nat_lt x y) Less _ (le-ltb x y (omega (arith, l))) ∙ cond-false (x == y) Equal Greater (ne_eqb x y (λ e. omega (arith, e, l)))
+cmp_more x y l = cond-false (nat_lt x y) Less _ (le-ltb x y (omega (arith, l)))
+    ∙ cond-false (x == y) Equal Greater (ne_eqb x y (λ e. omega (arith, e, l)))
 
 pub asked_zero : (left x : ℕ) (xs : List ℕ) → x ≡ 0 → asked_from left (x ∷ xs) ≡ asked_from (left - 1) xs
 asked_zero left x xs e = cond-true (x == 0) _ _ (eq-eqb x 0 e)
 
-pub asked_some : (left x : ℕ) (xs : List ℕ) → x ≢ 0 → asked_from left (x ∷ xs) ≡ (left * 256 + x) ∷ asked_from (left - 1) xs
+pub asked_some : (left x : ℕ) (xs : List ℕ) → x ≢ 0 →
+    asked_from left (x ∷ xs) ≡ (left * 256 + x) ∷ asked_from (left - 1) xs
 asked_some left x xs n = cond-false (x == 0) _ _ (ne_eqb x 0 n)
 
 -- the first of two equal ones tell nothing
@@ -50,15 +57,18 @@ more_first x y xs ys l = ap (λ (o : Ordering). is_lt (ordering_then o (slice_cm
 -- lows of bytes and others
 module _ (low high : ℕ → ℕ) (bytes : (v : ℕ) → low v < 256) where
   -- what is asked with fewer places left comes before
-  later_below : (left : ℕ) (vs : List ℕ) (first : ℕ) (rest : List ℕ) → left * 256 + 255 < first → is_below (asked_from left (map low vs)) (first ∷ rest) ≡ true
+  later_below : (left : ℕ) (vs : List ℕ) (first : ℕ) (rest : List ℕ) → left * 256 + 255 < first →
+      is_below (asked_from left (map low vs)) (first ∷ rest) ≡ true
   later_below left [] first rest l = refl
   later_below left (v ∷ vs) first rest l = elim (cases_eq (low v) 0) [
-    | inl e ↦ ap (λ (k : List ℕ). is_below k (first ∷ rest)) (asked_zero left (low v) (map low vs) e) ∙ later_below (left - 1) vs first rest (omega (arith, l))
+    | inl e ↦ ap (λ (k : List ℕ). is_below k (first ∷ rest)) (asked_zero left (low v) (map low vs) e)
+        ∙ later_below (left - 1) vs first rest (omega (arith, l))
     | inr n ↦ ap (λ (k : List ℕ). is_below k (first ∷ rest)) (asked_some left (low v) (map low vs) n) ∙
         below-cons_less (left * 256 + low v) first (asked_from (left - 1) (map low vs)) rest (omega (arith, l, bytes v))
   ]
 
-  asked_below : (left : ℕ) (vs : List ℕ) → length vs ≤ left → is_below (map low vs) (map high vs) ≡ true → is_below (asked_from left (map low vs)) (asked_from left (map high vs)) ≡ true
+  asked_below : (left : ℕ) (vs : List ℕ) → length vs ≤ left → is_below (map low vs) (map high vs) ≡ true →
+      is_below (asked_from left (map low vs)) (asked_from left (map high vs)) ≡ true
   asked_below left [] few h = h
   asked_below left (v ∷ vs) few h =
       let x = low v in
@@ -69,17 +79,22 @@ module _ (low high : ℕ → ℕ) (bytes : (v : ℕ) → low v < 256) where
       let later_ys = asked_from (left - 1) ys in
       elim (cases_order x y) [
         | inl e ↦
-            let inner : is_below later_xs later_ys ≡ true = asked_below (left - 1) vs (omega (arith, few)) (sym (same_first x xs ys) ∙ ap (λ w. is_below (x ∷ xs) (w ∷ ys)) e ∙ h) in
+            let inner : is_below later_xs later_ys ≡ true = asked_below (left - 1) vs (omega (arith, few))
+            (sym (same_first x xs ys) ∙ ap (λ w. is_below (x ∷ xs) (w ∷ ys)) e ∙ h) in
             elim (cases_eq x 0) [
               | inl z ↦ ap₂ is_below (asked_zero left x xs z) (asked_zero left y ys (sym e ∙ z)) ∙ inner
-              | inr n ↦ ap₂ is_below (asked_some left x xs n) (asked_some left y ys (λ z. n (e ∙ z)) ∙ ap (λ w. (left * 256 + w) ∷ later_ys) (sym e))
+              | inr n ↦ ap₂ is_below (asked_some left x xs n)
+                  (asked_some left y ys (λ z. n (e ∙ z)) ∙ ap (λ w. (left * 256 + w) ∷ later_ys) (sym e))
                   ∙ same_first (left * 256 + x) later_xs later_ys ∙ inner
             ]
         | inr (inl l) ↦
-            let there : asked_from left (y ∷ ys) ≡ (left * 256 + y) ∷ later_ys = asked_some left y ys (λ z. omega (arith, l, z)) in
+            let there : asked_from left (y ∷ ys) ≡ (left * 256 + y) ∷ later_ys =
+            asked_some left y ys (λ z. omega (arith, l, z)) in
             elim (cases_eq x 0) [
-              | inl z ↦ ap₂ is_below (asked_zero left x xs z) there ∙ later_below (left - 1) vs (left * 256 + y) later_ys (omega (arith, few, l))
-              | inr n ↦ ap₂ is_below (asked_some left x xs n) there ∙ below-cons_less (left * 256 + x) (left * 256 + y) later_xs later_ys (omega (arith, l))
+              | inl z ↦ ap₂ is_below (asked_zero left x xs z) there
+                  ∙ later_below (left - 1) vs (left * 256 + y) later_ys (omega (arith, few, l))
+              | inr n ↦ ap₂ is_below (asked_some left x xs n) there
+                  ∙ below-cons_less (left * 256 + x) (left * 256 + y) later_xs later_ys (omega (arith, l))
             ]
         | inr (inr l) ↦ absurd (both_ways (is_below (x ∷ xs) (y ∷ ys)) (more_first x y xs ys l) h)
       ]
@@ -88,8 +103,10 @@ module _ (low high : ℕ → ℕ) (bytes : (v : ℕ) → low v < 256) where
 pub low_in-byte : (cube : List Literal) → AreBytes cube → (v : ℕ) → low_in cube v < 256
 low_in-byte [] bytes v = omega arith
 low_in-byte (l ∷ ls) bytes v = elim (cases_eq l.variable v) [
-  | inl e ↦ subst (λ n. n < 256) (sym (cond-true (l.variable == v) l.low (low_in ls v) (eq-eqb l.variable v e))) (bytes 0 l (omega arith))
-  | inr n ↦ subst (λ m. m < 256) (sym (cond-false (l.variable == v) l.low (low_in ls v) (ne_eqb l.variable v n))) (low_in-byte ls (All-tail (λ (m : Literal). m.low < 256) l ls bytes) v)
+  | inl e ↦ subst (λ n. n < 256) (sym (cond-true (l.variable == v) l.low (low_in ls v) (eq-eqb l.variable v e)))
+      (bytes 0 l (omega arith))
+  | inr n ↦ subst (λ m. m < 256) (sym (cond-false (l.variable == v) l.low (low_in ls v) (ne_eqb l.variable v n)))
+      (low_in-byte ls (All-tail (λ (m : Literal). m.low < 256) l ls bytes) v)
 ]
 
 -- ---- a row has as many lows for all cubes
@@ -103,7 +120,8 @@ few_lows g low p = omega (arith, one_or_two low (condition_of g p))
 
 twice_long : (g : Graph) (order : List ℕ) (low : ℕ → ℕ) → length (lows_along g order low) ≤ length order * 2
 twice_long g [] low = omega arith
-twice_long g (p ∷ ps) low = omega (arith, length-append (lows_of g low p) (lows_along g ps low), few_lows g low p, twice_long g ps low)
+twice_long g (p ∷ ps) low =
+    omega (arith, length-append (lows_of g low p) (lows_along g ps low), few_lows g low p, twice_long g ps low)
 
 -- ---- the variables along an order
 
@@ -111,35 +129,49 @@ low_of_variable : (low : ℕ → ℕ) (o : Option ℕ) → map low (variable_of_
 low_of_variable low None = refl
 low_of_variable low (Some c) = refl
 
-pub lows_by_variable : (g : Graph) (order : List ℕ) (low : ℕ → ℕ) → map low (variables_along g order) ≡ lows_along g order low
+pub lows_by_variable : (g : Graph) (order : List ℕ) (low : ℕ → ℕ) →
+    map low (variables_along g order) ≡ lows_along g order low
 lows_by_variable g [] low = refl
 lows_by_variable g (p ∷ ps) low = map-append low (variables_of g p) (variables_along g ps) ∙
     ap₂ ◌++◌ (ap (λ (xs : List ℕ). low p ∷ xs) (low_of_variable low (condition_of g p))) (lows_by_variable g ps low)
 
 pub few_variables : (g : Graph) (order : List ℕ) → length order ≤ 128 → length (variables_along g order) ≤ 256
-few_variables g order few = omega (arith, sym (length-map (variables_along g order) (λ (v : ℕ). v)) ∙ ap length (lows_by_variable g order (λ v. v)), twice_long g order (λ v. v), few)
+few_variables g order few = omega (
+  arith,
+  sym (length-map (variables_along g order) (λ (v : ℕ). v)) ∙ ap length (lows_by_variable g order (λ v. v)),
+  twice_long g order (λ v. v),
+  few,
+)
 
 -- ---- the first by keys
 
 -- the key of a cube by the variables along an order
-pub key_is : (g : Graph) (order variables : List ℕ) → variables ≡ variables_along g order → (cube : List Literal) → key_by variables cube ≡ key_along g order (low_in cube)
-key_is g order variables along cube = ap (λ (vs : List ℕ). key_by vs cube) along ∙ ap (asked_from 256) (lows_by_variable g order (low_in cube))
+pub key_is : (g : Graph) (order variables : List ℕ) → variables ≡ variables_along g order → (cube : List Literal) →
+    key_by variables cube ≡ key_along g order (low_in cube)
+key_is g order variables along cube =
+    ap (λ (vs : List ℕ). key_by vs cube) along ∙ ap (asked_from 256) (lows_by_variable g order (low_in cube))
 
-pub lows_from_keys : (g : Graph) (order : List ℕ) → length order ≤ 128 → (a b : List Literal) → AreBytes a → is_below (key_along g order (low_in a)) (key_along g order (low_in b)) ≡ false →
+pub lows_from_keys : (g : Graph) (order : List ℕ) → length order ≤ 128 → (a b : List Literal) → AreBytes a →
+    is_below (key_along g order (low_in a)) (key_along g order (low_in b)) ≡ false →
     is_below (lows_along g order (low_in a)) (lows_along g order (low_in b)) ≡ false
 lows_from_keys g order few a b bytes h =
     let along = lows_by_variable g order in
     false_from_ne_true _ (λ below. both_ways _ h (
-    ap₂ (λ (xs ys : List ℕ). is_below (asked_from 256 xs) (asked_from 256 ys)) (sym (along (low_in a))) (sym (along (low_in b)))
-    ∙ asked_below (low_in a) (low_in b) (low_in-byte a bytes) 256 (variables_along g order) (few_variables g order few) (ap₂ is_below (along (low_in a)) (along (low_in b)) ∙ below)))
+    ap₂ (λ (xs ys : List ℕ). is_below (asked_from 256 xs) (asked_from 256 ys)) (sym (along (low_in a)))
+    (sym (along (low_in b)))
+    ∙ asked_below (low_in a) (low_in b) (low_in-byte a bytes) 256 (variables_along g order) (few_variables g order few)
+    (ap₂ is_below (along (low_in a)) (along (low_in b)) ∙ below)))
 
 module _ {T : Type 0} (cube : T → List Literal) (columns : List T) where
-  pub first_by_lows : (g : Graph) (order variables : List ℕ) → length order ≤ 128 → variables ≡ variables_along g order → (at : ℕ) → IsFirstByKeys cube variables (length columns) columns at →
+  pub first_by_lows : (g : Graph) (order variables : List ℕ) → length order ≤ 128 →
+      variables ≡ variables_along g order → (at : ℕ) →
+      IsFirstByKeys cube variables (length columns) columns at →
       IsFirstByLows cube g order columns at
   first_by_lows g order variables few along at h = record {
     there = h.there;
     first = λ j d l. lows_from_keys g order few (cube (get_or columns j d)) (cube (get_or columns at d)) (h.bytes j d l)
-        (ap₂ is_below (sym (key_is g order variables along (cube (get_or columns j d)))) (sym (key_is g order variables along (cube (get_or columns at d)))) ∙ h.first j d l);
+        (ap₂ is_below (sym (key_is g order variables along (cube (get_or columns j d))))
+        (sym (key_is g order variables along (cube (get_or columns at d)))) ∙ h.first j d l);
   }
 
   module _ (variables : List ℕ) where
@@ -149,8 +181,10 @@ module _ {T : Type 0} (cube : T → List Literal) (columns : List T) where
     pub first_alone : ((d : T) → AreBytes (cube (get_or columns 0 d))) → IsFirstByKeys cube variables 1 columns 0
     first_alone bytes = record {
       there = omega arith;
-      first = λ j d l. subst (λ i. is_below (key_at i d) (key_at 0 d) ≡ false) (let e : 0 ≡ j = omega (arith, l) in e) (below_irreflexive (key_at 0 d));
-      bytes = λ j d l. subst (λ i. AreBytes (cube (get_or columns i d))) (let e : 0 ≡ j = omega (arith, l) in e) (bytes d);
+      first = λ j d l. subst (λ i. is_below (key_at i d) (key_at 0 d) ≡ false) (let e : 0 ≡ j = omega (arith, l) in
+          e) (below_irreflexive (key_at 0 d));
+      bytes =
+          λ j d l. subst (λ i. AreBytes (cube (get_or columns i d))) (let e : 0 ≡ j = omega (arith, l) in e) (bytes d);
     }
 
     -- the one of the least key of the first n
@@ -158,19 +192,23 @@ module _ {T : Type 0} (cube : T → List Literal) (columns : List T) where
       pub first : IsFirstByKeys cube variables n columns best.place
       pub key : (d : T) → best.key.items ≡ key_at best.place d
 
-    module _ (n : ℕ) (best next : Placed) (h : IsBest n best) (at : next.place ≡ n) (key : (d : T) → IsKeyOf variables (cube (get_or columns next.place d)) next.key.items) where
+    module _ (n : ℕ) (best next : Placed) (h : IsBest n best) (at : next.place ≡ n)
+        (key : (d : T) → IsKeyOf variables (cube (get_or columns next.place d)) next.key.items) where
       -- what is so of the first n and of the next is so of all
-      with_next : (i : ℕ) → ((j : ℕ) (d : T) → j < n → is_below (key_at j d) (key_at i d) ≡ false) → ((d : T) → is_below (key_at next.place d) (key_at i d) ≡ false) → (j : ℕ) (d : T) → j < n + 1 →
+      with_next : (i : ℕ) → ((j : ℕ) (d : T) → j < n → is_below (key_at j d) (key_at i d) ≡ false) →
+          ((d : T) → is_below (key_at next.place d) (key_at i d) ≡ false) → (j : ℕ) (d : T) → j < n + 1 →
           is_below (key_at j d) (key_at i d) ≡ false
       with_next i before after j d l = elim (cases_lt j n) [
         | inl m ↦ before j d m
-        | inr m ↦ subst (λ o. is_below (key_at o d) (key_at i d) ≡ false) (let e : next.place ≡ j = omega (arith, l, m, at) in e) (after d)
+        | inr m ↦ subst (λ o. is_below (key_at o d) (key_at i d) ≡ false) (let e : next.place ≡ j =
+            omega (arith, l, m, at) in e) (after d)
       ]
 
       all_bytes : (j : ℕ) (d : T) → j < n + 1 → AreBytes (cube (get_or columns j d))
       all_bytes j d l = elim (cases_lt j n) [
         | inl m ↦ h.first.bytes j d m
-        | inr m ↦ subst (λ o. AreBytes (cube (get_or columns o d))) (let e : next.place ≡ j = omega (arith, l, m, at) in e) (key d).bytes
+        | inr m ↦ subst (λ o. AreBytes (cube (get_or columns o d))) (let e : next.place ≡ j = omega (arith, l, m, at) in
+            e) (key d).bytes
       ]
 
       stays : is_below next.key.items best.key.items ≡ false → IsBest (n + 1) best
@@ -187,41 +225,53 @@ module _ {T : Type 0} (cube : T → List Literal) (columns : List T) where
       comes t = record {
         first = record {
           there = omega (arith, at);
-          first = with_next next.place (λ j d l. not_below_transitive (key_at next.place d) (key_at best.place d) (key_at j d)
-              (below_one_way (key_at next.place d) (key_at best.place d) (ap₂ is_below (sym (key d).is) (sym (h.key d)) ∙ t)) (h.first.first j d l))
+          first = with_next next.place
+              (λ j d l. not_below_transitive (key_at next.place d) (key_at best.place d) (key_at j d)
+              (below_one_way (key_at next.place d) (key_at best.place d)
+              (ap₂ is_below (sym (key d).is) (sym (h.key d)) ∙ t)) (h.first.first j d l))
               (λ d. below_irreflexive (key_at next.place d));
           bytes = all_bytes;
         };
         key = λ d. (key d).is;
       }
 
-      pub best_next : (new : Placed) → new ≡ (if is_below next.key.items best.key.items then next else best) → IsBest (n + 1) new
+      pub best_next : (new : Placed) → new ≡ (if is_below next.key.items best.key.items then next else best) →
+          IsBest (n + 1) new
       best_next new is = elim (cases_Bool (is_below next.key.items best.key.items)) [
-        | inl t ↦ subst (IsBest (n + 1)) (sym (is ∙ cond-true (is_below next.key.items best.key.items) next best t)) (comes t)
-        | inr f ↦ subst (IsBest (n + 1)) (sym (is ∙ cond-false (is_below next.key.items best.key.items) next best f)) (stays f)
+        | inl t ↦
+            subst (IsBest (n + 1)) (sym (is ∙ cond-true (is_below next.key.items best.key.items) next best t)) (comes t)
+        | inr f ↦ subst (IsBest (n + 1))
+            (sym (is ∙ cond-false (is_below next.key.items best.key.items) next best f)) (stays f)
       ]
 
 -- ---- so columns that stand by keys stand by lows
 
-pub by_lows : {T : Type 0} (cube : T → List Literal) (g : Graph) (order variables : List ℕ) → length order ≤ 128 → variables ≡ variables_along g order → (before after : List (Ranked T)) →
-    All (λ r. IsKeyOf variables (cube r.column) r.key.items) before → IsPermutation before after → IsSortedBy is_key_below after → AreByLows cube g order (map (λ r. r.column) after)
+pub by_lows : {T : Type 0} (cube : T → List Literal) (g : Graph) (order variables : List ℕ) → length order ≤ 128 →
+    variables ≡ variables_along g order →
+    (before after : List (Ranked T)) →
+    All (λ r. IsKeyOf variables (cube r.column) r.key.items) before → IsPermutation before after →
+    IsSortedBy is_key_below after → AreByLows cube g order (map (λ r. r.column) after)
 by_lows {T} cube g order variables few along before after keys p up =
-    AllPairs-map (λ (a b : Ranked T). is_below (lows_along g order (low_in (cube b.column))) (lows_along g order (low_in (cube a.column))) ≡ false)
+    AllPairs-map (λ (a b : Ranked T).
+    is_below (lows_along g order (low_in (cube b.column))) (lows_along g order (low_in (cube a.column))) ≡ false)
     (λ (c d : T). is_below (lows_along g order (low_in (cube d))) (lows_along g order (low_in (cube c))) ≡ false)
     (λ (r : Ranked T). r.column) after (λ a b h. h)
     (λ i j d l k.
     let a = cube (get_or after i d).column in
     let b = cube (get_or after j d).column in
     let all = All-permutation (λ (r : Ranked T). IsKeyOf variables (cube r.column) r.key.items) before after p keys in
-    let key_a : (get_or after i d).key.items ≡ key_along g order (low_in a) = (all i d (omega arith)).is ∙ key_is g order variables along a in
-    let key_b : (get_or after j d).key.items ≡ key_along g order (low_in b) = (all j d k).is ∙ key_is g order variables along b in
+    let key_a : (get_or after i d).key.items ≡ key_along g order (low_in a) =
+    (all i d (omega arith)).is ∙ key_is g order variables along a in
+    let key_b : (get_or after j d).key.items ≡ key_along g order (low_in b) =
+    (all j d k).is ∙ key_is g order variables along b in
     let sorted : is_below (key_along g order (low_in b)) (key_along g order (low_in a)) ≡ false =
     ap₂ is_below (sym key_b) (sym key_a) ∙ sorted_far is_key_below is_total after up i j d (omega arith) k in
     lows_from_keys g order few b a (all j d k).bytes sorted)
 
 -- each process of an order is below how many there are
 pub within_order : (n : ℕ) (order : List ℕ) → IsPermutation (numbers_below n) order → All (λ p. p < n) order
-within_order n order p = All-permutation (λ p. p < n) (numbers_below n) order p (λ k d l. numbers-Contains n (get_or (numbers_below n) k d) (Contains-get_or (numbers_below n) k d l))
+within_order n order p = All-permutation (λ p. p < n) (numbers_below n) order p
+    (λ k d l. numbers-Contains n (get_or (numbers_below n) k d) (Contains-get_or (numbers_below n) k d l))
 
 -- equal lists are permutations
 pub permutation_of_equal : {T : Type 0} (xs ys : List T) → xs ≡ ys → IsPermutation xs ys

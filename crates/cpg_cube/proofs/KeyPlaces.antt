@@ -1,22 +1,30 @@
--- A key made of a cube's literals one by one, by the places of their variables, is that of the lows along the variables.
-use Rattle.std.proofs.Common.{ℕ, suc, ◌-◌, ◌+◌, ◌*◌, ◌<◌, ◌≤◌, ◌≡◌, ◌≢◌, ◌⊎◌, ◌==◌, true, false, zero, List, [], ◌∷◌, ◌++◌, length, map, take, drop, get_or, replicate, Contains, Option, Some, None}
-use Rattle.std.proofs.Common.{IsPermutation, nat_lt, arith, refl, sym, ap, ap₂, ◌∙◌, subst, inl, inr, eq-eqb, ne_eqb, lt-ltb, le-ltb, append_assoc}
+-- A key made of a cube's literals one by one, by the places of their variables, is that of the lows along the
+-- variables.
+use Rattle.std.proofs.Common.{ℕ, suc, ◌-◌, ◌+◌, ◌*◌, ◌<◌, ◌≤◌, ◌≡◌, ◌≢◌, ◌⊎◌, ◌==◌, true, false, zero, List, [], ◌∷◌}
+use Rattle.std.proofs.Common.{◌++◌, length, map, take, drop, get_or, replicate, Contains, Option, Some, None}
+use Rattle.std.proofs.Common.{IsPermutation, nat_lt, arith, refl, sym, ap, ap₂, ◌∙◌, subst, inl, inr, eq-eqb, ne_eqb}
+use Rattle.std.proofs.Common.{lt-ltb, le-ltb, append_assoc}
 use Rattle.std.specs.Prelude.{slice_set, slice_index_or, insert}
 use Rattle.std.specs.List.{AllPairs, list_all}
 use Rattle.std.proofs.lemmas.Bool.{and_parts, cases_eq, cases_lt, cond-true, cond-false, eqb-true}
-use Rattle.std.proofs.lemmas.List.{append-nil, get_or-replicate, get_or_past, get_or-set_same, get_or-set_other, get_or-take, get_or_default, length-take-le, take_more, drop_more}
-use Rattle.std.proofs.lemmas.List.Elements.{All-contains, All-nil, All-push, All-tail, Contains-get_or, Contains-push_cases}
+use Rattle.std.proofs.lemmas.List.{append-nil, get_or-replicate, get_or_past, get_or-set_same, get_or-set_other}
+use Rattle.std.proofs.lemmas.List.{get_or-take, get_or_default, length-take-le, take_more, drop_more}
+use Rattle.std.proofs.lemmas.List.Elements.{All-contains, All-nil, All-push, All-tail, Contains-get_or}
+use Rattle.std.proofs.lemmas.List.Elements.{Contains-push_cases}
 use Rattle.cpg_base.specs.Graph.{Graph, process_count, process_of, condition_of, value_variable}
 use Rattle.cpg_base.specs.Numbers.{is_below, numbers_below}
 use Rattle.cpg_base.proofs.Lists.{Contains-first, Contains-rest, Contains-cases, Contains-nil, from_all, same_map}
-use Rattle.cpg_base.proofs.Pairs.{AllPairs-first, AllPairs-rest, AllPairs-nil, AllPairs-cons_by, AllPairs-flat_map_in, order_apart}
+use Rattle.cpg_base.proofs.Pairs.{AllPairs-first, AllPairs-rest, AllPairs-nil, AllPairs-cons_by, AllPairs-flat_map_in}
+use Rattle.cpg_base.proofs.Pairs.{order_apart}
 use Rattle.cpg_base.proofs.ConditionProcesses.{process_of_condition_of}
 use Rattle.cpg_cube.specs.Cube.{Literal, IsRising, low_in}
-use Rattle.cpg_cube.specs.Keys.{asked_from, key_by, left_at, AreBytes, ArePlaces, place_in, with_number, with_any_asked, with_low_of, with_lows_of, variable_of_value, variables_of, variables_along}
+use Rattle.cpg_cube.specs.Keys.{asked_from, key_by, left_at, AreBytes, ArePlaces, place_in, with_number, with_any_asked}
+use Rattle.cpg_cube.specs.Keys.{with_low_of, with_lows_of, variable_of_value, variables_of, variables_along}
 use Rattle.cpg_cube.specs.Keys.{lows_along}
 use Rattle.cpg_cube.proofs.BoundSteps.{low_in-last, low_in-before}
 use Rattle.cpg_cube.proofs.CubeLows.{low_in-none}
-use Rattle.cpg_cube.proofs.KeyOrder.{asked_zero, asked_some, low_in-byte, lows_by_variable, more_first, same_first, within_order}
+use Rattle.cpg_cube.proofs.KeyOrder.{asked_zero, asked_some, low_in-byte, lows_by_variable, more_first, same_first}
+use Rattle.cpg_cube.proofs.KeyOrder.{within_order}
 use Rattle.cpg_cube.proofs.Ranges.{rising_first, rising_rest}
 
 -- ---- places, variable by variable
@@ -34,9 +42,11 @@ left_le left (u ∷ us) v = elim (cases_eq u v) [
   | inr n ↦ omega (arith, left_later left u v us n, left_le (left - 1) us v)
 ]
 
-left_last : (left : ℕ) (us : List ℕ) (v : ℕ) → ((u : ℕ) → Contains us u → u ≢ v) → left_at left (us ++ v ∷ []) v ≡ left - length us
+left_last : (left : ℕ) (us : List ℕ) (v : ℕ) → ((u : ℕ) → Contains us u → u ≢ v) →
+    left_at left (us ++ v ∷ []) v ≡ left - length us
 left_last left [] v h = left_here left v v [] refl ∙ omega arith
-left_last left (u ∷ us) v h = left_later left u v (us ++ v ∷ []) (h u (Contains-first u us)) ∙ left_last (left - 1) us v (λ w c. h w (Contains-rest u us w c)) ∙ omega arith
+left_last left (u ∷ us) v h = left_later left u v (us ++ v ∷ []) (h u (Contains-first u us))
+    ∙ left_last (left - 1) us v (λ w c. h w (Contains-rest u us w c)) ∙ omega arith
 
 left_before : (left : ℕ) (us : List ℕ) (w v : ℕ) → w ≢ v → left_at left (us ++ w ∷ []) v ≡ left_at left us v
 left_before left [] w v n = left_later left w v [] n
@@ -51,22 +61,29 @@ places_none v = elim (cases_lt v 256) [
   | inr m ↦ get_or_past (replicate 256 0) v 0 m
 ]
 
-pub places_more : (vs : List ℕ) → AllPairs (λ u v. u ≢ v) vs → (i d left : ℕ) → i < length vs → left + i ≡ 256 → (places : List ℕ) → length places ≡ 256 → slice_index_or vs i d < 256 →
+pub places_more : (vs : List ℕ) → AllPairs (λ u v. u ≢ v) vs → (i d left : ℕ) → i < length vs → left + i ≡ 256 →
+    (places : List ℕ) → length places ≡ 256 →
+    slice_index_or vs i d < 256 →
     ((v : ℕ) → get_or places v 0 ≡ left_at 256 (take i vs) v)
     → (v : ℕ) → get_or (slice_set places (slice_index_or vs i d) left) v 0 ≡ left_at 256 (take (i + 1) vs) v
 places_more vs apart i d left within is places long small h v =
     let u = slice_index_or vs i d in
-    subst (λ us. get_or (slice_set places u left) v 0 ≡ left_at 256 us v) (sym (take_more vs i d within)) (elim (cases_eq u v) [
+    subst (λ us. get_or (slice_set places u left) v 0 ≡ left_at 256 us v) (sym (take_more vs i d within))
+    (elim (cases_eq u v) [
       | inl e ↦ subst (λ w. get_or (slice_set places u left) w 0 ≡ left_at 256 (take i vs ++ u ∷ []) w) e
-          (get_or-set_same places u left 0 (omega (arith, small, long)) ∙ sym (left_last 256 (take i vs) u (other_before vs apart i d within) ∙ count vs i left within is))
+          (get_or-set_same places u left 0 (omega (arith, small, long))
+          ∙ sym (left_last 256 (take i vs) u (other_before vs apart i d within) ∙ count vs i left within is))
       | inr n ↦ get_or-set_other places u v left 0 (λ e. n (sym e)) ∙ h v ∙ sym (left_before 256 (take i vs) u v n)
     ])
   where
-    other_before : (vs : List ℕ) → AllPairs (λ u v. u ≢ v) vs → (i d : ℕ) → i < length vs → (w : ℕ) → Contains (take i vs) w → w ≢ slice_index_or vs i d
+    other_before : (vs : List ℕ) → AllPairs (λ u v. u ≢ v) vs → (i d : ℕ) → i < length vs → (w : ℕ) →
+        Contains (take i vs) w →
+        w ≢ slice_index_or vs i d
     other_before vs apart i d within w c e =
         let long = length-take-le i vs (omega arith) in
         let place : c.0 < i = omega arith in
-        let same : w ≡ get_or vs c.0 d = sym c.2 ∙ get_or-take i vs c.0 w place ∙ get_or_default vs c.0 w d (omega arith) in
+        let same : w ≡ get_or vs c.0 d =
+        sym c.2 ∙ get_or-take i vs c.0 w place ∙ get_or_default vs c.0 w d (omega arith) in
         apart c.0 i d place within (sym same ∙ e)
 
     count : (vs : List ℕ) (i left : ℕ) → i < length vs → left + i ≡ 256 → 256 - length (take i vs) ≡ left
@@ -80,15 +97,20 @@ stop_at number a key t = cond-true (nat_lt a number) 0 (suc (place_in number key
 go_on : (number a : ℕ) (key : List ℕ) → nat_lt a number ≡ false → place_in number (a ∷ key) ≡ suc (place_in number key)
 go_on number a key f = cond-false (nat_lt a number) 0 (suc (place_in number key)) f
 
-pub place_here : (number at all : ℕ) (key : List ℕ) → at < length key → nat_lt (slice_index_or key at 0) number ≡ true → all ≡ at + place_in number (drop at key) → at ≡ all
+pub place_here : (number at all : ℕ) (key : List ℕ) → at < length key → nat_lt (slice_index_or key at 0) number ≡ true →
+    all ≡ at + place_in number (drop at key) → at ≡ all
 place_here number at all key within t is =
-    let none : place_in number (drop at key) ≡ 0 = ap (place_in number) (drop_more key at 0 within) ∙ stop_at number (slice_index_or key at 0) (drop (at + 1) key) t in
+    let none : place_in number (drop at key) ≡ 0 = ap (place_in number) (drop_more key at 0 within)
+    ∙ stop_at number (slice_index_or key at 0) (drop (at + 1) key) t in
     omega (arith, none, is)
 
-pub place_next : (number at all : ℕ) (key : List ℕ) → at < length key → nat_lt (slice_index_or key at 0) number ≡ false → all ≡ at + place_in number (drop at key) →
+pub place_next : (number at all : ℕ) (key : List ℕ) → at < length key →
+    nat_lt (slice_index_or key at 0) number ≡ false →
+    all ≡ at + place_in number (drop at key) →
     all ≡ at + 1 + place_in number (drop (at + 1) key)
 place_next number at all key within f is =
-    let on : place_in number (drop at key) ≡ suc (place_in number (drop (at + 1) key)) = ap (place_in number) (drop_more key at 0 within) ∙
+    let on : place_in number (drop at key) ≡ suc (place_in number (drop (at + 1) key)) =
+    ap (place_in number) (drop_more key at 0 within) ∙
     go_on number (slice_index_or key at 0) (drop (at + 1) key) f in
     omega (arith, on, is)
 
@@ -102,10 +124,12 @@ insert_at (k ∷ key) (suc i) x l = ap (λ ks. k ∷ ks) (insert_at key i x (ome
 put_front : (number : ℕ) (key : List ℕ) → place_in number key ≡ 0 → with_number number key ≡ number ∷ key
 put_front number key e = ap (λ n. take n key ++ number ∷ drop n key) e
 
-put_past : (p low a : ℕ) (key : List ℕ) → p * 256 + low ≤ a → with_any_asked p low (a ∷ key) ≡ a ∷ with_any_asked p low key
+put_past : (p low a : ℕ) (key : List ℕ) → p * 256 + low ≤ a →
+    with_any_asked p low (a ∷ key) ≡ a ∷ with_any_asked p low key
 put_past p low a key l = elim (cases_eq p 0) [
   | inl z ↦ none (a ∷ key) z ∙ ap (λ k. a ∷ k) (sym (none key z))
-  | inr n ↦ some (a ∷ key) n ∙ ap (λ m. take m (a ∷ key) ++ (p * 256 + low) ∷ drop m (a ∷ key)) (go_on (p * 256 + low) a key (le-ltb a (p * 256 + low) l)) ∙ ap (λ k. a ∷ k) (sym (some key n))
+  | inr n ↦ some (a ∷ key) n ∙ ap (λ m. take m (a ∷ key) ++ (p * 256 + low) ∷ drop m (a ∷ key))
+      (go_on (p * 256 + low) a key (le-ltb a (p * 256 + low) l)) ∙ ap (λ k. a ∷ k) (sym (some key n))
 ]
   where
     none : (key : List ℕ) → p ≡ 0 → with_any_asked p low key ≡ key
@@ -115,17 +139,22 @@ put_past p low a key l = elim (cases_eq p 0) [
     some key n = cond-false (p == 0) key (with_number (p * 256 + low) key) (ne_eqb p 0 n)
 
 -- before all that have fewer places left
-front : (f : ℕ → ℕ) → ((u : ℕ) → f u < 256) → (number left : ℕ) (vs : List ℕ) → left * 256 + 255 < number → place_in number (asked_from left (map f vs)) ≡ 0
+front : (f : ℕ → ℕ) → ((u : ℕ) → f u < 256) → (number left : ℕ) (vs : List ℕ) → left * 256 + 255 < number →
+    place_in number (asked_from left (map f vs)) ≡ 0
 front f bytes number left [] l = refl
 front f bytes number left (v ∷ vs) l = elim (cases_eq (f v) 0) [
-  | inl z ↦ ap (place_in number) (asked_zero left (f v) (map f vs) z) ∙ front f bytes number (left - 1) vs (omega (arith, l))
-  | inr n ↦ ap (place_in number) (asked_some left (f v) (map f vs) n) ∙ stop_at number (left * 256 + f v) (asked_from (left - 1) (map f vs))
+  | inl z ↦ ap (place_in number) (asked_zero left (f v) (map f vs) z)
+      ∙ front f bytes number (left - 1) vs (omega (arith, l))
+  | inr n ↦ ap (place_in number) (asked_some left (f v) (map f vs) n)
+      ∙ stop_at number (left * 256 + f v) (asked_from (left - 1) (map f vs))
       (lt-ltb (left * 256 + f v) number (omega (arith, l, bytes v)))
 ]
 
 -- lows that differ at one variable, if the first has none
-module _ (v : ℕ) (f g : ℕ → ℕ) (nothing : f v ≡ 0) (something : g v ≢ 0) (others : (u : ℕ) → u ≢ v → g u ≡ f u) (bytes : (u : ℕ) → f u < 256) (byte : g v < 256) where
-  inserted : (left : ℕ) (vs : List ℕ) → AllPairs (λ u w. u ≢ w) vs → length vs ≤ left → with_any_asked (left_at left vs v) (g v) (asked_from left (map f vs)) ≡ asked_from left (map g vs)
+module _ (v : ℕ) (f g : ℕ → ℕ) (nothing : f v ≡ 0) (something : g v ≢ 0) (others : (u : ℕ) → u ≢ v → g u ≡ f u)
+    (bytes : (u : ℕ) → f u < 256) (byte : g v < 256) where
+  inserted : (left : ℕ) (vs : List ℕ) → AllPairs (λ u w. u ≢ w) vs → length vs ≤ left →
+      with_any_asked (left_at left vs v) (g v) (asked_from left (map f vs)) ≡ asked_from left (map g vs)
   inserted left [] apart few = refl
   inserted left (u ∷ us) apart few =
       let rest = AllPairs-rest (λ u w. u ≢ w) u us apart in
@@ -133,10 +162,14 @@ module _ (v : ℕ) (f g : ℕ → ℕ) (nothing : f v ≡ 0) (something : g v �
       let key = asked_from (left - 1) (map f us) in
       elim (cases_eq u v) [
         | inl e ↦
-            let same : map g us ≡ map f us = same_map g f us (λ w c. others w (λ d. AllPairs-first (λ u w. u ≢ w) u us apart w c (e ∙ sym d))) in
-            ap₂ (λ p k. with_any_asked p (g v) k) (left_here left u v us e) (asked_zero left (f u) (map f us) (ap f e ∙ nothing))
-            ∙ cond-false (left == 0) key (with_number (left * 256 + g v) key) (ne_eqb left 0 (λ z. omega (arith, z, few)))
-            ∙ put_front (left * 256 + g v) key (front f bytes (left * 256 + g v) (left - 1) us (omega (arith, few, something)))
+            let same : map g us ≡ map f us =
+            same_map g f us (λ w c. others w (λ d. AllPairs-first (λ u w. u ≢ w) u us apart w c (e ∙ sym d))) in
+            ap₂ (λ p k. with_any_asked p (g v) k) (left_here left u v us e)
+            (asked_zero left (f u) (map f us) (ap f e ∙ nothing))
+            ∙ cond-false (left == 0) key (with_number (left * 256 + g v) key)
+            (ne_eqb left 0 (λ z. omega (arith, z, few)))
+            ∙ put_front (left * 256 + g v) key
+            (front f bytes (left * 256 + g v) (left - 1) us (omega (arith, few, something)))
             ∙ ap₂ (λ w xs. (left * 256 + w) ∷ asked_from (left - 1) xs) (ap g (sym e)) (sym same)
             ∙ sym (asked_some left (g u) (map g us) (λ z. something (ap g (sym e) ∙ z)))
         | inr n ↦
@@ -144,7 +177,8 @@ module _ (v : ℕ) (f g : ℕ → ℕ) (nothing : f v ≡ 0) (something : g v �
             let within = inserted (left - 1) us rest few_rest in
             ap (λ q. with_any_asked q (g v) (asked_from left (f u ∷ map f us))) (left_later left u v us n)
             ∙ elim (cases_eq (f u) 0) [
-              | inl z ↦ ap (with_any_asked p (g v)) (asked_zero left (f u) (map f us) z) ∙ within ∙ sym (asked_zero left (g u) (map g us) (others u n ∙ z))
+              | inl z ↦ ap (with_any_asked p (g v)) (asked_zero left (f u) (map f us) z) ∙ within
+                  ∙ sym (asked_zero left (g u) (map g us) (others u n ∙ z))
               | inr m ↦ ap (with_any_asked p (g v)) (asked_some left (f u) (map f us) m)
                   ∙ put_past p (g v) (left * 256 + f u) key (omega (arith, left_le (left - 1) us v, few, byte))
                   ∙ ap₂ (λ w k. (left * 256 + w) ∷ k) (sym (others u n)) within
@@ -156,34 +190,43 @@ module _ (v : ℕ) (f g : ℕ → ℕ) (nothing : f v ≡ 0) (something : g v �
 
 module _ (variables places : List ℕ) (are : ArePlaces variables places) where
   -- the low of a literal above the others
-  one_more : (done : List Literal) (l : Literal) → AreBytes done → l.low < 256 → ((m : Literal) → Contains done m → m.variable < l.variable) →
+  one_more : (done : List Literal) (l : Literal) → AreBytes done → l.low < 256 →
+      ((m : Literal) → Contains done m → m.variable < l.variable) →
       with_low_of places l (key_by variables done) ≡ key_by variables (done ++ l ∷ [])
   one_more done l bytes byte lower =
       let new : low_in (done ++ l ∷ []) l.variable ≡ l.low = low_in-last done l lower in
       let old : low_in done l.variable ≡ 0 = low_in-none done l.variable (λ m c e. omega (arith, lower m c, e)) in
-      let others : (u : ℕ) → u ≢ l.variable → low_in (done ++ l ∷ []) u ≡ low_in done u = λ u n. low_in-before done l u (λ e. n (sym e)) in
+      let others : (u : ℕ) → u ≢ l.variable → low_in (done ++ l ∷ []) u ≡ low_in done u =
+      λ u n. low_in-before done l u (λ e. n (sym e)) in
       let key = key_by variables done in
       elim (cases_eq l.low 0) [
         | inl z ↦ cond-true (l.low == 0) key (with_any_asked (get_or places l.variable 0) l.low key) (eq-eqb l.low 0 z)
-            ∙ ap (asked_from 256) (same_map (low_in done) (low_in (done ++ l ∷ [])) variables (λ u c. same done l u old (new ∙ z) others))
+            ∙ ap (asked_from 256)
+            (same_map (low_in done) (low_in (done ++ l ∷ [])) variables (λ u c. same done l u old (new ∙ z) others))
         | inr n ↦ cond-false (l.low == 0) key (with_any_asked (get_or places l.variable 0) l.low key) (ne_eqb l.low 0 n)
             ∙ ap₂ (λ p w. with_any_asked p w key) (are.left l.variable) (sym new)
-            ∙ inserted l.variable (low_in done) (low_in (done ++ l ∷ [])) old (λ z. n (sym new ∙ z)) others (low_in-byte done bytes) (omega (arith, new, byte)) 256 variables are.apart are.few
+            ∙ inserted l.variable (low_in done) (low_in (done ++ l ∷ [])) old (λ z. n (sym new ∙ z)) others
+            (low_in-byte done bytes) (omega (arith, new, byte)) 256 variables are.apart are.few
       ]
     where
-      same : (done : List Literal) (l : Literal) (u : ℕ) → low_in done l.variable ≡ 0 → low_in (done ++ l ∷ []) l.variable ≡ 0 →
-          ((u : ℕ) → u ≢ l.variable → low_in (done ++ l ∷ []) u ≡ low_in done u) → low_in done u ≡ low_in (done ++ l ∷ []) u
+      same : (done : List Literal) (l : Literal) (u : ℕ) → low_in done l.variable ≡ 0 →
+          low_in (done ++ l ∷ []) l.variable ≡ 0 →
+          ((u : ℕ) → u ≢ l.variable → low_in (done ++ l ∷ []) u ≡ low_in done u) →
+          low_in done u ≡ low_in (done ++ l ∷ []) u
       same done l u old new others = elim (cases_eq u l.variable) [
         | inl e ↦ ap (low_in done) e ∙ old ∙ sym new ∙ ap (low_in (done ++ l ∷ [])) (sym e)
         | inr n ↦ sym (others u n)
       ]
 
-  all_more : (done ls : List Literal) → AreBytes done → AreBytes ls → IsRising ls → ((m l : Literal) → Contains done m → Contains ls l → m.variable < l.variable) →
+  all_more : (done ls : List Literal) → AreBytes done → AreBytes ls → IsRising ls →
+      ((m l : Literal) → Contains done m → Contains ls l → m.variable < l.variable) →
       with_lows_of places ls (key_by variables done) ≡ key_by variables (done ++ ls)
   all_more done [] before bytes rising lower = ap (key_by variables) (sym (append-nil done))
   all_more done (l ∷ ls) before bytes rising lower =
-      ap (with_lows_of places ls) (one_more done l before (bytes 0 l (omega arith)) (λ m c. lower m l c (Contains-first l ls)))
-      ∙ all_more (done ++ l ∷ []) ls (All-push is_byte done l before (bytes 0 l (omega arith))) (All-tail is_byte l ls bytes) (rising_rest l ls rising)
+      ap (with_lows_of places ls)
+      (one_more done l before (bytes 0 l (omega arith)) (λ m c. lower m l c (Contains-first l ls)))
+      ∙ all_more (done ++ l ∷ []) ls (All-push is_byte done l before (bytes 0 l (omega arith)))
+      (All-tail is_byte l ls bytes) (rising_rest l ls rising)
       (λ m n c d. elim (Contains-push_cases done l m c) [
         | inl k ↦ lower m n k (Contains-rest l ls n d)
         | inr e ↦ subst (λ (x : Literal). x.variable < n.variable) e (rising_first l n ls rising d)
@@ -193,7 +236,9 @@ module _ (variables places : List ℕ) (are : ArePlaces variables places) where
       is_byte : Literal → Type 0
       is_byte m = m.low < 256
 
-  pub key_made : (cube : List Literal) → AreBytes cube → IsRising cube → (key : List ℕ) → with_lows_of places cube [] ≡ key → key ≡ key_by variables cube
+  pub key_made : (cube : List Literal) → AreBytes cube → IsRising cube → (key : List ℕ) →
+      with_lows_of places cube [] ≡ key →
+      key ≡ key_by variables cube
   key_made cube bytes rising key is = sym is ∙ ap (with_lows_of places cube) (sym (empty 256 variables)) ∙
       all_more [] cube (All-nil (λ (l : Literal). l.low < 256)) bytes rising (λ m l c d. absurd (Contains-nil m c))
     where
@@ -203,18 +248,26 @@ module _ (variables places : List ℕ) (are : ArePlaces variables places) where
 
 -- ---- a key block by block
 
-pub lows_after : (places : List ℕ) (block rest : List Literal) (key : List ℕ) → with_lows_of places (block ++ rest) key ≡ with_lows_of places rest (with_lows_of places block key)
+pub lows_after : (places : List ℕ) (block rest : List Literal) (key : List ℕ) →
+    with_lows_of places (block ++ rest) key ≡ with_lows_of places rest (with_lows_of places block key)
 lows_after places [] rest key = refl
 lows_after places (l ∷ block) rest key = lows_after places block rest (with_low_of places l key)
 
-pub none_put : (places : List ℕ) (ls : List Literal) (key : List ℕ) → list_all (λ (l : Literal). l.low == 0) ls ≡ true → with_lows_of places ls key ≡ key
+pub none_put : (places : List ℕ) (ls : List Literal) (key : List ℕ) → list_all (λ (l : Literal). l.low == 0) ls ≡ true →
+    with_lows_of places ls key ≡ key
 none_put places [] key h = refl
 none_put places (l ∷ ls) key h =
     let parts = and_parts (l.low == 0) (list_all (λ (m : Literal). m.low == 0) ls) h in
-    ap (with_lows_of places ls) (cond-true (l.low == 0) key (with_any_asked (get_or places l.variable 0) l.low key) parts.0) ∙ none_put places ls key parts.1
+    ap (with_lows_of places ls)
+    (cond-true (l.low == 0) key (with_any_asked (get_or places l.variable 0) l.low key) parts.0)
+    ∙ none_put places ls key parts.1
 
 pub bytes_of_none : (ls : List Literal) → list_all (λ (l : Literal). l.low == 0) ls ≡ true → AreBytes ls
-bytes_of_none ls h k d l = omega (arith, eqb-true (get_or ls k d).low 0 (from_all (λ (m : Literal). m.low == 0) ls (get_or ls k d) h (Contains-get_or ls k d l)))
+bytes_of_none ls h k d l = omega (
+  arith,
+  eqb-true (get_or ls k d).low 0
+      (from_all (λ (m : Literal). m.low == 0) ls (get_or ls k d) h (Contains-get_or ls k d l)),
+)
 
 -- ---- the variables along an order are each there once
 
@@ -223,29 +276,34 @@ module _ (g : Graph) (few : process_count g ≤ 128) where
   own_apart p l = one p l (condition_of g p)
     where
       one : (p : ℕ) → p < process_count g → (o : Option ℕ) → AllPairs (λ u v. u ≢ v) (p ∷ variable_of_value o)
-      one p l None = AllPairs-cons_by (λ u v. u ≢ v) p [] (λ y c. absurd (Contains-nil y c)) (AllPairs-nil (λ u v. u ≢ v))
+      one p l None =
+          AllPairs-cons_by (λ u v. u ≢ v) p [] (λ y c. absurd (Contains-nil y c)) (AllPairs-nil (λ u v. u ≢ v))
       one p l (Some c) = AllPairs-cons_by (λ u v. u ≢ v) p (value_variable c ∷ [])
           (λ y k e. elim (Contains-cases (value_variable c) [] y k) [
             | inl is ↦ omega (arith, is, e, l, few)
             | inr k ↦ Contains-nil y k
           ])
-          (AllPairs-cons_by (λ u v. u ≢ v) (value_variable c) [] (λ y k. absurd (Contains-nil y k)) (AllPairs-nil (λ u v. u ≢ v)))
+          (AllPairs-cons_by (λ u v. u ≢ v) (value_variable c) [] (λ y k. absurd (Contains-nil y k))
+          (AllPairs-nil (λ u v. u ≢ v)))
 
   -- the process that a variable is of
-  own_cases : (p v : ℕ) → Contains (variables_of g p) v → (p ≡ v) ⊎ ((c : ℕ) × (condition_of g p ≡ Some c) × (value_variable c ≡ v))
+  own_cases : (p v : ℕ) → Contains (variables_of g p) v →
+      (p ≡ v) ⊎ ((c : ℕ) × (condition_of g p ≡ Some c) × (value_variable c ≡ v))
   own_cases p v k = elim (Contains-cases p (variable_of_value (condition_of g p)) v k) [
     | inl e ↦ inl e
     | inr m ↦ inr (of_value (condition_of g p) refl m)
   ]
     where
-      of_value : (o : Option ℕ) → condition_of g p ≡ o → Contains (variable_of_value o) v → (c : ℕ) × (condition_of g p ≡ Some c) × (value_variable c ≡ v)
+      of_value : (o : Option ℕ) → condition_of g p ≡ o → Contains (variable_of_value o) v →
+          (c : ℕ) × (condition_of g p ≡ Some c) × (value_variable c ≡ v)
       of_value None e m = absurd (Contains-nil v m)
       of_value (Some c) e m = elim (Contains-cases (value_variable c) [] v m) [
         | inl is ↦ (c, e, is)
         | inr n ↦ absurd (Contains-nil v n)
       ]
 
-  across : (p q u v : ℕ) → p < process_count g → q < process_count g → p ≢ q → Contains (variables_of g p) u → Contains (variables_of g q) v → u ≢ v
+  across : (p q u v : ℕ) → p < process_count g → q < process_count g → p ≢ q → Contains (variables_of g p) u →
+      Contains (variables_of g q) v → u ≢ v
   across p q u v l m n j k e = elim (own_cases p u j) [
     | inl a ↦ elim (own_cases q v k) [
       | inl b ↦ n (a ∙ e ∙ sym b)
@@ -253,23 +311,28 @@ module _ (g : Graph) (few : process_count g ≤ 128) where
     ]
     | inr a ↦ elim (own_cases q v k) [
       | inl b ↦ omega (arith, b, e, a.2, m, few)
-      | inr d ↦ n (sym (process_of_condition_of g p a.0 a.1) ∙ process_same a.0 d.0 (omega (arith, a.2, d.2, e)) ∙ process_of_condition_of g q d.0 d.1)
+      | inr d ↦ n (sym (process_of_condition_of g p a.0 a.1) ∙ process_same a.0 d.0 (omega (arith, a.2, d.2, e))
+          ∙ process_of_condition_of g q d.0 d.1)
     ]
   ]
     where
       process_same : (c d : ℕ) → c ≡ d → process_of g c ≡ process_of g d
       process_same c d e = ap (process_of g) e
 
-  pub variables_apart : (order : List ℕ) → IsPermutation (numbers_below (process_count g)) order → AllPairs (λ u v. u ≢ v) (variables_along g order)
+  pub variables_apart : (order : List ℕ) → IsPermutation (numbers_below (process_count g)) order →
+      AllPairs (λ u v. u ≢ v) (variables_along g order)
   variables_apart order all =
       let within = within_order (process_count g) order all in
-      let below : (p : ℕ) → Contains order p → p < process_count g = λ p c. All-contains (λ p. p < process_count g) order p within c in
-      AllPairs-flat_map_in (λ p q. p ≢ q) (λ u v. u ≢ v) (variables_of g) order (λ p c. own_apart p (below p c)) (λ p q u v c d n j k. across p q u v (below p c) (below q d) n j k)
+      let below : (p : ℕ) → Contains order p → p < process_count g =
+      λ p c. All-contains (λ p. p < process_count g) order p within c in
+      AllPairs-flat_map_in (λ p q. p ≢ q) (λ u v. u ≢ v) (variables_of g) order (λ p c. own_apart p (below p c))
+      (λ p q u v c d n j k. across p q u v (below p c) (below q d) n j k)
       (order_apart (process_count g) order all)
 
 -- ---- two lists of lows that first differ at a variable
 
-lows_above : (f h : ℕ → ℕ) (v left : ℕ) (vs : List ℕ) → length vs ≤ left → left_at left vs v ≢ 0 → ((u : ℕ) → left_at left vs v < left_at left vs u → f u ≡ h u) → f v < h v →
+lows_above : (f h : ℕ → ℕ) (v left : ℕ) (vs : List ℕ) → length vs ≤ left → left_at left vs v ≢ 0 →
+    ((u : ℕ) → left_at left vs v < left_at left vs u → f u ≡ h u) → f v < h v →
     is_below (map h vs) (map f vs) ≡ false
 lows_above f h v left [] few there same less = absurd (there refl)
 lows_above f h v left (u ∷ us) few there same less = elim (cases_eq u v) [
@@ -284,10 +347,14 @@ lows_above f h v left (u ∷ us) few there same less = elim (cases_eq u v) [
       ]) less
 ]
 
--- if the lows of two cubes first differ at a variable along an order, the one with the greater low isn't before the other
-pub first_differ : (g : Graph) (order places : List ℕ) → ArePlaces (variables_along g order) places → (a b : List Literal) (v : ℕ) → get_or places v 0 ≢ 0 →
+-- if the lows of two cubes first differ at a variable along an order, the one with the greater low isn't before the
+-- other
+pub first_differ : (g : Graph) (order places : List ℕ) → ArePlaces (variables_along g order) places →
+    (a b : List Literal) (v : ℕ) →
+    get_or places v 0 ≢ 0 →
     ((u : ℕ) → get_or places v 0 < get_or places u 0 → low_in a u ≡ low_in b u) →
     low_in a v < low_in b v → is_below (lows_along g order (low_in b)) (lows_along g order (low_in a)) ≡ false
 first_differ g order places is a b v there same less =
     ap₂ is_below (sym (lows_by_variable g order (low_in b))) (sym (lows_by_variable g order (low_in a)))
-    ∙ lows_above (low_in a) (low_in b) v 256 (variables_along g order) is.few (λ z. there (is.left v ∙ z)) (λ u l. same u (omega (arith, is.left v, is.left u, l))) less
+    ∙ lows_above (low_in a) (low_in b) v 256 (variables_along g order) is.few (λ z. there (is.left v ∙ z))
+    (λ u l. same u (omega (arith, is.left v, is.left u, l))) less

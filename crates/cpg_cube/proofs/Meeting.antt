@@ -1,5 +1,6 @@
 -- The answers that the bounds of a cube give, for graphs within their limits.
-use Rattle.std.proofs.Common.{ℕ, ◌+◌, ◌<◌, ◌≤◌, ◌≡◌, max, true, false, not, ◌&&◌, List, [], ◌∷◌, get_or, sum_by, None, Some, arith, sym, ap, ap₂, ◌∙◌, le-leb, leb-true, ⊎_elim}
+use Rattle.std.proofs.Common.{ℕ, ◌+◌, ◌<◌, ◌≤◌, ◌≡◌, max, true, false, not, ◌&&◌, List, [], ◌∷◌, get_or, sum_by, None}
+use Rattle.std.proofs.Common.{Some, arith, sym, ap, ap₂, ◌∙◌, le-leb, leb-true, ⊎_elim}
 use Rattle.std.specs.Prelude.{nat_lt, nat_le, is_some}
 use Rattle.std.specs.List.{list_all}
 use Rattle.std.proofs.lemmas.List.Elements.{All-cons, All-nil}
@@ -11,7 +12,8 @@ use Rattle.cpg_base.proofs.Lists.{same_map, numbers-Contains, from_all, all_from
 use Rattle.cpg_base.proofs.Sums.{sum_by-le_each}
 use Rattle.cpg_base.specs.Scenario.{Scenario, IsScenario}
 use Rattle.cpg_cube.specs.Cube.{Literal, holds, matches, low_in}
-use Rattle.cpg_cube.specs.Fit.{IsCube, asked_of_literal, asked_faults, is_open, is_met, scenario_of, both_low, reaches, do_meet, both_lows, bounds, is_within}
+use Rattle.cpg_cube.specs.Fit.{IsCube, asked_of_literal, asked_faults, is_open, is_met, scenario_of, both_low, reaches}
+use Rattle.cpg_cube.specs.Fit.{do_meet, both_lows, bounds, is_within}
 use Rattle.cpg_cube.specs.Bounds.{AreBounds, AreRaised, budget_left, touches, more_asked, spans}
 use Rattle.cpg_cube.proofs.CubeLows.{met_by, budget_of_cube}
 use Rattle.cpg_cube.proofs.Budgets.{budget_is, budget_some}
@@ -23,13 +25,16 @@ use Rattle.cpg_cube.proofs.BoundLaws.{fits_is_meet, spans_is_within}
 pub met_is : (k : ℕ) (cube : List Literal) → is_some (budget_left (is_open k) asked_of_literal k cube) ≡ is_met k cube
 met_is k cube = budget_is (is_open k) asked_of_literal k cube
 
-pub met_from_none : (k : ℕ) (cube : List Literal) → budget_left (is_open k) asked_of_literal k cube ≡ None → is_met k cube ≡ false
+pub met_from_none : (k : ℕ) (cube : List Literal) → budget_left (is_open k) asked_of_literal k cube ≡ None →
+    is_met k cube ≡ false
 met_from_none k cube e = sym (met_is k cube) ∙ ap is_some e
 
-pub met_from_some : (k left : ℕ) (cube : List Literal) → budget_left (is_open k) asked_of_literal k cube ≡ Some left → is_met k cube ≡ true
+pub met_from_some : (k left : ℕ) (cube : List Literal) → budget_left (is_open k) asked_of_literal k cube ≡ Some left →
+    is_met k cube ≡ true
 met_from_some k left cube e = sym (met_is k cube) ∙ ap is_some e
 
-rest_from_some : (k left : ℕ) (cube : List Literal) → budget_left (is_open k) asked_of_literal k cube ≡ Some left → left + asked_faults cube ≡ k
+rest_from_some : (k left : ℕ) (cube : List Literal) → budget_left (is_open k) asked_of_literal k cube ≡ Some left →
+    left + asked_faults cube ≡ k
 rest_from_some k left cube e = (budget_some (is_open k) asked_of_literal k left cube e).1
 
 -- ---- variables
@@ -38,59 +43,79 @@ pub small_variable : (g : Graph) → IsWithinLimits g → (v : ℕ) → IsVariab
 small_variable g limits v h =
     let a = limits.few_processes in
     let b = limits.few_conditions in
-    ⊎_elim (λ (k : v < process_count g). omega arith) (λ (k : (128 ≤ v) × (v < 128 + condition_count g)). omega (arith, k.1)) h
+    ⊎_elim (λ (k : v < process_count g). omega arith)
+    (λ (k : (128 ≤ v) × (v < 128 + condition_count g)). omega (arith, k.1)) h
 
 -- ---- scenarios of lows
 
-pub same_scenario : (g : Graph) → IsWithinLimits g → (f h : ℕ → ℕ) → ((v : ℕ) → v < 256 → f v ≡ h v) → scenario_of g f ≡ scenario_of g h
+pub same_scenario : (g : Graph) → IsWithinLimits g → (f h : ℕ → ℕ) → ((v : ℕ) → v < 256 → f v ≡ h v) →
+    scenario_of g f ≡ scenario_of g h
 same_scenario g limits f h same = ap₂ (λ v c. let s : Scenario = record { values = v; faults = c } in s)
-    (same_map (λ c. nat_lt 0 (f (value_variable c))) (λ c. nat_lt 0 (h (value_variable c))) (numbers_below (condition_count g))
-    (λ c k. let n = numbers-Contains (condition_count g) c k in let m = limits.few_conditions in ap (nat_lt 0) (same (value_variable c) (omega arith))))
-    (same_map f h (numbers_below (process_count g)) (λ p k. let n = numbers-Contains (process_count g) p k in let m = limits.few_processes in same p (omega arith)))
+    (same_map (λ c. nat_lt 0 (f (value_variable c))) (λ c. nat_lt 0 (h (value_variable c)))
+    (numbers_below (condition_count g))
+    (λ c k. let n = numbers-Contains (condition_count g) c k in
+    let m = limits.few_conditions in
+    ap (nat_lt 0) (same (value_variable c) (omega arith))))
+    (same_map f h (numbers_below (process_count g))
+    (λ p k. let n = numbers-Contains (process_count g) p k in let m = limits.few_processes in same p (omega arith)))
 
 module _ (g : Graph) (limits : IsWithinLimits g) (a : List Literal) (is_a : IsCube g a) where
   pub unmatched : is_met g.faults a ≡ false → (s : Scenario) → IsScenario g s → matches a s ≡ false
-  unmatched e s i = false_from_ne_true (matches a s) (λ t. both_ways (is_met g.faults a) e (met_by g limits.few_processes a is_a s i t))
+  unmatched e s i = false_from_ne_true (matches a s)
+      (λ t. both_ways (is_met g.faults a) e (met_by g limits.few_processes a is_a s i t))
 
-  pub apart_where_unmet : (b : List Literal) → is_met g.faults a ≡ false → (s : Scenario) → IsScenario g s → (matches a s && matches b s) ≡ false
+  pub apart_where_unmet : (b : List Literal) → is_met g.faults a ≡ false → (s : Scenario) → IsScenario g s →
+      (matches a s && matches b s) ≡ false
   apart_where_unmet b e s i = ap (λ x. x && matches b s) (unmatched e s i)
 
   pub meet_where_unmet : (b : List Literal) → is_met g.faults a ≡ false → do_meet g a b ≡ false
   meet_where_unmet b e = false_from_ne_true (do_meet g a b) (λ t.
-      let r = and_parts (list_all (reaches g.faults b) a && list_all (reaches g.faults a) b) (nat_le (sum_by (both_low a b) (numbers_below (process_count g))) g.faults) t in
+      let r = and_parts (list_all (reaches g.faults b) a && list_all (reaches g.faults a) b)
+      (nat_le (sum_by (both_low a b) (numbers_below (process_count g))) g.faults) t in
       let q = and_parts (list_all (reaches g.faults b) a) (list_all (reaches g.faults a) b) r.0 in
       let s = leb-true _ _ r.1 in
       let m = budget_of_cube g limits.few_processes a is_a in
       let n = sum_by-le_each (low_in a) (both_low a b) (numbers_below (process_count g)) (λ v c. omega arith) in
       both_ways (is_met g.faults a) e (and_from (list_all (is_open g.faults) a) (nat_le (asked_faults a) g.faults)
-      (all_from (is_open g.faults) a (λ l c. (and_parts (is_open g.faults l) (nat_le (low_in b l.variable) l.high) (from_all (reaches g.faults b) a l q.0 c)).0))
+      (all_from (is_open g.faults) a (λ l c. (and_parts (is_open g.faults l) (nat_le (low_in b l.variable) l.high)
+      (from_all (reaches g.faults b) a l q.0 c)).0))
       (le-leb _ _ (omega arith))))
 
   pub within_where_unmet : (b : List Literal) → is_met g.faults a ≡ false → is_within g.faults a b ≡ true
-  within_where_unmet b e = or_left (not (is_met g.faults a)) (list_all (bounds g.faults a) b) (not_from_false (is_met g.faults a) e)
+  within_where_unmet b e =
+      or_left (not (is_met g.faults a)) (list_all (bounds g.faults a) b) (not_from_false (is_met g.faults a) e)
 
   module _ (b : List Literal) (is_b : IsCube g b) where
-    module _ (lows_of highs_of : List ℕ) (are : AreBounds a lows_of highs_of) (left : ℕ) (some : budget_left (is_open g.faults) asked_of_literal g.faults a ≡ Some left) where
-      pub meet_from_fit : is_some (budget_left (touches g.faults lows_of highs_of) (more_asked lows_of) left b) ≡ do_meet g a b
+    module _ (lows_of highs_of : List ℕ) (are : AreBounds a lows_of highs_of) (left : ℕ)
+        (some : budget_left (is_open g.faults) asked_of_literal g.faults a ≡ Some left) where
+      pub meet_from_fit : is_some (budget_left (touches g.faults lows_of highs_of) (more_asked lows_of) left b)
+          ≡ do_meet g a b
       meet_from_fit =
           let small = limits.faults in
-          fits_is_meet g limits.few_processes a is_a lows_of highs_of are limits.few_conditions (omega arith) (met_from_some g.faults left a some) left (rest_from_some g.faults left a some) b is_b
+          fits_is_meet g limits.few_processes a is_a lows_of highs_of are limits.few_conditions (omega arith)
+          (met_from_some g.faults left a some) left (rest_from_some g.faults left a some) b is_b
 
       pub within_from_span : list_all (spans lows_of highs_of left) b ≡ is_within g.faults a b
       within_from_span =
           let small = limits.faults in
-          spans_is_within g limits.few_processes a is_a lows_of highs_of are limits.few_conditions (omega arith) (met_from_some g.faults left a some) left (rest_from_some g.faults left a some) b is_b
+          spans_is_within g limits.few_processes a is_a lows_of highs_of are limits.few_conditions (omega arith)
+          (met_from_some g.faults left a some) left (rest_from_some g.faults left a some) b is_b
 
-      pub lows_raised : (later : List ℕ) → AreRaised b lows_of later → scenario_of g (λ v. get_or later v 0) ≡ both_lows g a b
-      lows_raised later raised = same_scenario g limits (λ v. get_or later v 0) (both_low a b) (λ v h. raised v h ∙ ap (λ x. max x (low_in b v)) (are.low v h))
+      pub lows_raised : (later : List ℕ) → AreRaised b lows_of later →
+          scenario_of g (λ v. get_or later v 0) ≡ both_lows g a b
+      lows_raised later raised = same_scenario g limits (λ v. get_or later v 0) (both_low a b)
+          (λ v h. raised v h ∙ ap (λ x. max x (low_in b v)) (are.low v h))
 
   -- a literal that has all numbers of its variable holds wherever the cube matches
-  pub holds_where_spanned : (lows_of highs_of : List ℕ) (are : AreBounds a lows_of highs_of) (left : ℕ) (some : budget_left (is_open g.faults) asked_of_literal g.faults a ≡ Some left)
-      (l : Literal) → IsVariable g l.variable → spans lows_of highs_of left l ≡ true → (s : Scenario) → IsScenario g s → matches a s ≡ true → holds s l ≡ true
+  pub holds_where_spanned : (lows_of highs_of : List ℕ) (are : AreBounds a lows_of highs_of) (left : ℕ)
+      (some : budget_left (is_open g.faults) asked_of_literal g.faults a ≡ Some left)
+      (l : Literal) → IsVariable g l.variable → spans lows_of highs_of left l ≡ true → (s : Scenario) → IsScenario g s →
+      matches a s ≡ true → holds s l ≡ true
   holds_where_spanned lows_of highs_of are left some l known span s i t =
       let one : IsCube g (l ∷ []) = record {
         rising = λ i j d h k. absurd (omega arith);
         known = All-cons (λ m. IsVariable g m.variable) l [] known (All-nil (λ m. IsVariable g m.variable));
       } in
-      let within : is_within g.faults a (l ∷ []) ≡ true = sym (within_from_span (l ∷ []) one lows_of highs_of are left some) ∙ ap (λ b. b && true) span in
+      let within : is_within g.faults a (l ∷ []) ≡ true =
+      sym (within_from_span (l ∷ []) one lows_of highs_of are left some) ∙ ap (λ b. b && true) span in
       (and_parts (holds s l) true (within_from g limits.few_processes a (l ∷ []) is_a one within s i t)).0

@@ -1,5 +1,6 @@
 -- Narrowing at the place of a literal.
-use Rattle.std.proofs.Common.{ℕ, zero, suc, ◌+◌, ◌<◌, ◌≤◌, ◌≡◌, true, false, cond, not, List, [], ◌∷◌, ◌++◌, length, Bool, Some, None, arith, refl, sym, ap, ◌∙◌, ⊎_elim, le-leb, ltb-true, ltb-false}
+use Rattle.std.proofs.Common.{ℕ, zero, suc, ◌+◌, ◌<◌, ◌≤◌, ◌≡◌, true, false, cond, not, List, [], ◌∷◌, ◌++◌, length}
+use Rattle.std.proofs.Common.{Bool, Some, None, arith, refl, sym, ap, ◌∙◌, ⊎_elim, le-leb, ltb-true, ltb-false}
 use Rattle.std.specs.Prelude.{nat_le, nat_lt, position, slice_index_or, slice_set, insert}
 use Rattle.std.specs.List.{position_or_len, AllByRecursion}
 use Rattle.std.proofs.lemmas.Bool.{cases_lt, lt-leb}
@@ -21,10 +22,12 @@ module _ (v : ℕ) where
   counted_first : (m : Literal) (ms : List Literal) → v ≤ m.variable → position_or_len (from_variable v) (m ∷ ms) ≡ 0
   counted_first m ms h = ap (λ b. cond (not b) (1 + position_or_len (from_variable v) ms) 0) (le-leb v m.variable h)
 
-  counted_rest : (m : Literal) (ms : List Literal) → m.variable < v → position_or_len (from_variable v) (m ∷ ms) ≡ 1 + position_or_len (from_variable v) ms
+  counted_rest : (m : Literal) (ms : List Literal) → m.variable < v →
+      position_or_len (from_variable v) (m ∷ ms) ≡ 1 + position_or_len (from_variable v) ms
   counted_rest m ms h = ap (λ b. cond (not b) (1 + position_or_len (from_variable v) ms) 0) (lt-leb v m.variable h)
 
-  pub place_of_count : (cube : List Literal) (i : ℕ) → position_or_len (from_variable v) cube ≡ i → i < length cube → IsPlace v cube i
+  pub place_of_count : (cube : List Literal) (i : ℕ) → position_or_len (from_variable v) cube ≡ i → i < length cube →
+      IsPlace v cube i
   place_of_count [] i e h = absurd (omega arith)
   place_of_count (m ∷ ms) zero e h = ⊎_elim
       (λ (k : m.variable < v). let a = counted_rest m ms k in absurd (omega arith))
@@ -35,7 +38,8 @@ module _ (v : ℕ) where
       (λ (k : v ≤ m.variable). let a = counted_first m ms k in absurd (omega arith))
       (cases_lt m.variable v)
 
-  all_lower : (cube : List Literal) → length cube ≤ position_or_len (from_variable v) cube → AllByRecursion (λ m. m.variable < v) cube
+  all_lower : (cube : List Literal) → length cube ≤ position_or_len (from_variable v) cube →
+      AllByRecursion (λ m. m.variable < v) cube
   all_lower [] h = tt
   all_lower (m ∷ ms) h = ⊎_elim
       (λ (k : m.variable < v). let a = counted_rest m ms k in (k, all_lower ms (omega arith)))
@@ -58,29 +62,38 @@ not_found n m e = by_case (nat_lt n m) refl e
     by_case false t h = ltb-false n m t
 
 pub place_found : (v : ℕ) (cube : List Literal) (i : ℕ) → position (from_variable v) cube ≡ Some i → IsPlace v cube i
-place_found v cube i e = let r = found (position_or_len (from_variable v) cube) (length cube) i e in place_of_count v cube i r.0 r.1
+place_found v cube i e = let r = found (position_or_len (from_variable v) cube) (length cube) i e in
+    place_of_count v cube i r.0 r.1
 
 -- ---- the cube narrowed there
 
 module _ (l : Literal) where
-  narrowed_last : (cube : List Literal) → AllByRecursion (λ m. m.variable < l.variable) cube → narrowed_by l cube ≡ cube ++ l ∷ []
+  narrowed_last : (cube : List Literal) → AllByRecursion (λ m. m.variable < l.variable) cube →
+      narrowed_by l cube ≡ cube ++ l ∷ []
   narrowed_last [] h = refl
   narrowed_last (m ∷ ms) h = narrowed-after l m ms h.0 ∙ ap (λ ls. m ∷ ls) (narrowed_last ms h.1)
 
   -- if no literal is on the variable or above
-  pub narrowed-last : (cube : List Literal) → position (from_variable l.variable) cube ≡ None → narrowed_by l cube ≡ cube ++ l ∷ []
-  narrowed-last cube e = narrowed_last cube (all_lower l.variable cube (not_found (position_or_len (from_variable l.variable) cube) (length cube) e))
+  pub narrowed-last : (cube : List Literal) → position (from_variable l.variable) cube ≡ None →
+      narrowed_by l cube ≡ cube ++ l ∷ []
+  narrowed-last cube e = narrowed_last cube
+      (all_lower l.variable cube (not_found (position_or_len (from_variable l.variable) cube) (length cube) e))
 
   -- if the place has a literal on the variable
-  pub narrowed-set : (cube : List Literal) (i : ℕ) (d : Literal) → IsPlace l.variable cube i → (slice_index_or cube i d).variable ≡ l.variable →
+  pub narrowed-set : (cube : List Literal) (i : ℕ) (d : Literal) → IsPlace l.variable cube i →
+      (slice_index_or cube i d).variable ≡ l.variable →
       narrowed_by l cube ≡ slice_set cube i (meet_literal l (slice_index_or cube i d))
   narrowed-set [] i d p e = absurd p
   narrowed-set (m ∷ ms) zero d p e = narrowed-here l m ms (sym e)
   narrowed-set (m ∷ ms) (suc i) d p e = narrowed-after l m ms p.0 ∙ ap (λ ls. m ∷ ls) (narrowed-set ms i d p.1 e)
 
   -- if it has one above
-  pub narrowed-in : (cube : List Literal) (i : ℕ) (d : Literal) → IsPlace l.variable cube i → ((slice_index_or cube i d).variable ≡ l.variable → ⊥) → narrowed_by l cube ≡ insert cube i l
+  pub narrowed-in : (cube : List Literal) (i : ℕ) (d : Literal) → IsPlace l.variable cube i →
+      ((slice_index_or cube i d).variable ≡ l.variable → ⊥) →
+      narrowed_by l cube ≡ insert cube i l
   narrowed-in [] i d p n = absurd p
   narrowed-in (m ∷ ms) zero d p n = narrowed-before l m ms
-      (let a : l.variable ≤ m.variable = p in ⊎_elim (λ (h : l.variable < m.variable). h) (λ (h : m.variable ≤ l.variable). absurd (n (omega arith))) (cases_lt l.variable m.variable))
+      (let a : l.variable ≤ m.variable = p in
+      ⊎_elim (λ (h : l.variable < m.variable). h) (λ (h : m.variable ≤ l.variable). absurd (n (omega arith)))
+      (cases_lt l.variable m.variable))
   narrowed-in (m ∷ ms) (suc i) d p n = narrowed-after l m ms p.0 ∙ ap (λ ls. m ∷ ls) (narrowed-in ms i d p.1 n)

@@ -1,5 +1,6 @@
 -- The ranges of a cube that is narrowed by one literal.
-use Rattle.std.proofs.Common.{◌≡◌, ◌≢◌, ◌∙◌, ℕ, ◌<◌, ◌≤◌, max, min, List, [], ◌∷◌, Contains, arith, refl, sym, ap, inl, inr}
+use Rattle.std.proofs.Common.{◌≡◌, ◌≢◌, ◌∙◌, ℕ, ◌<◌, ◌≤◌, max, min, List, [], ◌∷◌, Contains, arith, refl, sym, ap, inl}
+use Rattle.std.proofs.Common.{inr}
 use Rattle.std.proofs.lemmas.Bool.{cases_eq, cases_order}
 use Rattle.cpg_base.proofs.Lists.{Contains-cases}
 use Rattle.cpg_cube.specs.Cube.{Literal, IsRising, low_in, high_in}
@@ -10,7 +11,8 @@ use Rattle.cpg_cube.proofs.Narrow.{narrowed-before, narrowed-here, narrowed-afte
 use Rattle.cpg_cube.proofs.Ranges.{rising_rest, rising_first, low_in-here, high_in-here, high_in-later, high_in-none}
 
 -- the variables of a rising cube are above one that its first is above
-above_first : (v : ℕ) (m : Literal) (ms : List Literal) → IsRising (m ∷ ms) → v < m.variable → (x : Literal) → Contains (m ∷ ms) x → x.variable ≢ v
+above_first : (v : ℕ) (m : Literal) (ms : List Literal) → IsRising (m ∷ ms) → v < m.variable → (x : Literal) →
+    Contains (m ∷ ms) x → x.variable ≢ v
 above_first v m ms r h x c e = elim (Contains-cases m ms x c) [
   | inl s ↦ absurd (omega (arith, ap (λ (y : Literal). y.variable) s))
   | inr d ↦ absurd (omega (arith, rising_first m x ms r d))
@@ -23,7 +25,8 @@ module _ (k : ℕ) (l : Literal) where
   low-other [] v n = low_in-later l [] v n
   low-other (m ∷ ms) v n = elim (cases_order l.variable m.variable) [
     | inl e ↦ let o : m.variable ≢ v = λ s. n (omega (arith, e, s)) in
-        ap (λ c. low_in c v) (narrowed-here l m ms e) ∙ low_in-later (meet_literal l m) ms v o ∙ sym (low_in-later m ms v o)
+        ap (λ c. low_in c v) (narrowed-here l m ms e) ∙ low_in-later (meet_literal l m) ms v o
+        ∙ sym (low_in-later m ms v o)
     | inr (inl h) ↦ ap (λ c. low_in c v) (narrowed-before l m ms h) ∙ low_in-later l (m ∷ ms) v n
     | inr (inr h) ↦ ap (λ c. low_in c v) (narrowed-after l m ms h) ∙ elim (cases_eq m.variable v) [
       | inl e ↦ low_in-here m (narrowed_by l ms) v e ∙ sym (low_in-here m ms v e)
@@ -35,7 +38,8 @@ module _ (k : ℕ) (l : Literal) where
   high-other [] v n = high_in-later k l [] v n
   high-other (m ∷ ms) v n = elim (cases_order l.variable m.variable) [
     | inl e ↦ let o : m.variable ≢ v = λ s. n (omega (arith, e, s)) in
-        ap (λ c. high_in k c v) (narrowed-here l m ms e) ∙ high_in-later k (meet_literal l m) ms v o ∙ sym (high_in-later k m ms v o)
+        ap (λ c. high_in k c v) (narrowed-here l m ms e) ∙ high_in-later k (meet_literal l m) ms v o
+        ∙ sym (high_in-later k m ms v o)
     | inr (inl h) ↦ ap (λ c. high_in k c v) (narrowed-before l m ms h) ∙ high_in-later k l (m ∷ ms) v n
     | inr (inr h) ↦ ap (λ c. high_in k c v) (narrowed-after l m ms h) ∙ elim (cases_eq m.variable v) [
       | inl e ↦ high_in-here k m (narrowed_by l ms) v e ∙ sym (high_in-here k m ms v e)
@@ -43,26 +47,37 @@ module _ (k : ℕ) (l : Literal) where
     ]
   ]
 
-  pub low-same : (cube : List Literal) → IsRising cube → low_in (narrowed_by l cube) l.variable ≡ max l.low (low_in cube l.variable)
+  pub low-same : (cube : List Literal) → IsRising cube →
+      low_in (narrowed_by l cube) l.variable ≡ max l.low (low_in cube l.variable)
   low-same [] r = low_in-here l [] l.variable refl ∙ omega arith
   low-same (m ∷ ms) r = elim (cases_order l.variable m.variable) [
-    | inl e ↦ ap (λ c. low_in c l.variable) (narrowed-here l m ms e) ∙ low_in-here (meet_literal l m) ms l.variable (sym e) ∙ sym (ap (max l.low) (low_in-here m ms l.variable (sym e)))
+    | inl e ↦ ap (λ c. low_in c l.variable) (narrowed-here l m ms e)
+        ∙ low_in-here (meet_literal l m) ms l.variable (sym e)
+        ∙ sym (ap (max l.low) (low_in-here m ms l.variable (sym e)))
     | inr (inl h) ↦
         let z : low_in (m ∷ ms) l.variable ≡ 0 = low_in-none (m ∷ ms) l.variable (above_first l.variable m ms r h) in
-        ap (λ c. low_in c l.variable) (narrowed-before l m ms h) ∙ low_in-here l (m ∷ ms) l.variable refl ∙ omega (arith, z)
+        ap (λ c. low_in c l.variable) (narrowed-before l m ms h) ∙ low_in-here l (m ∷ ms) l.variable refl
+        ∙ omega (arith, z)
     | inr (inr h) ↦ let o : m.variable ≢ l.variable = λ s. omega (arith, h, s) in
-        ap (λ c. low_in c l.variable) (narrowed-after l m ms h) ∙ low_in-later m (narrowed_by l ms) l.variable o ∙ low-same ms (rising_rest m ms r)
+        ap (λ c. low_in c l.variable) (narrowed-after l m ms h) ∙ low_in-later m (narrowed_by l ms) l.variable o
+        ∙ low-same ms (rising_rest m ms r)
         ∙ ap (max l.low) (sym (low_in-later m ms l.variable o))
   ]
 
-  pub high-same : (cube : List Literal) → IsRising cube → l.high ≤ top k l.variable → high_in k (narrowed_by l cube) l.variable ≡ min l.high (high_in k cube l.variable)
+  pub high-same : (cube : List Literal) → IsRising cube → l.high ≤ top k l.variable →
+      high_in k (narrowed_by l cube) l.variable ≡ min l.high (high_in k cube l.variable)
   high-same [] r w = high_in-here k l [] l.variable refl ∙ omega arith
   high-same (m ∷ ms) r w = elim (cases_order l.variable m.variable) [
-    | inl e ↦ ap (λ c. high_in k c l.variable) (narrowed-here l m ms e) ∙ high_in-here k (meet_literal l m) ms l.variable (sym e) ∙ sym (ap (min l.high) (high_in-here k m ms l.variable (sym e)))
+    | inl e ↦ ap (λ c. high_in k c l.variable) (narrowed-here l m ms e)
+        ∙ high_in-here k (meet_literal l m) ms l.variable (sym e)
+        ∙ sym (ap (min l.high) (high_in-here k m ms l.variable (sym e)))
     | inr (inl h) ↦
-        let z : high_in k (m ∷ ms) l.variable ≡ top k l.variable = high_in-none k (m ∷ ms) l.variable (above_first l.variable m ms r h) in
-        ap (λ c. high_in k c l.variable) (narrowed-before l m ms h) ∙ high_in-here k l (m ∷ ms) l.variable refl ∙ omega (arith, z)
+        let z : high_in k (m ∷ ms) l.variable ≡ top k l.variable =
+        high_in-none k (m ∷ ms) l.variable (above_first l.variable m ms r h) in
+        ap (λ c. high_in k c l.variable) (narrowed-before l m ms h) ∙ high_in-here k l (m ∷ ms) l.variable refl
+        ∙ omega (arith, z)
     | inr (inr h) ↦ let o : m.variable ≢ l.variable = λ s. omega (arith, h, s) in
-        ap (λ c. high_in k c l.variable) (narrowed-after l m ms h) ∙ high_in-later k m (narrowed_by l ms) l.variable o ∙ high-same ms (rising_rest m ms r) w
+        ap (λ c. high_in k c l.variable) (narrowed-after l m ms h) ∙ high_in-later k m (narrowed_by l ms) l.variable o
+        ∙ high-same ms (rising_rest m ms r) w
         ∙ ap (min l.high) (sym (high_in-later k m ms l.variable o))
   ]

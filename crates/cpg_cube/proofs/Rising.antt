@@ -1,5 +1,6 @@
 -- One pass tells whether variables rise.
-use Rattle.std.proofs.Common.{ℕ, ◌+◌, ◌<◌, ◌≤◌, ◌≡◌, true, List, [], ◌∷◌, Contains, arith, refl, ⊎_elim, le-leb, leb-true}
+use Rattle.std.proofs.Common.{ℕ, ◌+◌, ◌<◌, ◌≤◌, ◌≡◌, true, List, [], ◌∷◌, Contains, arith, refl, ⊎_elim, le-leb}
+use Rattle.std.proofs.Common.{leb-true}
 use Rattle.std.specs.Prelude.{nat_le}
 use Rattle.std.proofs.lemmas.Bool.{and_parts, and_from}
 use Rattle.cpg_base.proofs.Lists.{Contains-first, Contains-cases, Contains-nil}
@@ -9,7 +10,8 @@ use Rattle.cpg_cube.specs.Rising.{rises_from}
 use Rattle.cpg_cube.proofs.Ranges.{rising_rest, rising_first}
 
 -- if the variables rise from a least one on, none is below it
-from_least : (least : ℕ) (ls : List Literal) → rises_from least ls ≡ true → (m : Literal) → Contains ls m → least ≤ m.variable
+from_least : (least : ℕ) (ls : List Literal) → rises_from least ls ≡ true → (m : Literal) → Contains ls m →
+    least ≤ m.variable
 from_least least [] h m c = absurd (Contains-nil m c)
 from_least least (l ∷ ls) h m c =
     let r = and_parts (nat_le least l.variable) (rises_from (l.variable + 1) ls) h in
@@ -23,9 +25,11 @@ pub rising_from : (least : ℕ) (ls : List Literal) → rises_from least ls ≡ 
 rising_from least [] h = AllPairs-nil (λ l m. l.variable < m.variable)
 rising_from least (l ∷ ls) h =
     let r = and_parts (nat_le least l.variable) (rises_from (l.variable + 1) ls) h in
-    AllPairs-cons_by (λ l m. l.variable < m.variable) l ls (λ m c. let a = from_least (l.variable + 1) ls r.1 m c in omega arith) (rising_from (l.variable + 1) ls r.1)
+    AllPairs-cons_by (λ l m. l.variable < m.variable) l ls (λ m c. let a = from_least (l.variable + 1) ls r.1 m c in
+    omega arith) (rising_from (l.variable + 1) ls r.1)
 
-pub rises_by : (least : ℕ) (ls : List Literal) → IsRising ls → ((l : Literal) → Contains ls l → least ≤ l.variable) → rises_from least ls ≡ true
+pub rises_by : (least : ℕ) (ls : List Literal) → IsRising ls → ((l : Literal) → Contains ls l → least ≤ l.variable) →
+    rises_from least ls ≡ true
 rises_by least [] r h = refl
 rises_by least (l ∷ ls) r h = and_from (nat_le least l.variable) (rises_from (l.variable + 1) ls)
     (le-leb least l.variable (h l (Contains-first l ls)))

@@ -1,5 +1,6 @@
 -- What undoes a narrowing.
-use Rattle.std.proofs.Common.{ℕ, zero, suc, ◌<◌, ◌≡◌, List, [], ◌∷◌, ◌++◌, length, Some, None, arith, refl, sym, ap, ◌∙◌, get_or}
+use Rattle.std.proofs.Common.{ℕ, zero, suc, ◌<◌, ◌≡◌, List, [], ◌∷◌, ◌++◌, length, Some, None, arith, refl, sym, ap}
+use Rattle.std.proofs.Common.{◌∙◌, get_or}
 use Rattle.std.specs.Prelude.{slice_index_or, slice_set, insert, remove}
 use Rattle.std.proofs.lemmas.List.{get_or-set_same}
 use Rattle.cpg_cube.specs.Cube.{Literal}
@@ -44,19 +45,23 @@ module _ {T : Type 0} (x : T) where
   in_is (y ∷ ys) (suc i) d h = in_is ys i d (omega (arith, h))
 
 module _ (l : Literal) (xs : List Literal) where
-  pub undo_last : (new : List Literal) (place : ℕ) → place ≡ length xs → new ≡ xs ++ l ∷ [] → IsUndo (record { place = place; was = None }) new xs
+  pub undo_last : (new : List Literal) (place : ℕ) → place ≡ length xs → new ≡ xs ++ l ∷ [] →
+      IsUndo (record { place = place; was = None }) new xs
   undo_last new place at is = record {
     place = rw (is, at) (last_there l xs);
     back = rw (is, at) (removed_last l xs);
   }
 
-  pub undo_in : (new : List Literal) (place : ℕ) → place < length xs → new ≡ insert xs place l → IsUndo (record { place = place; was = None }) new xs
+  pub undo_in : (new : List Literal) (place : ℕ) → place < length xs → new ≡ insert xs place l →
+      IsUndo (record { place = place; was = None }) new xs
   undo_in new place h is = record {
     place = rw is (in_there l xs place h);
     back = rw is (removed_in l xs place h);
   }
 
-  pub undo_set : (new : List Literal) (place : ℕ) (was d : Literal) → place < length xs → was ≡ slice_index_or xs place d → new ≡ slice_set xs place l →
+  pub undo_set : (new : List Literal) (place : ℕ) (was d : Literal) → place < length xs →
+      was ≡ slice_index_or xs place d →
+      new ≡ slice_set xs place l →
       IsUndo (record { place = place; was = Some was }) new xs
   undo_set new place was d h there is = record {
     place = rw is (set_there l xs place h);
@@ -65,21 +70,26 @@ module _ (l : Literal) (xs : List Literal) where
 
   -- ---- the literal there is on the variable
 
-  pub on_last : (new : List Literal) (place : ℕ) → place ≡ length xs → new ≡ xs ++ l ∷ [] → IsOn l.variable (record { place = place; was = None }) new
+  pub on_last : (new : List Literal) (place : ℕ) → place ≡ length xs → new ≡ xs ++ l ∷ [] →
+      IsOn l.variable (record { place = place; was = None }) new
   on_last new place at is = record {
     now = λ d. let e : get_or new place d ≡ l = rw (is, at) (last_is l xs d) in ap (λ (m : Literal). m.variable) e;
     before = tt;
   }
 
-  pub on_in : (new : List Literal) (place : ℕ) → place < length xs → new ≡ insert xs place l → IsOn l.variable (record { place = place; was = None }) new
+  pub on_in : (new : List Literal) (place : ℕ) → place < length xs → new ≡ insert xs place l →
+      IsOn l.variable (record { place = place; was = None }) new
   on_in new place h is = record {
     now = λ d. let e : get_or new place d ≡ l = rw is (in_is l xs place d h) in ap (λ (m : Literal). m.variable) e;
     before = tt;
   }
 
-  pub on_set : (new : List Literal) (place v : ℕ) (was : Literal) → place < length xs → was.variable ≡ v → l.variable ≡ v → new ≡ slice_set xs place l →
+  pub on_set : (new : List Literal) (place v : ℕ) (was : Literal) → place < length xs → was.variable ≡ v →
+      l.variable ≡ v →
+      new ≡ slice_set xs place l →
       IsOn v (record { place = place; was = Some was }) new
   on_set new place v was h before now is = record {
-    now = λ d. let e : get_or new place d ≡ l = rw is (get_or-set_same xs place l d h) in ap (λ (m : Literal). m.variable) e ∙ now;
+    now = λ d. let e : get_or new place d ≡ l = rw is (get_or-set_same xs place l d h) in
+        ap (λ (m : Literal). m.variable) e ∙ now;
     before = before;
   }

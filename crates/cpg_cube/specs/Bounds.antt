@@ -1,5 +1,7 @@
--- A cube's ranges as the code keeps them: a low and a high for each variable. Also budgets, from which demands are taken.
-use Rattle.std.specs.Prelude.{ℕ, ◌+◌, ◌-◌, ◌<◌, ◌≡◌, max, min, Bool, ◌&&◌, ◌==◌, nat_lt, nat_le, if◌then◌else◌, List, [], ◌∷◌, Option, Some, None, get_or}
+-- A cube's ranges as the code keeps them: a low and a high for each variable. Also budgets, from which demands are
+-- taken.
+use Rattle.std.specs.Prelude.{ℕ, ◌+◌, ◌-◌, ◌<◌, ◌≡◌, max, min, Bool, ◌&&◌, ◌==◌, nat_lt, nat_le, if◌then◌else◌, List}
+use Rattle.std.specs.Prelude.{[], ◌∷◌, Option, Some, None, get_or}
 use Rattle.cpg_cube.specs.Cube.{Literal, low_in}
 use Rattle.cpg_cube.specs.Fit.{is_open}
 
@@ -17,11 +19,12 @@ pub record AreBounds (cube : List Literal) (lows highs : List ℕ) : Type 0 wher
 abbrev pub AreRaised : List Literal → List ℕ → List ℕ → Type 0
 AreRaised cube lows later = (v : ℕ) → v < 256 → get_or later v 0 ≡ max (get_or lows v 0) (low_in cube v)
 
--- what is left of a budget if each literal passes a test and takes its demand, or None if one doesn't pass or demands more than
--- is left
+-- what is left of a budget if each literal passes a test and takes its demand, or None if one doesn't pass or demands
+-- more than is left
 abbrev pub budget_left : (Literal → Bool) → (Literal → ℕ) → ℕ → List Literal → Option ℕ
 budget_left test demand left [] = Some left
-budget_left test demand left (l ∷ ls) = if test l && nat_le (demand l) left then budget_left test demand (left - demand l) ls else None
+budget_left test demand left (l ∷ ls) = if test l && nat_le (demand l) left
+    then budget_left test demand (left - demand l) ls else None
 
 -- whether a literal's range is open, and shares a number with the range of its variable
 abbrev pub touches : ℕ → List ℕ → List ℕ → Literal → Bool
@@ -34,4 +37,5 @@ more_asked low l = if nat_lt l.variable 128 then l.low - get_or low l.variable 0
 -- whether a literal's range has all numbers that its variable can have when this many faults are left
 abbrev pub spans : List ℕ → List ℕ → ℕ → Literal → Bool
 spans low high left l = nat_le l.low (get_or low l.variable 0)
-    && nat_le (min (get_or high l.variable 0) (if nat_lt l.variable 128 then get_or low l.variable 0 + left else 1)) l.high
+    && nat_le (min (get_or high l.variable 0) (if nat_lt l.variable 128 then get_or low l.variable 0 + left else 1))
+    l.high

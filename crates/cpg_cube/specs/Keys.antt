@@ -1,5 +1,7 @@
--- What columns stand by: the lows of their cubes along an order, of each process that of its count and then that of its value.
-use Rattle.std.specs.Prelude.{ℕ, suc, ◌+◌, ◌-◌, ◌*◌, ◌<◌, ◌≤◌, ◌≡◌, ◌≢◌, ◌==◌, nat_lt, if◌then◌else◌, false, List, [], ◌∷◌, ◌++◌, get_or, length, map, take, drop, Option, None, Some, All, AllPairs}
+-- What columns stand by: the lows of their cubes along an order, of each process that of its count and then that of its
+-- value.
+use Rattle.std.specs.Prelude.{ℕ, suc, ◌+◌, ◌-◌, ◌*◌, ◌<◌, ◌≤◌, ◌≡◌, ◌≢◌, ◌==◌, nat_lt, if◌then◌else◌, false, List, []}
+use Rattle.std.specs.Prelude.{◌∷◌, ◌++◌, get_or, length, map, take, drop, Option, None, Some, All, AllPairs}
 use Rattle.std.specs.List.{flat_map}
 use Rattle.cpg_base.specs.Graph.{Graph, value_variable, condition_of}
 use Rattle.cpg_base.specs.Numbers.{is_below}
@@ -24,10 +26,12 @@ AreByLows {T} cube g order columns = AllPairs (λ (c d : T).
     is_below (lows_along g order (low_in (cube d))) (lows_along g order (low_in (cube c))) ≡ false) columns
 
 -- no column has the lows of its cube before those of the column at a place
-pub record IsFirstByLows {T : Type 0} (cube : T → List Literal) (g : Graph) (order : List ℕ) (columns : List T) (at : ℕ) : Type 0 where
+pub record IsFirstByLows {T : Type 0} (cube : T → List Literal) (g : Graph) (order : List ℕ) (columns : List T)
+    (at : ℕ) : Type 0 where
   pub there : at < length columns
   pub first : (j : ℕ) (d : T) → j < length columns →
-      is_below (lows_along g order (low_in (cube (get_or columns j d)))) (lows_along g order (low_in (cube (get_or columns at d)))) ≡ false
+      is_below (lows_along g order (low_in (cube (get_or columns j d))))
+      (lows_along g order (low_in (cube (get_or columns at d)))) ≡ false
 
 -- ---- the code asks for them by variable
 
@@ -44,8 +48,8 @@ variables_of g p = p ∷ variable_of_value (condition_of g p)
 abbrev pub variables_along : Graph → List ℕ → List ℕ
 variables_along g order = flat_map (variables_of g) order
 
--- What the code sorts by: of those lows the ones that aren't 0, each as one number with how many places are left. An earlier
--- place counts for more.
+-- What the code sorts by: of those lows the ones that aren't 0, each as one number with how many places are left. An
+-- earlier place counts for more.
 
 -- the numbers that aren't 0, each with how many places are left
 abbrev pub asked_from : ℕ → List ℕ → List ℕ
@@ -105,7 +109,9 @@ pub record IsKeyOf (variables : List ℕ) (cube : List Literal) (key : List ℕ)
   pub bytes : AreBytes cube
 
 -- none of the first n columns has a key before that of the column at a place
-pub record IsFirstByKeys {T : Type 0} (cube : T → List Literal) (variables : List ℕ) (n : ℕ) (columns : List T) (at : ℕ) : Type 0 where
+pub record IsFirstByKeys {T : Type 0} (cube : T → List Literal) (variables : List ℕ) (n : ℕ) (columns : List T)
+    (at : ℕ) : Type 0 where
   pub there : at < n
-  pub first : (j : ℕ) (d : T) → j < n → is_below (key_by variables (cube (get_or columns j d))) (key_by variables (cube (get_or columns at d))) ≡ false
+  pub first : (j : ℕ) (d : T) → j < n →
+      is_below (key_by variables (cube (get_or columns j d))) (key_by variables (cube (get_or columns at d))) ≡ false
   pub bytes : (j : ℕ) (d : T) → j < n → AreBytes (cube (get_or columns j d))

@@ -19,4 +19,5 @@ range_left l (m ∷ ms) = if l.variable == m.variable then meet_literal l m else
 
 -- the cube narrowed by the literal, or None if that leaves its variable no number
 abbrev pub with_literal : Literal → List Literal → Option (List Literal)
-with_literal l cube = if nat_le (range_left l cube).low (range_left l cube).high then Some (narrowed_by l cube) else None
+with_literal l cube = if nat_le (range_left l cube).low (range_left l cube).high
+    then Some (narrowed_by l cube) else None

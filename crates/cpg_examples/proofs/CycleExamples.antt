@@ -1,4 +1,5 @@
--- Cycles of worked examples, as `tools/cycle` says them too, and times that are none: what holds of cycles fails of them.
+-- Cycles of worked examples, as `tools/cycle` says them too, and times that are none: what holds of cycles fails of
+-- them.
 use Rattle.std.proofs.Common.{◌≡◌, ℕ, ◌+◌, ◌≤◌, ◌*◌, max, List, [], ◌∷◌, Some, None, true, false, refl, ap, arith}
 use Rattle.std.specs.Int.{div_ceil}
 use Rattle.cpg_base.specs.Graph.{Graph}
@@ -6,7 +7,8 @@ use Rattle.cpg_base.specs.declared.process.Slot.{Slot}
 use Rattle.cpg_table.specs.Table.{NodeTable, empty_table}
 use Rattle.cpg_cluster.specs.Cluster.{World, Cluster, initial_cluster, play}
 use Rattle.cpg_cluster.specs.Cycles.{last_arrival, least_cycle, AreApart, HasSlotsAt, IsCycle, IsOccurrence, IsOverBy}
-use Rattle.cpg_examples.proofs.Examples.{n1, n2, process, edge, two_slots, pair, count, column, item_row, value, act, numbers, scenario}
+use Rattle.cpg_examples.proofs.Examples.{n1, n2, process, edge, two_slots, pair, count, column, item_row, value, act}
+use Rattle.cpg_examples.proofs.Examples.{numbers, scenario}
 
 -- A starts at 0, e0 is sent at 40 or 80 and there at 50 or 90, and B starts then
 abbrev pub pair_tables : List NodeTable
@@ -54,7 +56,9 @@ pair-acts = refl
 
 -- after one round less B still runs: it ends at 105
 pub pair-not_over_by_100 : IsOverBy pair pair_world.scenario pair_play 100 → ⊥
-pair-not_over_by_100 o = let end : 105 ≤ 100 = o.starts 1 (act 90 1 1) (omega arith) (0, omega arith, refl) (omega arith) in absurd (omega (arith, end))
+pair-not_over_by_100 o =
+    let end : 105 ≤ 100 = o.starts 1 (act 90 1 1) (omega arith) (0, omega arith, refl) (omega arith) in
+    absurd (omega (arith, end))
 
 -- a deadline on the bus's own time, and one past it
 pub pair-by_120 : least_cycle (record pair { deadline = 120 }) pair_tables ≡ 120
@@ -63,7 +67,8 @@ pair-by_120 = refl
 pub pair-by_121 : least_cycle (record pair { deadline = 121 }) pair_tables ≡ 140
 pair-by_121 = refl
 
--- A, which ends at 30, its follower B from 30 to 40, and C on N2; the value of A is broadcast from 40 to 50, after the deadline
+-- A, which ends at 30, its follower B from 30 to 40, and C on N2; the value of A is broadcast from 40 to 50, after the
+-- deadline
 abbrev pub late_broadcast : Graph
 late_broadcast = record {
   faults = 0;
@@ -82,7 +87,8 @@ late_tables =
       sends = item_row 4 (column 40 [] ∷ []) ∷ [];
       hears = [];
     }
-    ∷ record empty_table { starts = item_row 2 (column 0 [] ∷ []) ∷ []; sends = []; hears = item_row 4 (column 50 [] ∷ []) ∷ [] } ∷ []
+    ∷ record empty_table
+    { starts = item_row 2 (column 0 [] ∷ []) ∷ []; sends = []; hears = item_row 4 (column 50 [] ∷ []) ∷ [] } ∷ []
 
 pub late-cycle : least_cycle late_broadcast late_tables ≡ 60
 late-cycle = refl
@@ -103,21 +109,35 @@ late-acts = refl
 
 -- that frame isn't there by 40
 pub late-not_over_by_40 : IsOverBy late_broadcast late_world.scenario late_play 40 → ⊥
-late-not_over_by_40 o = let arrival : 50 ≤ 40 = o.sends 0 (act 40 4 0) (omega arith) (2, omega arith, refl) (omega arith) in absurd (omega (arith, arrival))
+late-not_over_by_40 o =
+    let arrival : 50 ≤ 40 = o.sends 0 (act 40 4 0) (omega arith) (2, omega arith, refl) (omega arith) in
+    absurd (omega (arith, arrival))
 
 -- a cycle that begins at 40 starts A before the frame of the one before is there
 pub late-not_apart_at_40 : AreApart late_broadcast late_world.scenario late_play late_play 0 40 → ⊥
 late-not_apart_at_40 a =
-    let before : 50 ≤ 40 = a.frames 0 0 (act 40 4 0) (act 0 0 0) (omega arith) (2, omega arith, refl) (0, omega arith, refl) (omega arith) in absurd (omega (arith, before))
+    let before : 50 ≤ 40 = a.frames 0 0 (act 40 4 0) (act 0 0 0) (omega arith) (2, omega arith, refl)
+    (0, omega arith, refl) (omega arith) in
+    absurd (omega (arith, before))
 
 -- no cycle is apart from itself
 pub late-not_apart_from_itself : AreApart late_broadcast late_world.scenario late_play late_play 60 60 → ⊥
 late-not_apart_from_itself a =
-    let before : 110 ≤ 60 = a.frames 0 0 (act 40 4 0) (act 0 0 0) (omega arith) (2, omega arith, refl) (0, omega arith, refl) (omega arith) in absurd (omega (arith, before))
+    let before : 110 ≤ 60 = a.frames 0 0 (act 40 4 0) (act 0 0 0) (omega arith) (2, omega arith, refl)
+    (0, omega arith, refl) (omega arith) in
+    absurd (omega (arith, before))
 
 -- one node, without a bus
 abbrev pub alone : Graph
-alone = record { faults = 0; deadline = 7; nodes = n1 ∷ []; slots = []; processes = process 0 3 false ∷ []; edges = []; order = None }
+alone = record {
+  faults = 0;
+  deadline = 7;
+  nodes = n1 ∷ [];
+  slots = [];
+  processes = process 0 3 false ∷ [];
+  edges = [];
+  order = None;
+}
 
 abbrev pub alone_tables : List NodeTable
 alone_tables = record empty_table { starts = item_row 0 (column 0 [] ∷ []) ∷ []; sends = []; hears = [] } ∷ []
@@ -130,10 +150,14 @@ alone-one_shorter c = let deadline : 7 ≤ 6 = c.deadline in absurd (omega (arit
 
 -- the bus and the deadline of the cruise controller, by any tables whose frames arrive by then
 abbrev pub three_slots : List Slot
-three_slots = record { node = 0; length = 10; bytes = 16 } ∷ record { node = 1; length = 10; bytes = 16 } ∷ record { node = 2; length = 10; bytes = 16 } ∷ []
+three_slots = record { node = 0; length = 10; bytes = 16 } ∷ record { node = 1; length = 10; bytes = 16 }
+    ∷ record { node = 2; length = 10; bytes = 16 } ∷ []
 
-pub controller-cycle : (g : Graph) (tables : List NodeTable) → last_arrival tables ≤ 2000 → least_cycle (record g { deadline = 2000; slots = three_slots }) tables ≡ 2010
-controller-cycle g tables h = let bound : max 2000 (last_arrival tables) ≡ 2000 = omega (arith, h) in ap (λ n. div_ceil (max n 1) 30 * 30) bound
+pub controller-cycle : (g : Graph) (tables : List NodeTable) → last_arrival tables ≤ 2000 →
+    least_cycle (record g { deadline = 2000; slots = three_slots }) tables ≡ 2010
+controller-cycle g tables h = let bound : max 2000 (last_arrival tables) ≡ 2000 = omega (arith, h) in
+    ap (λ n. div_ceil (max n 1) 30 * 30) bound
 
-pub controller-one_round_shorter : (g : Graph) (tables : List NodeTable) → IsCycle (record g { deadline = 2000; slots = three_slots }) tables 1980 → ⊥
+pub controller-one_round_shorter : (g : Graph) (tables : List NodeTable) →
+    IsCycle (record g { deadline = 2000; slots = three_slots }) tables 1980 → ⊥
 controller-one_round_shorter g tables c = let deadline : 2000 ≤ 1980 = c.deadline in absurd (omega (arith, deadline))

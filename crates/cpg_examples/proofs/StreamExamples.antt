@@ -1,5 +1,6 @@
 -- What isn't quiet, streams that are lawful or not, and a stream that is what a node is told in a play.
-use Rattle.std.proofs.Common.{◌≡◌, ℕ, zero, suc, ◌<◌, ◌≤◌, ◌==◌, List, [], ◌∷◌, length, Contains, Some, None, true, false, true≢false, refl, sym, ap, arith}
+use Rattle.std.proofs.Common.{◌≡◌, ℕ, zero, suc, ◌<◌, ◌≤◌, ◌==◌, List, [], ◌∷◌, length, Contains, Some, None, true}
+use Rattle.std.proofs.Common.{false, true≢false, refl, sym, ap, arith}
 use Rattle.std.specs.Prelude.{get_or, is_some, Ok, Err}
 use Rattle.std.specs.List.{list_any}
 use Rattle.std.proofs.lemmas.List.Sorted.{length_permutation}
@@ -8,7 +9,8 @@ use Rattle.cpg_base.specs.Scenario.{fault_of}
 use Rattle.cpg_base.proofs.Lists.{from_any_false}
 use Rattle.cpg_cube.specs.declared.literal.Literal.{Literal}
 use Rattle.cpg_table.specs.Table.{NodeTable, table_at}
-use Rattle.cpg_node.specs.Dispatcher.{Dispatcher, Frame, Range, acts_of_turn, candidates, frame_literals, hear_frame, is_contradicted, initial_dispatcher, range_of, turn}
+use Rattle.cpg_node.specs.Dispatcher.{Dispatcher, Frame, Range, acts_of_turn, candidates, frame_literals, hear_frame}
+use Rattle.cpg_node.specs.Dispatcher.{is_contradicted, initial_dispatcher, range_of, turn}
 use Rattle.cpg_node.specs.Quiet.{IsQuiet, awaited}
 use Rattle.cpg_cluster.specs.Cluster.{dispatcher_at, own_table, initial_cluster}
 use Rattle.cpg_cluster.specs.Correct.{IsWorld}
@@ -25,7 +27,8 @@ use Rattle.cpg_examples.proofs.Examples.{pair, frozen_pair, branching, branching
 use Rattle.cpg_examples.proofs.Pair.{formed}
 use Rattle.cpg_examples.proofs.Instance.{tables}
 use Rattle.cpg_examples.proofs.ValidInstance.{shape, valid}
-use Rattle.cpg_examples.proofs.CycleExamples.{pair_tables, pair_world, pair_turns, late_broadcast, late_tables, late_play}
+use Rattle.cpg_examples.proofs.CycleExamples.{pair_tables, pair_world, pair_turns, late_broadcast, late_tables}
+use Rattle.cpg_examples.proofs.CycleExamples.{late_play}
 
 -- N1 starts A at 0, so that a turn at 0 may not be left out
 pub start-is_not_quiet : IsQuiet (initial_dispatcher (own_table pair 0 (table_at pair_tables 0))) 0 → ⊥
@@ -54,7 +57,8 @@ between-is_quiet = record { ends = refl; acts = refl }
 
 -- a report of more faults than there may be is awaited at 7, which is no instant of the node
 abbrev pub overtold : Dispatcher
-overtold = record reported { running = Some (record { start = 7; report = Some (record { process = 0; faults = 2; value = false }) }) ∷ [] }
+overtold = record reported
+    { running = Some (record { start = 7; report = Some (record { process = 0; faults = 2; value = false }) }) ∷ [] }
 
 pub overtold-awaited : Contains (awaited overtold) 7
 overtold-awaited = (3, omega arith, refl)
@@ -77,7 +81,8 @@ unfolding turns_below
 stream-is_lawful = refl
 
 -- Of the same events in falling order of time the first is lawless: B can't end before it has started.
-pub stream-falling : outcome (after second (stream_bytes (closed_at ((105, Ending 1 0 false) ∷ frame 90 1 ∷ []) 105))) ≡ Err (record { index = 0; why = FalseEnd })
+pub stream-falling : outcome (after second (stream_bytes (closed_at ((105, Ending 1 0 false) ∷ frame 90 1 ∷ []) 105)))
+    ≡ Err (record { index = 0; why = FalseEnd })
 unfolding turns_below
 stream-falling = refl
 
@@ -91,12 +96,14 @@ broadcast = (50, Arrival (record { item = 8; column = 0; value = true }))
 abbrev pub message : ℕ × Event
 message = (70, Arrival (record { item = 4; column = 0; value = false }))
 
-pub branching-is_lawful : outcome (after branching_second (stream_bytes (closed_at (broadcast ∷ message ∷ []) 95))) ≡ Ok 95
+pub branching-is_lawful : outcome (after branching_second (stream_bytes (closed_at (broadcast ∷ message ∷ []) 95)))
+    ≡ Ok 95
 unfolding turns_below
 branching-is_lawful = refl
 
 -- in falling order of time the second of them is refused for that alone
-pub branching-falling : outcome (after branching_second (stream_bytes (closed_at (message ∷ broadcast ∷ []) 95))) ≡ Err (record { index = 1; why = Order })
+pub branching-falling : outcome (after branching_second (stream_bytes (closed_at (message ∷ broadcast ∷ []) 95)))
+    ≡ Err (record { index = 1; why = Order })
 unfolding turns_below
 branching-falling = refl
 
@@ -122,18 +129,23 @@ told-acts = refl
 
 -- the tables of the frozen pair are valid, so that the law on streams speaks of a play of them
 pub frozen_world : IsWorld frozen_pair pair_world
-frozen_world = record { scenario = record { values = refl; faults = refl; budget = omega arith }; count = refl; lengths = lengths }
+frozen_world =
+    record { scenario = record { values = refl; faults = refl; budget = omega arith }; count = refl; lengths = lengths }
   where
-    lengths : (p : ℕ) → p < 2 → (1 ≤ get_or pair_world.lengths p 0) × (get_or pair_world.lengths p 0 ≤ duration frozen_pair p (fault_of pair_world.scenario p))
+    lengths : (p : ℕ) → p < 2 →
+        (1 ≤ get_or pair_world.lengths p 0) ×
+        (get_or pair_world.lengths p 0 ≤ duration frozen_pair p (fault_of pair_world.scenario p))
     lengths zero l = (omega arith, omega arith)
     lengths (suc zero) l = (omega arith, omega arith)
     lengths (suc (suc p)) l = absurd (omega arith)
 
 pub frozen-gives : GivesWhatIsDue frozen_pair tables pair_world pair_turns 1 105
 unfolding tables
-frozen-gives = streams_give frozen_pair tables (formed true) shape valid pair_world pair_turns 1 105 frozen_world (omega arith) refl (omega arith)
+frozen-gives = streams_give frozen_pair tables (formed true) shape valid pair_world pair_turns 1 105 frozen_world
+    (omega arith) refl (omega arith)
 
--- without a node that is done it doesn't hold: of what is due on N1, which was never asked, the start of A alone is done
+-- without a node that is done it doesn't hold: of what is due on N1, which was never asked, the start of A alone is
+-- done
 pub unasked-not_due : GivesWhatIsDue frozen_pair tables pair_world [] 0 0 → ⊥
 unfolding tables turns_below
 unasked-not_due gives = let two : 1 ≡ 2 = length_permutation _ _ gives.acts.all in absurd (omega (arith, two))
@@ -148,7 +160,8 @@ abbrev pub silent : Frame
 silent = record { item = 0; column = 0; value = false }
 
 pub hollow-stays : list_any is_contradicted (hear_frame second hollow silent) ≡
-    list_any (λ (l : Literal). is_contradicted (range_of (hear_frame second hollow silent) l.variable)) (frame_literals second silent) → ⊥
+    list_any (λ (l : Literal). is_contradicted (range_of (hear_frame second hollow silent) l.variable))
+    (frame_literals second silent) → ⊥
 hollow-stays e = true≢false e
 
 -- N1 has sent the value of A, and knows it; at first it doesn't

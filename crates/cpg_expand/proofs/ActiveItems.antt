@@ -14,19 +14,24 @@ use Rattle.cpg_expand.specs.Guarded.{IsActiveTree, values_known}
 use Rattle.cpg_expand.specs.Sending.{IsGoesTree}
 use Rattle.cpg_tree.proofs.OnePath.{scenario_few}
 
-module _ (g : Graph) (order : List ℕ) (guards : Guards) (admitted : IsAdmitted g order guards) (guard : Guard) (p : ℕ) (l : p < process_count g) (is : guard ≡ tree_of guards p)
+module _ (g : Graph) (order : List ℕ) (guards : Guards) (admitted : IsAdmitted g order guards) (guard : Guard) (p : ℕ)
+    (l : p < process_count g) (is : guard ≡ tree_of guards p)
     (chooser : TreeState Bool) (chosen : IsActiveTree g.faults guard chooser) where
   -- whether a process is active
-  active_has_value : (s : Scenario) → IsScenario g s → HasValueFrom s (values_known s (way guard s.values)) (active g s.values p) chooser
+  active_has_value : (s : Scenario) → IsScenario g s →
+      HasValueFrom s (values_known s (way guard s.values)) (active g s.values p) chooser
   active_has_value s law = subst (λ b. HasValueFrom s (values_known s (way guard s.values)) b chooser)
-      (ap (λ t. is_active (outcome_at t s.values)) is ∙ ap is_active ((admitted.guards.trees p l).is s.values law.values)) (chosen s (scenario_few g s law))
+      (ap (λ t. is_active (outcome_at t s.values)) is
+      ∙ ap is_active ((admitted.guards.trees p l).is s.values law.values)) (chosen s (scenario_few g s law))
 
   -- a start is active with its process
   pub start_activity : (x : ℕ) → x < process_count g → p ≡ producer g x → IsActivityOf g x chooser
-  start_activity x small e s path law on = (active_has_value s law).value path on ∙ ap (active g s.values) (e ∙ ap (producer_of_item g) (item_at-start g x small)) ∙
+  start_activity x small e s path law on = (active_has_value s law).value path on
+      ∙ ap (active g s.values) (e ∙ ap (producer_of_item g) (item_at-start g x small)) ∙
       sym (ap (item_active g s.values) (item_at-start g x small))
 
   -- what is sent is active if it goes
   pub sent_activity : (x : ℕ) → p ≡ producer g x → (t : TreeState Bool) → IsGoesTree g x chooser t → IsActivityOf g x t
   sent_activity x e t goes s path law on = (goes s (scenario_few g s law) (values_known s (way guard s.values))
-      (subst (λ q. HasValueFrom s (values_known s (way guard s.values)) (active g s.values q) chooser) e (active_has_value s law))).value path on
+      (subst (λ q. HasValueFrom s (values_known s (way guard s.values)) (active g s.values q) chooser) e
+      (active_has_value s law))).value path on

@@ -1,5 +1,6 @@
 -- What the operations on trees make of trees that agree with what is carried.
-use Rattle.std.proofs.Common.{ℕ, ◌≤◌, ◌≡◌, max, min, Bool, true, false, if◌then◌else◌, List, [], ◌∷◌, ◌++◌, Contains, arith, refl, sym, subst, inl, inr}
+use Rattle.std.proofs.Common.{ℕ, ◌≤◌, ◌≡◌, max, min, Bool, true, false, if◌then◌else◌, List, [], ◌∷◌, ◌++◌, Contains}
+use Rattle.std.proofs.Common.{arith, refl, sym, subst, inl, inr}
 use Rattle.std.proofs.lemmas.List.Elements.{Contains-append_left, Contains-append_right}
 use Rattle.std.proofs.lemmas.Bool.{cases_eq}
 use Rattle.cpg_base.proofs.Lists.{Contains-first}
@@ -14,7 +15,8 @@ use Rattle.cpg_table.specs.Heard.{exactly, kept_low, kept_high}
 use Rattle.cpg_run.proofs.Hearing.{low_kept, high_kept, high_kept_top, kept_low_below, kept_high_above, kept_grows}
 use Rattle.cpg_tree.specs.Space.{HasAtMostFaults}
 use Rattle.cpg_tree.proofs.OnePath.{the_path}
-use Rattle.cpg_tree.specs.Tree.{Path, TreeState, IsOnPath, HasOnePathEach, IsConstant, IsMap, IsJoin, IsJoinWhere, IsPick, IsNumber}
+use Rattle.cpg_tree.specs.Tree.{Path, TreeState, IsOnPath, HasOnePathEach, IsConstant, IsMap, IsJoin, IsJoinWhere}
+use Rattle.cpg_tree.specs.Tree.{IsPick, IsNumber}
 use Rattle.cpg_run.specs.Carrying.{ContainsKept}
 use Rattle.cpg_expand.specs.Agreeing.{Agrees}
 
@@ -31,15 +33,19 @@ module _ (xs ys : List Literal) (v : ℕ) where
   kept_high_both : (k : ℕ) → kept_high k (xs ++ ys) v ≤ min (kept_high k xs v) (kept_high k ys v)
   kept_high_both k = omega (
     arith,
-    kept_high_above xs v k (kept_high k (xs ++ ys) v) (omega (arith, high_kept_top (xs ++ ys) v k)) (λ m j e. high_kept (xs ++ ys) v k m (Contains-append_left xs ys m j) e),
-    kept_high_above ys v k (kept_high k (xs ++ ys) v) (omega (arith, high_kept_top (xs ++ ys) v k)) (λ m j e. high_kept (xs ++ ys) v k m (Contains-append_right xs ys m j) e),
+    kept_high_above xs v k (kept_high k (xs ++ ys) v) (omega (arith, high_kept_top (xs ++ ys) v k))
+        (λ m j e. high_kept (xs ++ ys) v k m (Contains-append_left xs ys m j) e),
+    kept_high_above ys v k (kept_high k (xs ++ ys) v) (omega (arith, high_kept_top (xs ++ ys) v k))
+        (λ m j e. high_kept (xs ++ ys) v k m (Contains-append_right xs ys m j) e),
   )
 
 -- ---- the operations
 
 module _ (s : Scenario) where
   -- literals more, and a fact that follows
-  pub agrees_weaker : {T : Type 0} (t : TreeState T) (some more : List Literal) (fact other : T → Type 0) → ((l : Literal) → Contains some l → Contains more l) → ((x : T) → fact x → other x) →
+  pub agrees_weaker : {T : Type 0} (t : TreeState T) (some more : List Literal) (fact other : T → Type 0) →
+      ((l : Literal) → Contains some l → Contains more l) →
+      ((x : T) → fact x → other x) →
       Agrees s some fact t → Agrees s more other t
   agrees_weaker t some more fact other within follows a = record {
     value = λ x on. follows x.1 (a.value x on);
@@ -51,17 +57,21 @@ module _ (s : Scenario) where
         };
   }
 
-  pub agrees_constant : {T : Type 0} (x : T) (k : ℕ) (t : TreeState T) (fact : T → Type 0) → fact x → IsConstant x k t → Agrees s [] fact t
+  pub agrees_constant : {T : Type 0} (x : T) (k : ℕ) (t : TreeState T) (fact : T → Type 0) → fact x → IsConstant x k t →
+      Agrees s [] fact t
   agrees_constant x k t fact holds is = subst (Agrees s [] fact) (sym is) (record {
     value = λ y on. subst (λ (z : Path _). fact z.1) (only y on.stands) holds;
-    says = λ y on. subst (λ (z : Path _). ContainsKept k z.0 []) (only y on.stands) (record { low = λ v. omega arith; high = λ v. omega arith });
+    says = λ y on. subst (λ (z : Path _). ContainsKept k z.0 []) (only y on.stands)
+        (record { low = λ v. omega arith; high = λ v. omega arith });
   })
     where
       only : (y : Path _) → Contains (([], x) ∷ []) y → ([], x) ≡ y
       only y c = only_one ([], x) y c
 
-  pub agrees_map : {T U : Type 0} (answers : T → U → Type 0) (a : TreeState T) (r : TreeState U) (literals : List Literal) (fact : T → Type 0) (other : U → Type 0) →
-      HasAtMostFaults a.faults s → HasOnePathEach a.faults a.paths → IsMap answers a r → ((x : T) (z : U) → fact x → answers x z → other z) → Agrees s literals fact a → Agrees s literals other r
+  pub agrees_map : {T U : Type 0} (answers : T → U → Type 0) (a : TreeState T) (r : TreeState U)
+      (literals : List Literal) (fact : T → Type 0) (other : U → Type 0) →
+      HasAtMostFaults a.faults s → HasOnePathEach a.faults a.paths → IsMap answers a r →
+      ((x : T) (z : U) → fact x → answers x z → other z) → Agrees s literals fact a → Agrees s literals other r
   agrees_map answers a r literals fact other few each is follows of_a =
       let x = the_path a.faults a.paths each s few in
       record {
@@ -75,15 +85,19 @@ module _ (s : Scenario) where
             });
       }
 
-  pub agrees_join : {T U V : Type 0} (answers : T → U → V → Type 0) (a : TreeState T) (b : TreeState U) (r : TreeState V) (first second : List Literal) (fact_a : T → Type 0) (fact_b : U → Type 0)
+  pub agrees_join : {T U V : Type 0} (answers : T → U → V → Type 0) (a : TreeState T) (b : TreeState U)
+      (r : TreeState V) (first second : List Literal) (fact_a : T → Type 0) (fact_b : U → Type 0)
       (fact : V → Type 0) →
-      HasAtMostFaults a.faults s → b.faults ≡ a.faults → HasOnePathEach a.faults a.paths → HasOnePathEach a.faults b.paths → IsJoin answers a b r →
-      ((x : T) (y : U) (z : V) → fact_a x → fact_b y → answers x y z → fact z) → Agrees s first fact_a a → Agrees s second fact_b b → Agrees s (first ++ second) fact r
+      HasAtMostFaults a.faults s → b.faults ≡ a.faults → HasOnePathEach a.faults a.paths →
+      HasOnePathEach a.faults b.paths → IsJoin answers a b r →
+      ((x : T) (y : U) (z : V) → fact_a x → fact_b y → answers x y z → fact z) → Agrees s first fact_a a →
+      Agrees s second fact_b b → Agrees s (first ++ second) fact r
   agrees_join answers a b r first second fact_a fact_b fact few same each_a each_b is follows of_a of_b =
       let x = the_path a.faults a.paths each_a s few in
       let y = the_path a.faults b.paths each_b s few in
       record {
-        value = λ z on. follows x.0.1 y.0.1 z.1 (of_a.value x.0 x.1) (of_b.value y.0 y.1) (is.value s x.0 y.0 z few x.1 y.1 on);
+        value = λ z on.
+            follows x.0.1 y.0.1 z.1 (of_a.value x.0 x.1) (of_b.value y.0 y.1) (is.value s x.0 y.0 z few x.1 y.1 on);
         says = λ z on.
             let wide = is.ranges s x.0 y.0 z few x.1 y.1 on in
             let one = of_a.says x.0 x.1 in
@@ -95,33 +109,56 @@ module _ (s : Scenario) where
       }
 
   -- the value of a tree that is made where a chooser is true, if the chooser is
-  pub agrees_where : {T U V : Type 0} (answers : T → U → V → Type 0) (none : V) (chooser : TreeState Bool) (a : TreeState T) (b : TreeState U) (r : TreeState V) (given first second : List Literal)
+  pub agrees_where : {T U V : Type 0} (answers : T → U → V → Type 0) (none : V) (chooser : TreeState Bool)
+      (a : TreeState T) (b : TreeState U) (r : TreeState V) (given first second : List Literal)
       (fact_a : T → Type 0) (fact_b : U → Type 0) (fact : V → Type 0) →
-      HasAtMostFaults chooser.faults s → a.faults ≡ chooser.faults → b.faults ≡ chooser.faults → HasOnePathEach chooser.faults chooser.paths → HasOnePathEach chooser.faults a.paths →
+      HasAtMostFaults chooser.faults s → a.faults ≡ chooser.faults → b.faults ≡ chooser.faults →
+      HasOnePathEach chooser.faults chooser.paths → HasOnePathEach chooser.faults a.paths →
       HasOnePathEach chooser.faults b.paths → IsJoinWhere answers none chooser a b r →
-      ((x : T) (y : U) (z : V) → fact_a x → fact_b y → answers x y z → fact z) → Agrees s given (λ c. c ≡ true) chooser → Agrees s first fact_a a → Agrees s second fact_b b →
+      ((x : T) (y : U) (z : V) → fact_a x → fact_b y → answers x y z → fact z) →
+      Agrees s given (λ c. c ≡ true) chooser → Agrees s first fact_a a → Agrees s second fact_b b →
       Agrees s (given ++ (first ++ second)) fact r
-  agrees_where answers none chooser a b r given first second fact_a fact_b fact few same_a same_b each_c each_a each_b is follows of_c of_a of_b =
+  agrees_where answers none chooser a b r given first second fact_a fact_b fact few same_a same_b each_c each_a each_b
+      is follows of_c of_a of_b =
       let c = the_path chooser.faults chooser.paths each_c s few in
       let x = the_path chooser.faults a.paths each_a s few in
       let y = the_path chooser.faults b.paths each_b s few in
       let chosen = of_c.value c.0 c.1 in
       record {
-        value = λ z on. follows x.0.1 y.0.1 z.1 (of_a.value x.0 x.1) (of_b.value y.0 y.1) (is.on s c.0 x.0 y.0 z few c.1 chosen x.1 y.1 on);
+        value = λ z on. follows x.0.1 y.0.1 z.1 (of_a.value x.0 x.1) (of_b.value y.0 y.1)
+            (is.on s c.0 x.0 y.0 z few c.1 chosen x.1 y.1 on);
         says = λ z on.
             let wide = is.on_ranges s c.0 x.0 y.0 z few c.1 chosen x.1 y.1 on in
             let zero = of_c.says c.0 c.1 in
             let one = subst (λ k. ContainsKept k x.0.0 first) same_a (of_a.says x.0 x.1) in
             let two = subst (λ k. ContainsKept k y.0.0 second) same_b (of_b.says y.0 y.1) in
             subst (λ k. ContainsKept k z.0 (given ++ (first ++ second))) (sym is.faults) (record {
-              low = λ v. omega (arith, wide.low v, zero.low v, one.low v, two.low v, kept_low_both first second v, kept_low_both given (first ++ second) v);
-              high = λ v. omega (arith, wide.high v, zero.high v, one.high v, two.high v, kept_high_both first second v chooser.faults, kept_high_both given (first ++ second) v chooser.faults);
+              low = λ v. omega (
+                arith,
+                wide.low v,
+                zero.low v,
+                one.low v,
+                two.low v,
+                kept_low_both first second v,
+                kept_low_both given (first ++ second) v,
+              );
+              high = λ v. omega (
+                arith,
+                wide.high v,
+                zero.high v,
+                one.high v,
+                two.high v,
+                kept_high_both first second v chooser.faults,
+                kept_high_both given (first ++ second) v chooser.faults,
+              );
             });
       }
 
   -- the value of a tree that is made where a chooser is true, if the chooser is false
-  pub agrees_elsewhere : {T U V : Type 0} (answers : T → U → V → Type 0) (none : V) (chooser : TreeState Bool) (a : TreeState T) (b : TreeState U) (r : TreeState V) (given : List Literal) →
-      HasAtMostFaults chooser.faults s → HasOnePathEach chooser.faults chooser.paths → IsJoinWhere answers none chooser a b r → Agrees s given (λ c. c ≡ false) chooser
+  pub agrees_elsewhere : {T U V : Type 0} (answers : T → U → V → Type 0) (none : V) (chooser : TreeState Bool)
+      (a : TreeState T) (b : TreeState U) (r : TreeState V) (given : List Literal) →
+      HasAtMostFaults chooser.faults s → HasOnePathEach chooser.faults chooser.paths →
+      IsJoinWhere answers none chooser a b r → Agrees s given (λ c. c ≡ false) chooser
       → Agrees s given (λ z. z ≡ none) r
   agrees_elsewhere answers none chooser a b r given few each is of_c =
       let c = the_path chooser.faults chooser.paths each s few in
@@ -138,24 +175,30 @@ module _ (s : Scenario) where
       }
 
   -- only the tree that is picked in the scenario counts
-  pub agrees_pick : {T : Type 0} (chooser : TreeState Bool) (on off r : TreeState T) (b : Bool) (first second : List Literal) (fact : T → Type 0) →
-      HasAtMostFaults chooser.faults s → on.faults ≡ chooser.faults → off.faults ≡ chooser.faults → HasOnePathEach chooser.faults chooser.paths → HasOnePathEach chooser.faults on.paths →
+  pub agrees_pick : {T : Type 0} (chooser : TreeState Bool) (on off r : TreeState T) (b : Bool)
+      (first second : List Literal) (fact : T → Type 0) →
+      HasAtMostFaults chooser.faults s → on.faults ≡ chooser.faults → off.faults ≡ chooser.faults →
+      HasOnePathEach chooser.faults chooser.paths → HasOnePathEach chooser.faults on.paths →
       HasOnePathEach chooser.faults off.paths →
-      IsPick chooser on off r → Agrees s first (λ c. c ≡ b) chooser → Agrees s second fact (if b then on else off) → Agrees s (first ++ second) fact r
+      IsPick chooser on off r → Agrees s first (λ c. c ≡ b) chooser → Agrees s second fact (if b then on else off) →
+      Agrees s (first ++ second) fact r
   agrees_pick {T} chooser on off r b first second fact few same_on same_off each_c each_on each_off is of_c of_picked =
       let c = the_path chooser.faults chooser.paths each_c s few in
       let chosen : c.0.1 ≡ b = of_c.value c.0 c.1 in
       let x = picked_path b in
-      let here : IsOnPath (if c.0.1 then on.paths else off.paths) s x.0 = subst (λ (d : Bool). IsOnPath (if d then on.paths else off.paths) s x.0) (sym chosen) x.1 in
+      let here : IsOnPath (if c.0.1 then on.paths else off.paths) s x.0 =
+      subst (λ (d : Bool). IsOnPath (if d then on.paths else off.paths) s x.0) (sym chosen) x.1 in
       record {
-        value = λ z there. subst fact (sym (is.value s c.0 x.0 z few c.1 here there)) (picked_value b of_picked x.0 x.1);
+        value =
+            λ z there. subst fact (sym (is.value s c.0 x.0 z few c.1 here there)) (picked_value b of_picked x.0 x.1);
         says = λ z there.
             let wide = is.ranges s c.0 x.0 z few c.1 here there in
             let one = of_c.says c.0 c.1 in
             let two = picked_says b of_picked x.0 x.1 in
             subst (λ k. ContainsKept k z.0 (first ++ second)) (sym is.faults) (record {
               low = λ v. omega (arith, wide.low v, one.low v, two.low v, kept_low_both first second v);
-              high = λ v. omega (arith, wide.high v, one.high v, two.high v, kept_high_both first second v chooser.faults);
+              high =
+                  λ v. omega (arith, wide.high v, one.high v, two.high v, kept_high_both first second v chooser.faults);
             });
       }
     where
@@ -163,28 +206,41 @@ module _ (s : Scenario) where
       picked_path true = the_path chooser.faults on.paths each_on s few
       picked_path false = the_path chooser.faults off.paths each_off s few
 
-      picked_value : (d : Bool) → Agrees s second fact (if d then on else off) → (x : Path T) → IsOnPath (if d then on.paths else off.paths) s x → fact x.1
+      picked_value : (d : Bool) → Agrees s second fact (if d then on else off) → (x : Path T) →
+          IsOnPath (if d then on.paths else off.paths) s x → fact x.1
       picked_value true a x h = a.value x h
       picked_value false a x h = a.value x h
 
-      picked_says : (d : Bool) → Agrees s second fact (if d then on else off) → (x : Path T) → IsOnPath (if d then on.paths else off.paths) s x → ContainsKept chooser.faults x.0 second
+      picked_says : (d : Bool) → Agrees s second fact (if d then on else off) → (x : Path T) →
+          IsOnPath (if d then on.paths else off.paths) s x →
+          ContainsKept chooser.faults x.0 second
       picked_says true a x h = subst (λ k. ContainsKept k x.0 second) same_on (a.says x h)
       picked_says false a x h = subst (λ k. ContainsKept k x.0 second) same_off (a.says x h)
 
   -- a tree of the number of a variable says that number
-  pub agrees_number : {T : Type 0} (v k : ℕ) (number : T → ℕ) (t : TreeState T) → HasAtMostFaults k s → number_of s v ≤ top k v → IsNumber v k number t →
+  pub agrees_number : {T : Type 0} (v k : ℕ) (number : T → ℕ) (t : TreeState T) → HasAtMostFaults k s →
+      number_of s v ≤ top k v →
+      IsNumber v k number t →
       Agrees s (exactly v (number_of s v) ∷ []) (λ x. number x ≡ number_of s v) t
   agrees_number v k number t few most is = record {
     value = λ x on. is.value s x few on;
     says = λ x on. subst (λ m. ContainsKept m x.0 (exactly v (number_of s v) ∷ [])) (sym is.faults) (record {
       low = λ u. elim (cases_eq u v) [
         | inl e ↦ subst (λ w. low_in x.0 w ≤ kept_low (exactly v (number_of s v) ∷ []) w) (sym e)
-            (omega (arith, low_in-le x.0 s v on.matched, low_kept (exactly v (number_of s v) ∷ []) v (exactly v (number_of s v)) (Contains-first _ []) refl))
+            (omega (
+              arith,
+              low_in-le x.0 s v on.matched,
+              low_kept (exactly v (number_of s v) ∷ []) v (exactly v (number_of s v)) (Contains-first _ []) refl,
+            ))
         | inr n ↦ omega (arith, is.low s x u few on n)
       ];
       high = λ u. elim (cases_eq u v) [
         | inl e ↦ subst (λ w. kept_high k (exactly v (number_of s v) ∷ []) w ≤ high_in k x.0 w) (sym e)
-            (omega (arith, high_in-ge k x.0 s v most on.matched, high_kept (exactly v (number_of s v) ∷ []) v k (exactly v (number_of s v)) (Contains-first _ []) refl))
+            (omega (
+              arith,
+              high_in-ge k x.0 s v most on.matched,
+              high_kept (exactly v (number_of s v) ∷ []) v k (exactly v (number_of s v)) (Contains-first _ []) refl,
+            ))
         | inr n ↦ omega (arith, is.high s x u few on n, high_kept_top (exactly v (number_of s v) ∷ []) u k)
       ];
     });

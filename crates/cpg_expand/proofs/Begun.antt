@@ -1,12 +1,15 @@
--- Once the start, the end and the readiness of its node are set, a process has begun: trees that were grown before its place go on to tell the runs.
-use Rattle.std.proofs.Common.{ℕ, ◌+◌, ◌*◌, ◌<◌, ◌≤◌, ◌≡◌, ◌≢◌, max, Bool, true, false, if◌then◌else◌, List, [], length, map, get_or, flat_map, Option, Some, None, unwrap_or, Contains, ◌⊎◌, arith}
+-- Once the start, the end and the readiness of its node are set, a process has begun: trees that were grown before its
+-- place go on to tell the runs.
+use Rattle.std.proofs.Common.{ℕ, ◌+◌, ◌*◌, ◌<◌, ◌≤◌, ◌≡◌, ◌≢◌, max, Bool, true, false, if◌then◌else◌, List, [], length}
+use Rattle.std.proofs.Common.{map, get_or, flat_map, Option, Some, None, unwrap_or, Contains, ◌⊎◌, arith}
 use Rattle.std.proofs.Common.{refl, sym, ap, ◌∙◌, subst, inl, inr, get_or-set_same, get_or-set_other}
 use Rattle.std.proofs.lemmas.Bool.{cases_eq, cases_lt, cond-false}
 use Rattle.std.proofs.lemmas.List.{get_or-map}
 use Rattle.std.proofs.lemmas.List.Sums.{get_or-le-sum_by}
 use Rattle.std.proofs.lemmas.List.Elements.{Contains-append_left}
 use Rattle.cpg_base.specs.Numbers.{greatest}
-use Rattle.cpg_base.specs.Graph.{Graph, process_at, process_count, condition_count, item_count, item_at, node_of, is_frozen, is_frozen_item, producer, producer_of_item}
+use Rattle.cpg_base.specs.Graph.{Graph, process_at, process_count, condition_count, item_count, item_at, node_of}
+use Rattle.cpg_base.specs.Graph.{is_frozen, is_frozen_item, producer, producer_of_item}
 use Rattle.cpg_base.specs.Activity.{active, activation, item_active}
 use Rattle.cpg_base.specs.declared.item.Item.{Item}
 use Rattle.cpg_base.proofs.Items.{item_at-start}
@@ -40,7 +43,8 @@ use Rattle.cpg_expand.specs.Forest.{ForestState, HasTrees, no_tree, times_of, en
 use Rattle.cpg_expand.specs.Ending.{IsReadyAfter, goes_on}
 use Rattle.cpg_expand.specs.declared.forest.Ready.{Ready}
 use Rattle.cpg_expand.specs.declared.forest.Ready.TheVariants.{After, At}
-use Rattle.cpg_expand.specs.Grown.{RowsHold, IsReadyLine, IsFreeLine, Lines, SendLines, LeavesUnsent, IsEarlier, IsDone, AreSettledOf, IsGrown, IsSending}
+use Rattle.cpg_expand.specs.Grown.{RowsHold, IsReadyLine, IsFreeLine, Lines, SendLines, LeavesUnsent, IsEarlier, IsDone}
+use Rattle.cpg_expand.specs.Grown.{AreSettledOf, IsGrown, IsSending}
 use Rattle.cpg_expand.specs.TreeValues.{HasTreeValues}
 use Rattle.cpg_expand.specs.Waited.{IsQueuedFor, IsWaitedFor, IsReadyOnce}
 use Rattle.cpg_expand.specs.Waiting.{ready_of, free_of}
@@ -64,21 +68,26 @@ path_column path = record { time = unwrap_or path.1 0; cube = path.0 }
 abbrev pub own_rows : ForestState → List (List Column)
 own_rows f = map (λ (t : TreeState (Option ℕ)). map path_column t.paths) f.times
 
-pub own_rows_hold : (g : Graph) (order : List ℕ) (i : ℕ) (f : ForestState) → HasTrees g f → RowsHold g order i f (own_rows f)
+pub own_rows_hold : (g : Graph) (order : List ℕ) (i : ℕ) (f : ForestState) → HasTrees g f →
+    RowsHold g order i f (own_rows f)
 unfolding path_column
 own_rows_hold g order i f has = record {
   sends = λ x l sent before path time j is. (
     path_column path,
-    subst (λ (columns : List Column). Contains columns (path_column path)) (sym (row x l)) (Contains-map path_column (times_of g f x).paths path j),
+    subst (λ (columns : List Column). Contains columns (path_column path)) (sym (row x l))
+        (Contains-map path_column (times_of g f x).paths path j),
     refl,
   );
 }
   where
     row : (x : ℕ) → x < item_count g → row_at (own_rows f) x ≡ map path_column (times_of g f x).paths
-    row x l = get_or-map (λ (t : TreeState (Option ℕ)). map path_column t.paths) f.times x (no_tree g.faults) [] (omega (arith, l, has.times))
+    row x l = get_or-map (λ (t : TreeState (Option ℕ)). map path_column t.paths) f.times x (no_tree g.faults) []
+        (omega (arith, l, has.times))
 
-module _ (g : Graph) (urgency : List ℕ) (guards : Guards) (a : IsAdmitted g urgency guards) (order : List ℕ) (topological : IsTopological g order) (p : ℕ) (l : p < process_count g)
-    (old new : ForestState) (before after : List (Option ℕ)) (chooser : TreeState Bool) (grown : IsGrown g order (place order p) before old) (trees : HasTrees g new)
+module _ (g : Graph) (urgency : List ℕ) (guards : Guards) (a : IsAdmitted g urgency guards) (order : List ℕ)
+    (topological : IsTopological g order) (p : ℕ) (l : p < process_count g)
+    (old new : ForestState) (before after : List (Option ℕ)) (chooser : TreeState Bool)
+    (grown : IsGrown g order (place order p) before old) (trees : HasTrees g new)
     (b : IsBegun g order guards p old new before after chooser) where
   abbrev guard : Guard
   guard = tree_of guards p
@@ -95,13 +104,15 @@ module _ (g : Graph) (urgency : List ℕ) (guards : Guards) (a : IsAdmitted g ur
 
   -- a node that is waited for behind the process is waited for at its place, too
   waits_before : (node : ℕ) → IsWaitedFor g order (place order p + 1) node → IsWaitedFor g order (place order p) node
-  waits_before node w = record { other = w.other; within = w.within; there = w.there; later = omega (arith, w.later); thawed = w.thawed }
+  waits_before node w =
+      record { other = w.other; within = w.within; there = w.there; later = omega (arith, w.later); thawed = w.thawed }
 
   its_producer : producer g p ≡ p
   its_producer = ap (producer_of_item g) (item_at-start g p l)
 
   early_apart : (x : ℕ) → IsEarlier g order (place order p) x → x ≢ p
-  early_apart x e is = absurd (let at = ap (λ y. place order (producer g y)) is in let own = ap (place order) its_producer in omega (arith, e, at, own))
+  early_apart x e is = absurd (let at = ap (λ y. place order (producer g y)) is in
+      let own = ap (place order) its_producer in omega (arith, e, at, own))
 
   p_item : p < item_count g
   p_item = omega (arith, l)
@@ -112,7 +123,8 @@ module _ (g : Graph) (urgency : List ℕ) (guards : Guards) (a : IsAdmitted g ur
   later : (y : ℕ) → y < item_count g → IsEarlier g order (place order p) y → moment g order y < moment g order p
   later y h e =
       let at = moment_of_start g order topological p l in
-      let sooner_it : moment g order y < place order p * phases g = sooner (place order (producer g y)) (place order p) (phase (item_at g y)) (phases g) e (phase_below g y h) in
+      let sooner_it : moment g order y < place order p * phases g =
+      sooner (place order (producer g y)) (place order p) (phase (item_at g y)) (phases g) e (phase_below g y h) in
       omega (arith, at, sooner_it)
 
   only : (y : ℕ) → IsDone g order p 0 y → IsEarlier g order (place order p) y ⊎ (y ≡ p)
@@ -128,8 +140,10 @@ module _ (g : Graph) (urgency : List ℕ) (guards : Guards) (a : IsAdmitted g ur
 
   -- ---- in one scenario with its run under frozen times that are those so far for what is done
 
-  module _ (fs : List (Option ℕ)) (same : (x : ℕ) → x < item_count g → IsEarlier g order (place order p) x → get_or before x None ≡ get_or fs x None) (early : AreEarly fs)
-      (rows : List (List Column)) (hold : RowsHold g order (place order p) old rows) (s : Scenario) (law : IsScenario g s) (t : Times) (run : IsRun g order fs s t) where
+  module _ (fs : List (Option ℕ)) (same : (x : ℕ) → x < item_count g → IsEarlier g order (place order p) x →
+      get_or before x None ≡ get_or fs x None) (early : AreEarly fs)
+      (rows : List (List Column)) (hold : RowsHold g order (place order p) old rows) (s : Scenario)
+      (law : IsScenario g s) (t : Times) (run : IsRun g order fs s t) where
     few : HasAtMostFaults g.faults s
     few = scenario_few g s law
 
@@ -140,30 +154,39 @@ module _ (g : Graph) (urgency : List ℕ) (guards : Guards) (a : IsAdmitted g ur
     small = run_small g order fs s t a.limits topological law early run
 
     lines : Lines g order rows s t (place order p) old
-    lines = lines_over g order topological rows s (place order p) old before fs same (λ u r. grown.lines rows hold s law u r) t run
+    lines = lines_over g order topological rows s (place order p) old before fs same
+        (λ u r. grown.lines rows hold s law u r) t run
 
     valued : HasTreeValues g order rows s t (place order p) old
     valued = valued_from_lines g order rows (place order p) old grown.trees hold fs s t run lines
 
     -- what the trees tell of its start
-    valued_start : (from : ℕ) → IsCut g order guards (node_of g p) (place order p) from → IsStartByTrees g order guards old chooser from p s t
-    valued_start from cut = start_is_valued g a.limits order topological a.joins urgency a.urgency a.topological rows s law fs t run small old grown.trees p l nodes valued lines guards
+    valued_start : (from : ℕ) → IsCut g order guards (node_of g p) (place order p) from →
+        IsStartByTrees g order guards old chooser from p s t
+    valued_start from cut = start_is_valued g a.limits order topological a.joins urgency a.urgency a.topological rows s
+        law fs t run small old grown.trees p l nodes valued lines guards
         (λ q k. a.guards.trees q k) chooser b.actives from cut
 
   early_before : AreEarly before
   early_before = early_from_low g order before a.limits topological grown.settled.count grown.settled.low
 
-  all_valued : (from : ℕ) → IsCut g order guards (node_of g p) (place order p) from → (s : Scenario) → IsScenario g s → (t : Times) → IsRun g order before s t →
+  all_valued : (from : ℕ) → IsCut g order guards (node_of g p) (place order p) from → (s : Scenario) → IsScenario g s →
+      (t : Times) →
+      IsRun g order before s t →
       IsStartByTrees g order guards old chooser from p s t
-  all_valued from cut s law t run = valued_start before (λ y h e. refl) early_before (own_rows old) (own_rows_hold g order (place order p) old grown.trees) s law t run from cut
+  all_valued from cut s law t run = valued_start before (λ y h e. refl) early_before (own_rows old)
+      (own_rows_hold g order (place order p) old grown.trees) s law t run from cut
 
   acts_as : (values : List Bool) → item_active g values (item_at g p) ≡ active g values p
   acts_as values = ap (item_active g values) (item_at-start g p l)
 
   found : IsFrozenStart g order guards p old before after chooser b.start → IsFound g order before p after
   found f = frozen_found g order topological before p (omega (arith, p_item, grown.settled.count)) unset f.latest
-      (λ s law t run on. latest_above g order guards before old chooser b.chooser_tree f.from p topological (all_valued f.from f.cut) f.latest f.top s law t run (sym (acts_as s.values) ∙ on))
-      (λ m e. let r = latest_reached g order guards before old chooser b.chooser_tree f.from p topological (all_valued f.from f.cut) f.latest f.top m e in (r.0, r.1, acts_as r.0.values ∙ r.2, r.3))
+      (λ s law t run on. latest_above g order guards before old chooser b.chooser_tree f.from p topological
+      (all_valued f.from f.cut) f.latest f.top s law t run (sym (acts_as s.values) ∙ on))
+      (λ m e. let r = latest_reached g order guards before old chooser b.chooser_tree f.from p topological
+      (all_valued f.from f.cut) f.latest f.top m e in
+      (r.0, r.1, acts_as r.0.values ∙ r.2, r.3))
       after f.frozen.set
 
   -- ---- the frozen times
@@ -173,13 +196,16 @@ module _ (g : Graph) (urgency : List ℕ) (guards : Guards) (a : IsAdmitted g ur
     where
       by : any_start g order guards p old before after chooser b.start → AreSettledOf g order (IsDone g order p 0) after
       by (inl th) = subst (AreSettledOf g order (IsDone g order p 0)) (sym th.1)
-          (settled_idle g order topological a.limits (IsEarlier g order (place order p)) (IsDone g order p 0) before grown.settled p p_item later (λ y e. inl e) (inr (inl refl)) only th.0)
+          (settled_idle g order topological a.limits (IsEarlier g order (place order p))
+          (IsDone g order p 0) before grown.settled p p_item later (λ y e. inl e) (inr (inl refl)) only th.0)
       by (inr f) =
           let r = found f.1 in
-          settled_more g order topological a.limits (IsEarlier g order (place order p)) (IsDone g order p 0) before grown.settled p p_item later (λ y e. inl e)
+          settled_more g order topological a.limits (IsEarlier g order (place order p))
+          (IsDone g order p 0) before grown.settled p p_item later (λ y e. inl e)
           (inr (inl refl)) only f.0 after r.is r.same r.long
 
-  same_earlier : (x : ℕ) → x < item_count g → IsEarlier g order (place order p) x → get_or before x None ≡ get_or after x None
+  same_earlier : (x : ℕ) → x < item_count g → IsEarlier g order (place order p) x →
+      get_or before x None ≡ get_or after x None
   same_earlier x h e = by b.starts
     where
       by : any_start g order guards p old before after chooser b.start → get_or before x None ≡ get_or after x None
@@ -192,19 +218,22 @@ module _ (g : Graph) (urgency : List ℕ) (guards : Guards) (a : IsAdmitted g ur
   -- ---- the new trees
 
   new_time : times_of g new p ≡ b.start
-  new_time = ap (λ f. times_of g f p) b.is ∙ get_or-set_same old.times p b.start (no_tree g.faults) (omega (arith, p_item, grown.trees.times))
+  new_time = ap (λ f. times_of g f p) b.is
+      ∙ get_or-set_same old.times p b.start (no_tree g.faults) (omega (arith, p_item, grown.trees.times))
 
   other_time : (x : ℕ) → x ≢ p → times_of g new x ≡ times_of g old x
   other_time x other = ap (λ f. times_of g f x) b.is ∙ get_or-set_other old.times p x b.start (no_tree g.faults) other
 
   new_end : ends_of g new p ≡ b.end
-  new_end = ap (λ f. ends_of g f p) b.is ∙ get_or-set_same old.ends p b.end (no_tree g.faults) (omega (arith, l, grown.trees.ends))
+  new_end = ap (λ f. ends_of g f p) b.is
+      ∙ get_or-set_same old.ends p b.end (no_tree g.faults) (omega (arith, l, grown.trees.ends))
 
   other_end : (q : ℕ) → q ≢ p → ends_of g new q ≡ ends_of g old q
   other_end q other = ap (λ f. ends_of g f q) b.is ∙ get_or-set_other old.ends p q b.end (no_tree g.faults) other
 
   new_ready : ready_of g new (node_of g p) ≡ goes_on b.end b.ready
-  new_ready = ap (ready_by g new) (ap (λ f. ready_at g f (node_of g p)) b.is ∙ get_or-set_same old.ready (node_of g p) b.ready (At (no_tree g.faults))
+  new_ready = ap (ready_by g new) (ap (λ f. ready_at g f (node_of g p)) b.is
+      ∙ get_or-set_same old.ready (node_of g p) b.ready (At (no_tree g.faults))
       (let n = nodes p l in omega (arith, n, grown.trees.ready))) ∙ goes b.ready b.ready_after
     where
       goes : (r : Ready) → IsReadyAfter g p r → ready_by g new r ≡ goes_on b.end r
@@ -212,25 +241,30 @@ module _ (g : Graph) (urgency : List ℕ) (guards : Guards) (a : IsAdmitted g ur
       goes (At t) is = refl
 
   other_ready : (node : ℕ) → node < length g.nodes → node ≢ node_of g p → ready_of g new node ≡ ready_of g old node
-  other_ready node within other = ap (ready_by g new) (ap (λ f. ready_at g f node) b.is ∙ get_or-set_other old.ready (node_of g p) node b.ready (At (no_tree g.faults)) other) ∙
+  other_ready node within other = ap (ready_by g new) (ap (λ f. ready_at g f node) b.is
+      ∙ get_or-set_other old.ready (node_of g p) node b.ready (At (no_tree g.faults)) other) ∙
       kept (ready_at g old node) refl
     where
       -- the process after whose ends another node is ready isn't this one
       kept : (r : Ready) → ready_at g old node ≡ r → ready_by g new r ≡ ready_by g old r
-      kept (After q) e = ap later_tree (other_end q (λ same. other (sym (grown.trees.own node q within e) ∙ ap (node_of g) same)))
+      kept (After q) e =
+          ap later_tree (other_end q (λ same. other (sym (grown.trees.own node q within e) ∙ ap (node_of g) same)))
       kept (At t) e = refl
 
   same_free : (node : ℕ) → free_of g new node ≡ free_of g old node
   same_free node = ap (λ f. free_of g f node) b.is
 
-  hold_old : (rows : List (List Column)) → RowsHold g order (place order p) new rows → RowsHold g order (place order p) old rows
+  hold_old : (rows : List (List Column)) → RowsHold g order (place order p) new rows →
+      RowsHold g order (place order p) old rows
   hold_old rows hold = record {
-    sends = λ x k sent sooner path time j is. hold.sends x k sent sooner path time (subst (λ (tree : TreeState (Option ℕ)). Contains tree.paths path) (sym (other_time x (early_apart x sooner))) j) is;
+    sends = λ x k sent sooner path time j is. hold.sends x k sent sooner path time (subst
+        (λ (tree : TreeState (Option ℕ)). Contains tree.paths path) (sym (other_time x (early_apart x sooner))) j) is;
   }
 
   -- ---- the lines
 
-  module _ (rows : List (List Column)) (hold : RowsHold g order (place order p) new rows) (s : Scenario) (law : IsScenario g s) (t : Times) (run : IsRun g order after s t) where
+  module _ (rows : List (List Column)) (hold : RowsHold g order (place order p) new rows) (s : Scenario)
+      (law : IsScenario g s) (t : Times) (run : IsRun g order after s t) where
     held : RowsHold g order (place order p) old rows
     held = hold_old rows hold
 
@@ -246,11 +280,13 @@ module _ (g : Graph) (urgency : List ℕ) (guards : Guards) (a : IsAdmitted g ur
     valued_before : HasTreeValues g order rows s t (place order p) old
     valued_before = valued after same_earlier early_after rows held s law t run
 
-    was_ready : IsWaitedFor g order (place order p) (node_of g p) → IsReadyLine g order rows s t (place order p) (node_of g p) (ready_of g old (node_of g p))
+    was_ready : IsWaitedFor g order (place order p) (node_of g p) →
+        IsReadyLine g order rows s t (place order p) (node_of g p) (ready_of g old (node_of g p))
     was_ready waited = lines_before.ready (node_of g p) (nodes p l) waited
 
     way_decides : (c : ℕ) → Contains (way guard s.values) c → Contains (deciding g s.values p) c
-    way_decides = on_way g a.limits order topological a.joins urgency a.urgency a.topological rows s law.values few_faults t run_is_small old p l nodes valued_before guard is_guard
+    way_decides = on_way g a.limits order topological a.joins urgency a.urgency a.topological rows s law.values
+        few_faults t run_is_small old p l nodes valued_before guard is_guard
 
     leads_there : outcome_at guard s.values ≡ activation g s.values p
     leads_there = is_guard.is s.values law.values
@@ -259,56 +295,81 @@ module _ (g : Graph) (urgency : List ℕ) (guards : Guards) (a : IsAdmitted g ur
     would on = record { scenario = s; lawful = law; times = t; run = run; active = acts_as s.values ∙ on; has = refl }
 
     -- the frozen time is the run's
-    frozen_time : is_frozen g p ≡ true → (latest : Option ℕ) → get_or after p None ≡ latest → (if active g s.values p then Some (unwrap_or latest 0) else None) ≡ get_or t.times p None
-    frozen_time is (Some time) e = frozen_value g order after s t run p l time e (λ on. (new_settled.each p p_item is (inr (inl refl))).greatest time (unfrozen_time g order s t p) e (would on))
+    frozen_time : is_frozen g p ≡ true → (latest : Option ℕ) → get_or after p None ≡ latest →
+        (if active g s.values p then Some (unwrap_or latest 0) else None) ≡ get_or t.times p None
+    frozen_time is (Some time) e = frozen_value g order after s t run p l time e
+        (λ on. (new_settled.each p p_item is (inr (inl refl))).greatest time (unfrozen_time g order s t p) e (would on))
     frozen_time is None e = by (active g s.values p) refl
       where
-        by : (c : Bool) → active g s.values p ≡ c → (if active g s.values p then Some 0 else None) ≡ get_or t.times p None
-        by true on = absurd ((new_settled.each p p_item is (inr (inl refl))).none e (unfrozen_time g order s t p) (would on))
-        by false idle = cond-false _ _ _ idle ∙ sym (time_is g order after s t run p p_item ∙ cond-false _ _ _ (acts_as s.values ∙ idle))
+        by : (c : Bool) → active g s.values p ≡ c →
+            (if active g s.values p then Some 0 else None) ≡ get_or t.times p None
+        by true on =
+            absurd ((new_settled.each p p_item is (inr (inl refl))).none e (unfrozen_time g order s t p) (would on))
+        by false idle = cond-false _ _ _ idle
+            ∙ sym (time_is g order after s t run p p_item ∙ cond-false _ _ _ (acts_as s.values ∙ idle))
 
     started : HasValueFrom s (carried_at_start g order rows s p) (get_or t.times p None) b.start
     started = by b.starts
       where
-        by : any_start g order guards p old before after chooser b.start → HasValueFrom s (carried_at_start g order rows s p) (get_or t.times p None) b.start
+        by : any_start g order guards p old before after chooser b.start →
+            HasValueFrom s (carried_at_start g order rows s p) (get_or t.times p None) b.start
         by (inl th) =
             let was = was_ready (waits_here th.0) in
             subst (λ (o : Option ℕ). HasValueFrom s (carried_at_start g order rows s p) o b.start)
-            (start_value g order topological urgency a.urgency a.topological after s law.values t run p l guard is_guard was.time was.is (ap (λ fs. get_or fs p None) th.1 ∙ unset))
-            (start_line g a.limits order topological a.joins urgency a.urgency a.topological rows s law.values few_faults t run_is_small old p l nodes valued_before guard is_guard th.2.wait th.2.waits
+            (start_value g order topological urgency a.urgency a.topological after s law.values t run p l guard is_guard
+            was.time was.is (ap (λ fs. get_or fs p None) th.1 ∙ unset))
+            (start_line g a.limits order topological a.joins urgency a.urgency a.topological rows s law.values
+            few_faults t run_is_small old p l nodes valued_before guard is_guard th.2.wait th.2.waits
             was.time was.is was.has_value b.start th.2.is (thawed_start_of th.0))
         by (inr f) = subst (λ (o : Option ℕ). HasValueFrom s (carried_at_start g order rows s p) o b.start)
-            (frozen_time f.0 f.1.latest (ap (λ h. get_or h p None) f.1.frozen.set ∙ set_here before p f.1.latest (omega (arith, p_item, grown.settled.count)) unset))
-            (frozen_line g order rows s few_faults p guard leads_there way_decides (frozen_start_of f.0) chooser b.start (unwrap_or f.1.latest 0) b.chooser_tree b.actives f.1.frozen.made)
+            (frozen_time f.0 f.1.latest (ap (λ h. get_or h p None) f.1.frozen.set
+            ∙ set_here before p f.1.latest (omega (arith, p_item, grown.settled.count)) unset))
+            (frozen_line g order rows s few_faults p guard leads_there way_decides (frozen_start_of f.0) chooser b.start
+            (unwrap_or f.1.latest 0) b.chooser_tree b.actives f.1.frozen.made)
 
     few_here : fault_of s p ≤ g.faults
     few_here = omega (arith, get_or-le-sum_by (λ (n : ℕ). n) s.faults p 0 (omega (arith, law.faults, l)), law.budget)
 
     ended : HasValueFrom s (carried_at_end g order rows s p) (get_or t.ends p None) b.end
-    ended = end_line g a.limits order after s law t run run_is_small p l few_here rows b.start b.end few_faults b.ends started
+    ended = end_line g a.limits order after s law t run run_is_small p l few_here rows b.start b.end
+        few_faults b.ends started
 
-    readied : IsWaitedFor g order (place order p) (node_of g p) → IsReadyOnce g old (node_of g p) guard chooser b.end (goes_on b.end b.ready) →
+    readied : IsWaitedFor g order (place order p) (node_of g p) →
+        IsReadyOnce g old (node_of g p) guard chooser b.end (goes_on b.end b.ready) →
         IsReadyLine g order rows s t (place order p + 1) (node_of g p) (goes_on b.end b.ready)
     readied waited made =
         let was = was_ready waited in
-        ready_next g order topological (place order p) p l refl rows s after t run was.time (greatest (map (heard_there g t (node_of g p)) (way guard s.values))) was.is
-        (most g order topological urgency a.urgency a.topological after s law.values t run p l guard is_guard was.time was.is)
-        (waited_ends g order topological urgency a.urgency a.topological after s law.values t run p l guard is_guard was.time was.is) (goes_on b.end b.ready)
-        (ready_line g order topological rows s few_faults t run_is_small p guard leads_there way_decides chooser b.end made.wait (goes_on b.end b.ready)
+        ready_next g order topological (place order p) p l refl rows s after t run was.time
+        (greatest (map (heard_there g t (node_of g p)) (way guard s.values))) was.is
+        (most g order topological urgency a.urgency a.topological after s law.values t run p l guard is_guard
+        was.time was.is)
+        (waited_ends g order topological urgency a.urgency a.topological after s law.values t run p l guard is_guard
+        was.time was.is) (goes_on b.end b.ready)
+        (ready_line g order topological rows s few_faults t run_is_small p guard leads_there way_decides chooser b.end
+        made.wait (goes_on b.end b.ready)
         (max was.time (greatest (map (heard_there g t (node_of g p)) (way guard s.values)))) b.actives made.is ended
-        (wait_line g a.limits order topological a.joins urgency a.urgency a.topological rows s law.values few_faults t run_is_small old p l nodes valued_before guard is_guard made.wait made.waits
+        (wait_line g a.limits order topological a.joins urgency a.urgency a.topological rows s law.values few_faults t
+        run_is_small old p l nodes valued_before guard is_guard made.wait made.waits
         was.time was.is was.has_value))
 
-    freed_by : IsFreeLine g order rows s t (place order p) (node_of g p) (free_of g old (node_of g p)) → IsFreeOnce g order rows s t p 0 new
+    freed_by : IsFreeLine g order rows s t (place order p) (node_of g p) (free_of g old (node_of g p)) →
+        IsFreeOnce g order rows s t p 0 new
     freed_by was_free = record {
       time = was_free.time;
-      is = most_same (free_after g t) (IsSentBefore g order s (node_of g p) (place order p)) (IsSentBy g order s p 0) was_free.time
-          (λ y h. (h.0, inl h.1)) (λ y h. (h.0, elim h.1 [ inl less ↦ less | inr c ↦ absurd (Contains-nil y c) ])) was_free.is;
-      has_value = subst (λ (tree : TreeState ℕ). HasValueFrom s (flat_map (queued g order rows s) (sent_so_far g order p 0)) was_free.time tree) (sym (same_free (node_of g p)))
-          (agrees_weaker s (free_of g old (node_of g p)) (flat_map (queued g order rows s) (sent_before g order (place order p) (node_of g p)))
+      is = most_same (free_after g t) (IsSentBefore g order s (node_of g p) (place order p))
+          (IsSentBy g order s p 0) was_free.time
+          (λ y h. (h.0, inl h.1))
+          (λ y h. (h.0, elim h.1 [ inl less ↦ less | inr c ↦ absurd (Contains-nil y c) ])) was_free.is;
+      has_value = subst (λ (tree : TreeState ℕ).
+          HasValueFrom s (flat_map (queued g order rows s) (sent_so_far g order p 0)) was_free.time tree)
+          (sym (same_free (node_of g p)))
+          (agrees_weaker s (free_of g old (node_of g p))
+          (flat_map (queued g order rows s) (sent_before g order (place order p) (node_of g p)))
           (flat_map (queued g order rows s) (sent_so_far g order p 0)) (λ z. z ≡ was_free.time) (λ z. z ≡ was_free.time)
-          (λ x j. let m = Contains-flat_map_parts (queued g order rows s) (sent_before g order (place order p) (node_of g p)) x j in
-          Contains-flat_map (queued g order rows s) (sent_so_far g order p 0) m.0 x (Contains-append_left (sent_before g order (place order p) (node_of g p)) [] m.0 m.1) m.2)
+          (λ x j. let m =
+          Contains-flat_map_parts (queued g order rows s) (sent_before g order (place order p) (node_of g p)) x j in
+          Contains-flat_map (queued g order rows s) (sent_so_far g order p 0) m.0 x
+          (Contains-append_left (sent_before g order (place order p) (node_of g p)) [] m.0 m.1) m.2)
           (λ z e. e) was_free.has_value);
     }
 
@@ -316,42 +377,64 @@ module _ (g : Graph) (urgency : List ℕ) (guards : Guards) (a : IsAdmitted g ur
     freed q = freed_by (lines_before.free (node_of g p) (nodes p l) q)
 
     time_here : HasValueFrom s (carried g order rows s p) (get_or t.times p None) (times_of g new p)
-    time_here = subst (λ (tree : TreeState (Option ℕ)). HasValueFrom s (carried g order rows s p) (get_or t.times p None) tree) (sym new_time)
-        (subst (λ (i : Item). HasValueFrom s (carried_by_item g order rows s p i) (get_or t.times p None) b.start) (sym (item_at-start g p l)) started)
+    time_here =
+        subst (λ (tree : TreeState (Option ℕ)). HasValueFrom s (carried g order rows s p) (get_or t.times p None) tree)
+        (sym new_time)
+        (subst (λ (i : Item). HasValueFrom s (carried_by_item g order rows s p i) (get_or t.times p None) b.start)
+        (sym (item_at-start g p l)) started)
 
     send_lines : SendLines g order rows s t p 0 new
     send_lines = record {
       times = λ x h done. elim (only x done) [
-        | inl e ↦ subst (λ (tree : TreeState (Option ℕ)). HasValueFrom s (carried g order rows s x) (get_or t.times x None) tree) (sym (other_time x (early_apart x e))) (lines_before.times x h e)
-        | inr e ↦ subst (λ z. HasValueFrom s (carried g order rows s z) (get_or t.times z None) (times_of g new z)) (sym e) time_here
+        | inl e ↦ subst
+            (λ (tree : TreeState (Option ℕ)). HasValueFrom s (carried g order rows s x) (get_or t.times x None) tree)
+            (sym (other_time x (early_apart x e))) (lines_before.times x h e)
+        | inr e ↦ subst (λ z. HasValueFrom s (carried g order rows s z) (get_or t.times z None) (times_of g new z))
+            (sym e) time_here
       ];
       ends = λ q h less. elim (cases_eq q p) [
-        | inl e ↦ subst (λ z. HasValueFrom s (carried_at_end g order rows s z) (get_or t.ends z None) (ends_of g new z)) (sym e)
-            (subst (λ (tree : TreeState (Option ℕ)). HasValueFrom s (carried_at_end g order rows s p) (get_or t.ends p None) tree) (sym new_end) ended)
-        | inr other ↦ subst (λ (tree : TreeState (Option ℕ)). HasValueFrom s (carried_at_end g order rows s q) (get_or t.ends q None) tree) (sym (other_end q other))
+        | inl e ↦ subst (λ z. HasValueFrom s (carried_at_end g order rows s z) (get_or t.ends z None) (ends_of g new z))
+            (sym e)
+            (subst (λ (tree : TreeState (Option ℕ)).
+            HasValueFrom s (carried_at_end g order rows s p) (get_or t.ends p None) tree) (sym new_end) ended)
+        | inr other ↦ subst (λ (tree : TreeState (Option ℕ)).
+            HasValueFrom s (carried_at_end g order rows s q) (get_or t.ends q None) tree) (sym (other_end q other))
             (lines_before.ends q h (sooner_end q h less other))
       ];
       ready = λ node h w. elim (cases_eq node (node_of g p)) [
         | inl e ↦ subst (λ n. IsReadyLine g order rows s t (place order p + 1) n (ready_of g new n)) (sym e)
-            (subst (λ (tree : TreeState ℕ). IsReadyLine g order rows s t (place order p + 1) (node_of g p) tree) (sym new_ready)
-            (let waits = subst (IsWaitedFor g order (place order p + 1)) e w in readied (waits_before (node_of g p) waits) (b.readies waits)))
-        | inr other ↦ subst (λ (tree : TreeState ℕ). IsReadyLine g order rows s t (place order p + 1) node tree) (sym (other_ready node h other))
-            (ready_elsewhere g order topological (place order p) p l refl rows s after t run node other (ready_of g old node) (lines_before.ready node h (waits_before node w)))
+            (subst (λ (tree : TreeState ℕ). IsReadyLine g order rows s t (place order p + 1) (node_of g p) tree)
+            (sym new_ready)
+            (let waits = subst (IsWaitedFor g order (place order p + 1)) e w in
+            readied (waits_before (node_of g p) waits) (b.readies waits)))
+        | inr other ↦ subst (λ (tree : TreeState ℕ). IsReadyLine g order rows s t (place order p + 1) node tree)
+            (sym (other_ready node h other))
+            (ready_elsewhere g order topological (place order p) p l refl rows s after t run node other
+            (ready_of g old node) (lines_before.ready node h (waits_before node w)))
       ];
       here = freed;
-      free = λ node h other q. subst (λ (tree : TreeState ℕ). IsFreeLine g order rows s t (place order p) node tree) (sym (same_free node)) (lines_before.free node h q);
+      free = λ node h other q. subst (λ (tree : TreeState ℕ). IsFreeLine g order rows s t (place order p) node tree)
+          (sym (same_free node)) (lines_before.free node h q);
     }
       where
-        sooner_end : (q : ℕ) → q < process_count g → place order q < place order p + 1 → q ≢ p → place order q < place order p
+        sooner_end : (q : ℕ) → q < process_count g → place order q < place order p + 1 → q ≢ p →
+            place order q < place order p
         sooner_end q h less other = elim (cases_lt (place order q) (place order p)) [
           | inl k ↦ k
-          | inr k ↦ absurd (other (same_place order q p (Contains-order (process_count g) order topological.all q h) (Contains-order (process_count g) order topological.all p l)
+          | inr k ↦ absurd (other (same_place order q p (Contains-order (process_count g) order topological.all q h)
+              (Contains-order (process_count g) order topological.all p l)
               (omega (arith, less, k))))
         ]
 
   new_unsent : LeavesUnsent g new
-  new_unsent x big h is = subst (λ (tree : TreeState (Option ℕ)). IsConstant None g.faults tree) (sym (other_time x (λ e. absurd (omega (arith, big, e, l))))) (grown.unsent x big h is)
+  new_unsent x big h is = subst (λ (tree : TreeState (Option ℕ)). IsConstant None g.faults tree)
+      (sym (other_time x (λ e. absurd (omega (arith, big, e, l))))) (grown.unsent x big h is)
 
   -- a process that has begun is ready to send
   pub begun_sends : IsSending g order p 0 after new
-  begun_sends = record { trees = trees; unsent = new_unsent; settled = new_settled; lines = λ rows hold s law t run. send_lines rows hold s law t run }
+  begun_sends = record {
+    trees = trees;
+    unsent = new_unsent;
+    settled = new_settled;
+    lines = λ rows hold s law t run. send_lines rows hold s law t run;
+  }

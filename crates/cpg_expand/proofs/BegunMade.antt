@@ -1,5 +1,6 @@
 -- The trees of a process that begins, as the code finds them.
-use Rattle.std.proofs.Common.{ℕ, ◌<◌, ◌≤◌, ◌≡◌, Bool, List, All, set, length-set, get_or, get_or-set_same, get_or-set_other, Option, length, arith, refl, sym, ap, ◌∙◌, subst, inl, inr}
+use Rattle.std.proofs.Common.{ℕ, ◌<◌, ◌≤◌, ◌≡◌, Bool, List, All, set, length-set, get_or, get_or-set_same}
+use Rattle.std.proofs.Common.{get_or-set_other, Option, length, arith, refl, sym, ap, ◌∙◌, subst, inl, inr}
 use Rattle.std.proofs.lemmas.Bool.{cases_eq}
 use Rattle.std.proofs.lemmas.List.Elements.{All-set}
 use Rattle.cpg_base.specs.Graph.{Graph, process_at, process_count, condition_count, edge_count, node_of, inputs}
@@ -25,41 +26,56 @@ use Rattle.cpg_expand.proofs.Leads.{leads_below}
 
 -- ---- what is asked of a guard and of inputs
 
-module _ (g : Graph) (order : List ℕ) (guards : Guards) (admitted : IsAdmitted g order guards) (h : Graph) (same : h ≡ g) where
+module _ (g : Graph) (order : List ℕ) (guards : Guards) (admitted : IsAdmitted g order guards) (h : Graph)
+    (same : h ≡ g) where
   pub few_here : condition_count h ≤ 32
   few_here = subst (λ (k : Graph). condition_count k ≤ 32) (sym same) admitted.well_formed.few_conditions
 
-  pub tests_here : (found : Guards) → found ≡ guards → (guard : Guard) → TestsBelow found.conditions guard → TestsBelow (condition_count h) guard
-  tests_here found is guard below = subst (λ n. TestsBelow n guard) (ap (λ (x : Guards). x.conditions) is ∙ admitted.guards.conditions ∙ ap condition_count (sym same)) below
+  pub tests_here : (found : Guards) → found ≡ guards → (guard : Guard) → TestsBelow found.conditions guard →
+      TestsBelow (condition_count h) guard
+  tests_here found is guard below = subst (λ n. TestsBelow n guard)
+      (ap (λ (x : Guards). x.conditions) is ∙ admitted.guards.conditions ∙ ap condition_count (sym same)) below
 
-  pub leads_here : (p : ℕ) → p < process_count g → (guard : Guard) → guard ≡ tree_of guards p → LeadsBelow (edge_count h) guard
+  pub leads_here : (p : ℕ) → p < process_count g → (guard : Guard) → guard ≡ tree_of guards p →
+      LeadsBelow (edge_count h) guard
   leads_here p l guard is = subst (λ (k : Graph). LeadsBelow (edge_count k) guard) (sym same)
-      (leads_below g order admitted.topological p l guard (subst (IsGuardOf g order p) (sym is) (admitted.guards.trees p l)))
+      (leads_below g order admitted.topological p l guard
+      (subst (IsGuardOf g order p) (sym is) (admitted.guards.trees p l)))
 
 -- what is asked of the guards and an order
-pub along_here : (g : Graph) (urgency : List ℕ) (guards : Guards) → IsAdmitted g urgency guards → (h : Graph) → h ≡ g → (found : Guards) → found ≡ guards → (order : List ℕ) →
+pub along_here : (g : Graph) (urgency : List ℕ) (guards : Guards) → IsAdmitted g urgency guards → (h : Graph) → h ≡ g →
+    (found : Guards) → found ≡ guards →
+    (order : List ℕ) →
     length order ≡ process_count g → AreAlong h found order
-along_here g urgency guards admitted h same found is order long = subst (λ (k : Graph). AreAlong k found order) (sym same) (subst (λ (x : Guards). AreAlong g x order) (sym is) (record {
-  few = admitted.well_formed.few_conditions;
-  trees = admitted.guards.count;
-  conditions = admitted.guards.conditions;
-  places = long;
-}))
+along_here g urgency guards admitted h same found is order long = subst (λ (k : Graph). AreAlong k found order)
+    (sym same) (subst (λ (x : Guards). AreAlong g x order) (sym is) (record {
+      few = admitted.well_formed.few_conditions;
+      trees = admitted.guards.count;
+      conditions = admitted.guards.conditions;
+      places = long;
+    }))
 
 pub inputs_here : (h : Graph) (p : ℕ) (edges : List ℕ) → edges ≡ inputs h p → All (λ e. e < edge_count h) edges
-inputs_here h p edges is = all_below (edge_count h) (edge_count h) edges (inputs h p) refl is (λ e c. (inputs_parts h p e c).0)
+inputs_here h p edges is =
+    all_below (edge_count h) (edge_count h) edges (inputs h p) refl is (λ e c. (inputs_parts h p e c).0)
 
 -- the latest start is that of the same graph, order, guards, node and inputs
-pub latest_as : (f : ForestState) (from p : ℕ) (active : TreeState Bool) (latest : Option ℕ) (h k : Graph) → k ≡ h → (order other : List ℕ) → other ≡ order → (guards found : Guards) →
+pub latest_as : (f : ForestState) (from p : ℕ) (active : TreeState Bool) (latest : Option ℕ) (h k : Graph) → k ≡ h →
+    (order other : List ℕ) → other ≡ order →
+    (guards found : Guards) →
     found ≡ guards → (node at : ℕ) → at ≡ node → (edges es : List ℕ) → es ≡ edges →
     IsLatestStart k other found f at from (place other p) (process_at k p).release es active latest →
     IsLatestStart h order guards f node from (place order p) (process_at h p).release edges active latest
 latest_as f from p active latest h k same order other in_order guards found is node at there edges es into start =
-    subst (λ (g : Graph). IsLatestStart g order guards f node from (place order p) (process_at g p).release edges active latest) same
+    subst (λ (g : Graph).
+    IsLatestStart g order guards f node from (place order p) (process_at g p).release edges active latest) same
     (subst (λ o. IsLatestStart k o guards f node from (place o p) (process_at k p).release edges active latest) in_order
-    (subst (λ (x : Guards). IsLatestStart k other x f node from (place other p) (process_at k p).release edges active latest) is
-    (subst (λ n. IsLatestStart k other found f n from (place other p) (process_at k p).release edges active latest) there
-    (subst (λ ds. IsLatestStart k other found f at from (place other p) (process_at k p).release ds active latest) into start))))
+    (subst (λ (x : Guards).
+    IsLatestStart k other x f node from (place other p) (process_at k p).release edges active latest) is
+    (subst (λ n. IsLatestStart k other found f n from (place other p) (process_at k p).release edges active latest)
+    there
+    (subst (λ ds. IsLatestStart k other found f at from (place other p) (process_at k p).release ds active latest) into
+    start))))
 
 -- ---- what is put
 
@@ -68,9 +84,17 @@ ready_waits g p (After q) l e = subst (λ n. n < process_count g) (sym e) l
 ready_waits g p (At t) l is = is
 
 -- a tree for each is kept
-pub has_begun : (g : Graph) (f new : ForestState) (p node : ℕ) (times ends : TreeState (Option ℕ)) (ready : Ready) → p < process_count g → node ≡ node_of g p → HasTrees g f → IsTree g times →
+pub has_begun : (g : Graph) (f new : ForestState) (p node : ℕ) (times ends : TreeState (Option ℕ)) (ready : Ready) →
+    p < process_count g → node ≡ node_of g p → HasTrees g f →
+    IsTree g times →
     IsTree g ends → IsReadyAfter g p ready →
-    new ≡ record { times = set f.times p times; ends = set f.ends p ends; ready = set f.ready node ready; free = f.free; wide = f.wide } → HasTrees g new
+    new ≡ record {
+      times = set f.times p times;
+      ends = set f.ends p ends;
+      ready = set f.ready node ready;
+      free = f.free;
+      wide = f.wide;
+    } → HasTrees g new
 has_begun g f new p node times ends ready l at has of_times of_ends of_ready is = subst (HasTrees g) (sym is) (record {
   times = length-set f.times p times ∙ has.times;
   ends = length-set f.ends p ends ∙ has.ends;
@@ -90,14 +114,25 @@ has_begun g f new p node times ends ready l at has of_times of_ends of_ready is 
   ];
 })
 
-pub begun_made : (how : Graph → Guard → TreeState Bool → TreeState (Option ℕ) → Type 0) (g h : Graph) → h ≡ g → (order : List ℕ) (p : ℕ) (guard found : Guard) → found ≡ guard → (node : ℕ) →
+pub begun_made : (how : Graph → Guard → TreeState Bool → TreeState (Option ℕ) → Type 0) (g h : Graph) → h ≡ g →
+    (order : List ℕ) (p : ℕ) (guard found : Guard) → found ≡ guard → (node : ℕ) →
     node ≡ node_of h p →
-    (old new : ForestState) (chooser : TreeState Bool) → IsTree h chooser → IsActiveTree h.faults found chooser → (start : TreeState (Option ℕ)) → how h found chooser start →
-    (end : TreeState (Option ℕ)) → IsEndTree h p start end → (ready : Ready) → IsReadyAfter h p ready → IsReadyIfWaited h order old p found chooser end (goes_on end ready) →
-    new ≡ record { times = set old.times p start; ends = set old.ends p end; ready = set old.ready node ready; free = old.free; wide = old.wide } →
+    (old new : ForestState) (chooser : TreeState Bool) → IsTree h chooser → IsActiveTree h.faults found chooser →
+    (start : TreeState (Option ℕ)) → how h found chooser start →
+    (end : TreeState (Option ℕ)) → IsEndTree h p start end → (ready : Ready) → IsReadyAfter h p ready →
+    IsReadyIfWaited h order old p found chooser end (goes_on end ready) →
+    new ≡ record {
+      times = set old.times p start;
+      ends = set old.ends p end;
+      ready = set old.ready node ready;
+      free = old.free;
+      wide = old.wide;
+    } →
     IsBegunBy (how g guard) g order p guard old new chooser
-begun_made how g h same order p guard found the_guard node there old new chooser chooser_tree actives start starts end ends ready ready_after readies is =
-    subst (λ k. IsBegunBy (how k guard) k order p guard old new chooser) same (subst (λ t. IsBegunBy (how h t) h order p t old new chooser) the_guard (record {
+begun_made how g h same order p guard found the_guard node there old new chooser chooser_tree actives start starts end
+    ends ready ready_after readies is =
+    subst (λ k. IsBegunBy (how k guard) k order p guard old new chooser) same
+    (subst (λ t. IsBegunBy (how h t) h order p t old new chooser) the_guard (record {
       chooser_tree = chooser_tree;
       actives = actives;
       start = start;
@@ -107,5 +142,11 @@ begun_made how g h same order p guard found the_guard node there old new chooser
       ready = ready;
       ready_after = ready_after;
       readies = readies;
-      is = is ∙ ap (λ n. record { times = set old.times p start; ends = set old.ends p end; ready = set old.ready n ready; free = old.free; wide = old.wide }) there;
+      is = is ∙ ap (λ n. record {
+        times = set old.times p start;
+        ends = set old.ends p end;
+        ready = set old.ready n ready;
+        free = old.free;
+        wide = old.wide;
+      }) there;
     }))

@@ -1,12 +1,15 @@
 -- What the trees behind a start say is carried beside it.
-use Rattle.std.proofs.Common.{ℕ, ◌<◌, ◌≡◌, ◌==◌, Bool, true, false, if◌then◌else◌, List, [], ◌∷◌, ◌++◌, filter, flat_map, Contains, ◌⊎◌, arith, eq-eqb, eqb-true, refl, sym, ◌∙◌, subst, inl, inr}
+use Rattle.std.proofs.Common.{ℕ, ◌<◌, ◌≡◌, ◌==◌, Bool, true, false, if◌then◌else◌, List, [], ◌∷◌, ◌++◌, filter}
+use Rattle.std.proofs.Common.{flat_map, Contains, ◌⊎◌, arith, eq-eqb, eqb-true, refl, sym, ◌∙◌, subst, inl, inr}
 use Rattle.std.proofs.lemmas.Bool.{cases_eq, ne_eqb}
 use Rattle.std.proofs.lemmas.List.Elements.{Contains-append_cases, Contains-append_left, Contains-append_right}
 use Rattle.cpg_base.specs.Numbers.{numbers_below}
-use Rattle.cpg_base.specs.Graph.{Graph, process_at, process_count, condition_count, node_of, source, inputs, is_message, message_item, broadcast_item, process_of}
+use Rattle.cpg_base.specs.Graph.{Graph, process_at, process_count, condition_count, node_of, source, inputs, is_message}
+use Rattle.cpg_base.specs.Graph.{message_item, broadcast_item, process_of}
 use Rattle.cpg_base.specs.Activity.{active}
 use Rattle.cpg_base.proofs.Items.{process_of_below}
-use Rattle.cpg_base.proofs.Lists.{Contains-cases, Contains-nil, Contains-filter, Contains-filter_parts, Contains-flat_map, Contains-flat_map_parts, Contains-map, numbers-Contains}
+use Rattle.cpg_base.proofs.Lists.{Contains-cases, Contains-nil, Contains-filter, Contains-filter_parts}
+use Rattle.cpg_base.proofs.Lists.{Contains-flat_map, Contains-flat_map_parts, Contains-map, numbers-Contains}
 use Rattle.cpg_order.specs.Urgency.{IsTopological, IsUrgencyOrder}
 use Rattle.cpg_base.specs.Order.{place, before, before_on_node}
 use Rattle.cpg_order.specs.Deciding.{decides, deciding}
@@ -18,90 +21,120 @@ use Rattle.cpg_cube.specs.Cube.{matches}
 use Rattle.cpg_cube.specs.declared.literal.Literal.{Literal}
 use Rattle.cpg_cube.specs.Column.{Column}
 use Rattle.cpg_run.proofs.KnownRanges.{range_known}
-use Rattle.cpg_run.specs.Carried.{row_at, carried_by_row, number_known, decided, heard, received, executed, passed, carried_at_start, carried_at_end}
+use Rattle.cpg_run.specs.Carried.{row_at, carried_by_row, number_known, decided, heard, received, executed, passed}
+use Rattle.cpg_run.specs.Carried.{carried_at_start, carried_at_end}
 use Rattle.cpg_tree.specs.Tree.{Path, TreeState, IsOnPath}
 use Rattle.cpg_expand.specs.Agreeing.{Agrees}
 use Rattle.cpg_expand.specs.Guarded.{value_known, support_of}
 
 -- ---- the literals of a column that matches are told
 
-pub valued_there : (rows : List (List Column)) (s : Scenario) (x : ℕ) (c : Column) → Contains (row_at rows x) c → matches c.cube s ≡ true → (l : Literal) → Contains c.cube l →
+pub valued_there : (rows : List (List Column)) (s : Scenario) (x : ℕ) (c : Column) → Contains (row_at rows x) c →
+    matches c.cube s ≡ true → (l : Literal) →
+    Contains c.cube l →
     Contains (carried_by_row rows s x) l
-valued_there rows s x c j m l i = Contains-flat_map (λ (d : Column). d.cube) (filter (λ (d : Column). matches d.cube s) (row_at rows x)) c l
+valued_there rows s x c j m l i =
+    Contains-flat_map (λ (d : Column). d.cube) (filter (λ (d : Column). matches d.cube s) (row_at rows x)) c l
     (Contains-filter (λ (d : Column). matches d.cube s) (row_at rows x) c m j) i
 
 -- a tree whose paths of a scenario are columns of the row says what the row tells
-pub valued_by_tree : {T : Type 0} (k : ℕ) (rows : List (List Column)) (s : Scenario) (x : ℕ) (fact : T → Type 0) (t : TreeState T) → t.faults ≡ k →
-    ((p : Path T) → IsOnPath t.paths s p → fact p.1 × ((c : Column) × Contains (row_at rows x) c × (c.cube ≡ p.0))) → Agrees s (carried_by_row rows s x) fact t
+pub valued_by_tree : {T : Type 0} (k : ℕ) (rows : List (List Column)) (s : Scenario) (x : ℕ) (fact : T → Type 0)
+    (t : TreeState T) → t.faults ≡ k →
+    ((p : Path T) → IsOnPath t.paths s p → fact p.1 × ((c : Column) × Contains (row_at rows x) c × (c.cube ≡ p.0))) →
+    Agrees s (carried_by_row rows s x) fact t
 valued_by_tree k rows s x fact t same there = record {
   value = λ p on. (there p on).0;
   says = λ p on.
       let c = (there p on).1 in
       let kept = range_known t.faults (carried_by_row rows s x) p.0
-      (λ l i. valued_there rows s x c.0 c.1 (subst (λ (ls : List Literal). matches ls s ≡ true) (sym c.2) on.matched) l (subst (λ (ls : List Literal). Contains ls l) (sym c.2) i)) in
+      (λ l i. valued_there rows s x c.0 c.1 (subst (λ (ls : List Literal). matches ls s ≡ true) (sym c.2) on.matched) l
+      (subst (λ (ls : List Literal). Contains ls l) (sym c.2) i)) in
       record { low = λ v. (kept v).0; high = λ v. (kept v).1 };
 }
 
-module _ (g : Graph) (order : List ℕ) (topological : IsTopological g order) (rows : List (List Column)) (s : Scenario) where
+module _ (g : Graph) (order : List ℕ) (topological : IsTopological g order) (rows : List (List Column))
+    (s : Scenario) where
   -- ---- of ends on the node
 
-  before_grows : (p q r : ℕ) → Contains (before_on_node g order p) q → Contains (before_on_node g order q) r → Contains (before_on_node g order p) r
+  before_grows : (p q r : ℕ) → Contains (before_on_node g order p) q → Contains (before_on_node g order q) r →
+      Contains (before_on_node g order p) r
   before_grows p q r j i =
       let of_q = on_node_before g order p q j in
       let of_r = on_node_before g order q r i in
-      let node_q = eqb-true (node_of g q) (node_of g p) (Contains-filter_parts (λ (u : ℕ). node_of g u == node_of g p) (before order p) q j).1 in
-      let node_r = eqb-true (node_of g r) (node_of g q) (Contains-filter_parts (λ (u : ℕ). node_of g u == node_of g q) (before order q) r i).1 in
-      Contains-filter (λ (u : ℕ). node_of g u == node_of g p) (before order p) r (eq-eqb (node_of g r) (node_of g p) (node_r ∙ node_q))
+      let node_q = eqb-true (node_of g q) (node_of g p)
+      (Contains-filter_parts (λ (u : ℕ). node_of g u == node_of g p) (before order p) q j).1 in
+      let node_r = eqb-true (node_of g r) (node_of g q)
+      (Contains-filter_parts (λ (u : ℕ). node_of g u == node_of g q) (before order q) r i).1 in
+      Contains-filter (λ (u : ℕ). node_of g u == node_of g p) (before order p) r
+      (eq-eqb (node_of g r) (node_of g p) (node_r ∙ node_q))
       (Contains-before order r p of_r.0 (omega (arith, of_q.1, of_r.1)))
 
   abbrev more : ℕ → List Literal
   more q = if active g s.values q then executed g rows s q else []
 
   passed_decided : (q : ℕ) (l : Literal) → Contains (decided g s q) l → Contains (passed g rows s q) l
-  passed_decided q l j = Contains-append_left (decided g s q ++ heard g rows s q) (more q) l (Contains-append_left (decided g s q) (heard g rows s q) l j)
+  passed_decided q l j = Contains-append_left (decided g s q ++ heard g rows s q) (more q) l
+      (Contains-append_left (decided g s q) (heard g rows s q) l j)
 
   passed_heard : (q : ℕ) (l : Literal) → Contains (heard g rows s q) l → Contains (passed g rows s q) l
-  passed_heard q l j = Contains-append_left (decided g s q ++ heard g rows s q) (more q) l (Contains-append_right (decided g s q) (heard g rows s q) l j)
+  passed_heard q l j = Contains-append_left (decided g s q ++ heard g rows s q) (more q) l
+      (Contains-append_right (decided g s q) (heard g rows s q) l j)
 
-  passed_executed : (q : ℕ) (l : Literal) → active g s.values q ≡ true → Contains (executed g rows s q) l → Contains (passed g rows s q) l
-  passed_executed q l on j = Contains-append_right (decided g s q ++ heard g rows s q) (more q) l (subst (λ (b : Bool). Contains (if b then executed g rows s q else []) l) (sym on) j)
+  passed_executed : (q : ℕ) (l : Literal) → active g s.values q ≡ true → Contains (executed g rows s q) l →
+      Contains (passed g rows s q) l
+  passed_executed q l on j = Contains-append_right (decided g s q ++ heard g rows s q) (more q) l
+      (subst (λ (b : Bool). Contains (if b then executed g rows s q else []) l) (sym on) j)
 
   -- what is carried beside the end of an active process is carried on by its node
-  pub end_carried : (p q : ℕ) → Contains (before_on_node g order p) q → active g s.values q ≡ true → (l : Literal) → Contains (carried_at_end g order rows s q) l →
+  pub end_carried : (p q : ℕ) → Contains (before_on_node g order p) q → active g s.values q ≡ true → (l : Literal) →
+      Contains (carried_at_end g order rows s q) l →
       Contains (flat_map (passed g rows s) (before_on_node g order p)) l
   end_carried p q j on l i = by (process_at g q).frozen refl
     where
       here : Contains (passed g rows s q) l → Contains (flat_map (passed g rows s) (before_on_node g order p)) l
       here k = Contains-flat_map (passed g rows s) (before_on_node g order p) q l j k
 
-      count : (f : Bool) → (process_at g q).frozen ≡ f → Contains (number_known s q ∷ []) l → Contains (executed g rows s q) l
-      count f e k = Contains-append_right (if (process_at g q).frozen then [] else received g rows s q) (number_known s q ∷ []) l k
+      count : (f : Bool) → (process_at g q).frozen ≡ f → Contains (number_known s q ∷ []) l →
+          Contains (executed g rows s q) l
+      count f e k = Contains-append_right (if (process_at g q).frozen then [] else received g rows s q)
+          (number_known s q ∷ []) l k
 
       start : List Literal → List Literal
       start ls = if (process_at g q).frozen then decided g s q else ls
 
       all : List Literal
-      all = flat_map (passed g rows s) (before_on_node g order q) ++ decided g s q ++ heard g rows s q ++ received g rows s q
+      all = flat_map (passed g rows s) (before_on_node g order q) ++ decided g s q ++ heard g rows s q
+          ++ received g rows s q
 
       split : Contains (start all) l ⊎ Contains (number_known s q ∷ []) l
       split = Contains-append_cases (start all) (number_known s q ∷ []) l i
 
-      frozen_case : (process_at g q).frozen ≡ true → Contains (start all) l → Contains (flat_map (passed g rows s) (before_on_node g order p)) l
-      frozen_case e k = here (passed_decided q l (subst (λ (f : Bool). Contains (if f then decided g s q else all) l) e k))
+      frozen_case : (process_at g q).frozen ≡ true → Contains (start all) l →
+          Contains (flat_map (passed g rows s) (before_on_node g order p)) l
+      frozen_case e k =
+          here (passed_decided q l (subst (λ (f : Bool). Contains (if f then decided g s q else all) l) e k))
 
-      parts : Contains all l → (process_at g q).frozen ≡ false → Contains (flat_map (passed g rows s) (before_on_node g order p)) l
-      parts k e = elim (Contains-append_cases (flat_map (passed g rows s) (before_on_node g order q) ++ decided g s q ++ heard g rows s q) (received g rows s q) l k) [
-        | inr o ↦ here (passed_executed q l on (Contains-append_left (if (process_at g q).frozen then [] else received g rows s q) (number_known s q ∷ []) l
-            (subst (λ (f : Bool). Contains (if f then [] else received g rows s q) l) (sym e) o)))
-        | inl m ↦ elim (Contains-append_cases (flat_map (passed g rows s) (before_on_node g order q) ++ decided g s q) (heard g rows s q) l m) [
-          | inr n ↦ here (passed_heard q l n)
-          | inl n ↦ elim (Contains-append_cases (flat_map (passed g rows s) (before_on_node g order q)) (decided g s q) l n) [
-            | inr o ↦ here (passed_decided q l o)
-            | inl o ↦ let r = Contains-flat_map_parts (passed g rows s) (before_on_node g order q) l o in
-                Contains-flat_map (passed g rows s) (before_on_node g order p) r.0 l (before_grows p q r.0 j r.1) r.2
+      parts : Contains all l → (process_at g q).frozen ≡ false →
+          Contains (flat_map (passed g rows s) (before_on_node g order p)) l
+      parts k e = elim (Contains-append_cases (flat_map (passed g rows s) (before_on_node g order q) ++ decided g s q
+          ++ heard g rows s q) (received g rows s q) l k) [
+            | inr o ↦ here (passed_executed q l on (Contains-append_left (if (process_at g q).frozen then []
+                else received g rows s q) (number_known s q ∷ []) l
+                (subst (λ (f : Bool). Contains (if f then [] else received g rows s q) l) (sym e) o)))
+            | inl m ↦
+                elim (Contains-append_cases (flat_map (passed g rows s) (before_on_node g order q) ++ decided g s q)
+                (heard g rows s q) l m) [
+                  | inr n ↦ here (passed_heard q l n)
+                  | inl n ↦
+                      elim (Contains-append_cases (flat_map (passed g rows s) (before_on_node g order q))
+                      (decided g s q) l n) [
+                        | inr o ↦ here (passed_decided q l o)
+                        | inl o ↦ let r = Contains-flat_map_parts (passed g rows s) (before_on_node g order q) l o in
+                            Contains-flat_map (passed g rows s) (before_on_node g order p) r.0 l
+                            (before_grows p q r.0 j r.1) r.2
+                      ]
+                ]
           ]
-        ]
-      ]
 
       by : (f : Bool) → (process_at g q).frozen ≡ f → Contains (flat_map (passed g rows s) (before_on_node g order p)) l
       by f e = elim split [
@@ -109,7 +142,8 @@ module _ (g : Graph) (order : List ℕ) (topological : IsTopological g order) (r
         | inl k ↦ of_start f e k
       ]
         where
-          of_start : (f : Bool) → (process_at g q).frozen ≡ f → Contains (start all) l → Contains (flat_map (passed g rows s) (before_on_node g order p)) l
+          of_start : (f : Bool) → (process_at g q).frozen ≡ f → Contains (start all) l →
+              Contains (flat_map (passed g rows s) (before_on_node g order p)) l
           of_start true e k = frozen_case e k
           of_start false e k = parts (subst (λ (f : Bool). Contains (if f then decided g s q else all) l) e k) e
 
@@ -117,47 +151,62 @@ module _ (g : Graph) (order : List ℕ) (topological : IsTopological g order) (r
 
   -- what tells when a node hears a condition
   abbrev pub heard_support : ℕ → ℕ → List Literal
-  heard_support node c = if node_of g (process_of g c) == node then carried_at_end g order rows s (process_of g c) else carried_by_row rows s (broadcast_item g c)
+  heard_support node c = if node_of g (process_of g c) == node then carried_at_end g order rows s (process_of g c)
+      else carried_by_row rows s (broadcast_item g c)
 
-  own_before : (p q : ℕ) → q < process_count g → place order q < place order p → node_of g q ≡ node_of g p → Contains (before_on_node g order p) q
-  own_before p q l less same = Contains-filter (λ (u : ℕ). node_of g u == node_of g p) (before order p) q (eq-eqb (node_of g q) (node_of g p) same)
+  own_before : (p q : ℕ) → q < process_count g → place order q < place order p → node_of g q ≡ node_of g p →
+      Contains (before_on_node g order p) q
+  own_before p q l less same = Contains-filter (λ (u : ℕ). node_of g u == node_of g p) (before order p) q
+      (eq-eqb (node_of g q) (node_of g p) same)
       (Contains-before order q p (Contains-order (process_count g) order topological.all q l) less)
 
   module _ (urgency : List ℕ) (is_urgency : IsUrgencyOrder g urgency) (urgent : IsTopological g urgency) (p : ℕ) where
     -- what tells of a condition that decides a process is carried
-    pub heard_carried : (c : ℕ) → Contains (deciding g s.values p) c → (l : Literal) → Contains (heard_support (node_of g p) c) l →
+    pub heard_carried : (c : ℕ) → Contains (deciding g s.values p) c → (l : Literal) →
+        Contains (heard_support (node_of g p) c) l →
         Contains (flat_map (passed g rows s) (before_on_node g order p) ++ heard g rows s p) l
     heard_carried c j l i =
         let r = Contains-filter_parts (decides g s.values p) (numbers_below (condition_count g)) c j in
         let low = numbers-Contains (condition_count g) c r.0 in
         elim (cases_eq (node_of g (process_of g c)) (node_of g p)) [
           | inl e ↦ Contains-append_left (flat_map (passed g rows s) (before_on_node g order p)) (heard g rows s p) l
-              (end_carried p (process_of g c) (own_before p (process_of g c) (process_of_below g c low) (decides_earlier g order topological s.values p c low r.1) e)
+              (end_carried p (process_of g c) (own_before p (process_of g c) (process_of_below g c low)
+              (decides_earlier g order topological s.values p c low r.1) e)
               (deciding_is_active g urgency is_urgency urgent s.values p c low r.1) l
-              (subst (λ (b : Bool). Contains (if b then carried_at_end g order rows s (process_of g c) else carried_by_row rows s (broadcast_item g c)) l)
+              (subst (λ (b : Bool). Contains (if b then carried_at_end g order rows s (process_of g c)
+              else carried_by_row rows s (broadcast_item g c)) l)
               (eq-eqb (node_of g (process_of g c)) (node_of g p) e) i))
           | inr n ↦ Contains-append_right (flat_map (passed g rows s) (before_on_node g order p)) (heard g rows s p) l
-              (Contains-flat_map (λ d. if node_of g (process_of g d) == node_of g p then [] else carried_by_row rows s (broadcast_item g d)) (deciding g s.values p) c l j
-              (subst (λ (b : Bool). Contains (if b then [] else carried_by_row rows s (broadcast_item g c)) l) (sym (ne_eqb (node_of g (process_of g c)) (node_of g p) n))
-              (subst (λ (b : Bool). Contains (if b then carried_at_end g order rows s (process_of g c) else carried_by_row rows s (broadcast_item g c)) l)
+              (Contains-flat_map (λ d. if node_of g (process_of g d) == node_of g p then []
+              else carried_by_row rows s (broadcast_item g d)) (deciding g s.values p) c l j
+              (subst (λ (b : Bool). Contains (if b then [] else carried_by_row rows s (broadcast_item g c)) l)
+              (sym (ne_eqb (node_of g (process_of g c)) (node_of g p) n))
+              (subst (λ (b : Bool). Contains (if b then carried_at_end g order rows s (process_of g c)
+              else carried_by_row rows s (broadcast_item g c)) l)
               (ne_eqb (node_of g (process_of g c)) (node_of g p) n) i)))
         ]
 
     -- all that the tests on the way of a guard tell
-    pub tests_carried : (ws : List ℕ) → ((c : ℕ) → Contains ws c → Contains (deciding g s.values p) c) → (l : Literal) → Contains (support_of s (heard_support (node_of g p)) ws) l →
+    pub tests_carried : (ws : List ℕ) → ((c : ℕ) → Contains ws c → Contains (deciding g s.values p) c) → (l : Literal) →
+        Contains (support_of s (heard_support (node_of g p)) ws) l →
         Contains (flat_map (passed g rows s) (before_on_node g order p) ++ decided g s p ++ heard g rows s p) l
     tests_carried ws of l i =
         let r = Contains-flat_map_parts (λ c. heard_support (node_of g p) c ++ value_known s c ∷ []) ws l i in
         elim (Contains-append_cases (heard_support (node_of g p) r.0) (value_known s r.0 ∷ []) l r.2) [
-          | inl m ↦ elim (Contains-append_cases (flat_map (passed g rows s) (before_on_node g order p)) (heard g rows s p) l (heard_carried r.0 (of r.0 r.1) l m)) [
-            | inl n ↦ Contains-append_left (flat_map (passed g rows s) (before_on_node g order p) ++ decided g s p) (heard g rows s p) l
-                (Contains-append_left (flat_map (passed g rows s) (before_on_node g order p)) (decided g s p) l n)
-            | inr n ↦ Contains-append_right (flat_map (passed g rows s) (before_on_node g order p) ++ decided g s p) (heard g rows s p) l n
-          ]
+          | inl m ↦ elim (Contains-append_cases (flat_map (passed g rows s) (before_on_node g order p))
+              (heard g rows s p) l (heard_carried r.0 (of r.0 r.1) l m)) [
+                | inl n ↦ Contains-append_left (flat_map (passed g rows s) (before_on_node g order p) ++ decided g s p)
+                    (heard g rows s p) l
+                    (Contains-append_left (flat_map (passed g rows s) (before_on_node g order p)) (decided g s p) l n)
+                | inr n ↦ Contains-append_right (flat_map (passed g rows s) (before_on_node g order p) ++ decided g s p)
+                    (heard g rows s p) l n
+              ]
           | inr m ↦ elim (Contains-cases (value_known s r.0) [] l m) [
-            | inl e ↦ Contains-append_left (flat_map (passed g rows s) (before_on_node g order p) ++ decided g s p) (heard g rows s p) l
+            | inl e ↦ Contains-append_left (flat_map (passed g rows s) (before_on_node g order p) ++ decided g s p)
+                (heard g rows s p) l
                 (Contains-append_right (flat_map (passed g rows s) (before_on_node g order p)) (decided g s p) l
-                (subst (Contains (decided g s p)) e (Contains-map (value_known s) (deciding g s.values p) r.0 (of r.0 r.1))))
+                (subst (Contains (decided g s p)) e
+                (Contains-map (value_known s) (deciding g s.values p) r.0 (of r.0 r.1))))
             | inr none ↦ absurd (Contains-nil l none)
           ]
         ]
@@ -166,22 +215,32 @@ module _ (g : Graph) (order : List ℕ) (topological : IsTopological g order) (r
 
   -- what tells when an input is there
   abbrev pub input_support : ℕ → List Literal
-  input_support e = if is_message g e then carried_by_row rows s (message_item g e) else carried_at_end g order rows s (source g e)
+  input_support e = if is_message g e then carried_by_row rows s (message_item g e)
+      else carried_at_end g order rows s (source g e)
 
   -- what tells of a live input is carried
-  pub input_carried : (p e : ℕ) → Contains (inputs g p) e → node_of g (source g e) ≡ node_of g p ⊎ (is_message g e ≡ true) → source g e < process_count g → active g s.values (source g e) ≡ true →
+  pub input_carried : (p e : ℕ) → Contains (inputs g p) e →
+      node_of g (source g e) ≡ node_of g p ⊎ (is_message g e ≡ true) → source g e < process_count g →
+      active g s.values (source g e) ≡ true →
       (l : Literal) → Contains (input_support e) l →
       Contains (flat_map (passed g rows s) (before_on_node g order p) ++ received g rows s p) l
   input_carried p e j way low on l i = by (is_message g e) refl way
     where
-      by : (m : Bool) → is_message g e ≡ m → node_of g (source g e) ≡ node_of g p ⊎ (is_message g e ≡ true) → Contains (flat_map (passed g rows s) (before_on_node g order p) ++ received g rows s p) l
-      by true is w = Contains-append_right (flat_map (passed g rows s) (before_on_node g order p)) (received g rows s p) l
-          (Contains-flat_map (λ d. if is_message g d then carried_by_row rows s (message_item g d) else []) (inputs g p) e l j
+      by : (m : Bool) → is_message g e ≡ m → node_of g (source g e) ≡ node_of g p ⊎ (is_message g e ≡ true) →
+          Contains (flat_map (passed g rows s) (before_on_node g order p) ++ received g rows s p) l
+      by true is w =
+          Contains-append_right (flat_map (passed g rows s) (before_on_node g order p)) (received g rows s p) l
+          (Contains-flat_map (λ d. if is_message g d then carried_by_row rows s (message_item g d) else [])
+          (inputs g p) e l j
           (subst (λ (b : Bool). Contains (if b then carried_by_row rows s (message_item g e) else []) l) (sym is)
-          (subst (λ (b : Bool). Contains (if b then carried_by_row rows s (message_item g e) else carried_at_end g order rows s (source g e)) l) is i)))
-      by false is (inl same) = Contains-append_left (flat_map (passed g rows s) (before_on_node g order p)) (received g rows s p) l
-          (end_carried p (source g e) (own_before p (source g e) low (input_goes_up g order topological p e j) same) on l
-          (subst (λ (b : Bool). Contains (if b then carried_by_row rows s (message_item g e) else carried_at_end g order rows s (source g e)) l) is i))
+          (subst (λ (b : Bool). Contains (if b then carried_by_row rows s (message_item g e)
+          else carried_at_end g order rows s (source g e)) l) is i)))
+      by false is (inl same) =
+          Contains-append_left (flat_map (passed g rows s) (before_on_node g order p)) (received g rows s p) l
+          (end_carried p (source g e)
+          (own_before p (source g e) low (input_goes_up g order topological p e j) same) on l
+          (subst (λ (b : Bool). Contains (if b then carried_by_row rows s (message_item g e)
+          else carried_at_end g order rows s (source g e)) l) is i))
       by false is (inr other) = absurd (apart (sym is ∙ other))
         where
           apart : false ≡ true → ⊥
@@ -192,7 +251,8 @@ module _ (g : Graph) (order : List ℕ) (topological : IsTopological g order) (r
   -- all that a start that isn't frozen rests on: when its node is ready, what its guard tests, and its live inputs
   pub start_carried : (p : ℕ) → (process_at g p).frozen ≡ false → (l : Literal) →
       Contains (flat_map (passed g rows s) (before_on_node g order p) ++ decided g s p ++ heard g rows s p) l ⊎
-      Contains (flat_map (passed g rows s) (before_on_node g order p) ++ received g rows s p) l → Contains (carried_at_start g order rows s p) l
+      Contains (flat_map (passed g rows s) (before_on_node g order p) ++ received g rows s p) l →
+      Contains (carried_at_start g order rows s p) l
   start_carried p e l i = subst (λ (f : Bool). Contains (if f then decided g s p else all) l) (sym e) (by i)
     where
       on : List Literal
@@ -201,50 +261,73 @@ module _ (g : Graph) (order : List ℕ) (topological : IsTopological g order) (r
       all : List Literal
       all = on ++ decided g s p ++ heard g rows s p ++ received g rows s p
 
-      by : Contains (on ++ decided g s p ++ heard g rows s p) l ⊎ Contains (on ++ received g rows s p) l → Contains all l
+      by : Contains (on ++ decided g s p ++ heard g rows s p) l ⊎ Contains (on ++ received g rows s p) l →
+          Contains all l
       by (inl m) = Contains-append_left (on ++ decided g s p ++ heard g rows s p) (received g rows s p) l m
       by (inr m) = elim (Contains-append_cases on (received g rows s p) l m) [
         | inr n ↦ Contains-append_right (on ++ decided g s p ++ heard g rows s p) (received g rows s p) l n
         | inl n ↦ Contains-append_left (on ++ decided g s p ++ heard g rows s p) (received g rows s p) l
-            (Contains-append_left (on ++ decided g s p) (heard g rows s p) l (Contains-append_left on (decided g s p) l n))
+            (Contains-append_left (on ++ decided g s p) (heard g rows s p) l
+            (Contains-append_left on (decided g s p) l n))
       ]
 
   -- what a node is ready by after a process was carried before, or beside its end
-  pub ready_carried : (p : ℕ) (l : Literal) → Contains (decided g s p) l ⊎ Contains (flat_map (passed g rows s) (before_on_node g order p) ++ decided g s p ++ heard g rows s p) l →
+  pub ready_carried : (p : ℕ) (l : Literal) →
+      Contains (decided g s p) l ⊎
+      Contains (flat_map (passed g rows s) (before_on_node g order p) ++ decided g s p ++ heard g rows s p) l →
       Contains (flat_map (passed g rows s) (before_on_node g order p) ++ passed g rows s p) l
-  ready_carried p l (inl m) = Contains-append_right (flat_map (passed g rows s) (before_on_node g order p)) (passed g rows s p) l (passed_decided p l m)
-  ready_carried p l (inr m) = elim (Contains-append_cases (flat_map (passed g rows s) (before_on_node g order p) ++ decided g s p) (heard g rows s p) l m) [
-    | inr n ↦ Contains-append_right (flat_map (passed g rows s) (before_on_node g order p)) (passed g rows s p) l (passed_heard p l n)
-    | inl n ↦ elim (Contains-append_cases (flat_map (passed g rows s) (before_on_node g order p)) (decided g s p) l n) [
-      | inl o ↦ Contains-append_left (flat_map (passed g rows s) (before_on_node g order p)) (passed g rows s p) l o
-      | inr o ↦ Contains-append_right (flat_map (passed g rows s) (before_on_node g order p)) (passed g rows s p) l (passed_decided p l o)
-    ]
-  ]
+  ready_carried p l (inl m) = Contains-append_right (flat_map (passed g rows s) (before_on_node g order p))
+      (passed g rows s p) l (passed_decided p l m)
+  ready_carried p l (inr m) =
+      elim (Contains-append_cases (flat_map (passed g rows s) (before_on_node g order p) ++ decided g s p)
+      (heard g rows s p) l m) [
+        | inr n ↦ Contains-append_right (flat_map (passed g rows s) (before_on_node g order p)) (passed g rows s p) l
+            (passed_heard p l n)
+        | inl n ↦
+            elim (Contains-append_cases (flat_map (passed g rows s) (before_on_node g order p)) (decided g s p) l n) [
+              | inl o ↦
+                  Contains-append_left (flat_map (passed g rows s) (before_on_node g order p)) (passed g rows s p) l o
+              | inr o ↦
+                  Contains-append_right (flat_map (passed g rows s) (before_on_node g order p)) (passed g rows s p) l
+                  (passed_decided p l o)
+            ]
+      ]
 
   -- ---- the end
 
   -- what is carried beside the end of an active process is carried before it, or passed on by it
-  pub end_parts : (q : ℕ) → active g s.values q ≡ true → (l : Literal) → Contains (carried_at_end g order rows s q) l → Contains (flat_map (passed g rows s) (before_on_node g order q)) l ⊎
+  pub end_parts : (q : ℕ) → active g s.values q ≡ true → (l : Literal) → Contains (carried_at_end g order rows s q) l →
+      Contains (flat_map (passed g rows s) (before_on_node g order q)) l ⊎
       Contains (passed g rows s q) l
-  end_parts q on l i = elim (Contains-append_cases (if (process_at g q).frozen then decided g s q else all) (number_known s q ∷ []) l i) [
-    | inr k ↦ inr (passed_executed q l on (Contains-append_right (if (process_at g q).frozen then [] else received g rows s q) (number_known s q ∷ []) l k))
-    | inl k ↦ of_start (process_at g q).frozen refl k
-  ]
+  end_parts q on l i = elim (Contains-append_cases (if (process_at g q).frozen then decided g s q else all)
+      (number_known s q ∷ []) l i) [
+        | inr k ↦ inr (passed_executed q l on (Contains-append_right (if (process_at g q).frozen then []
+            else received g rows s q) (number_known s q ∷ []) l k))
+        | inl k ↦ of_start (process_at g q).frozen refl k
+      ]
     where
       all : List Literal
-      all = flat_map (passed g rows s) (before_on_node g order q) ++ decided g s q ++ heard g rows s q ++ received g rows s q
+      all = flat_map (passed g rows s) (before_on_node g order q) ++ decided g s q ++ heard g rows s q
+          ++ received g rows s q
 
-      of_start : (f : Bool) → (process_at g q).frozen ≡ f → Contains (if f then decided g s q else all) l → Contains (flat_map (passed g rows s) (before_on_node g order q)) l ⊎
+      of_start : (f : Bool) → (process_at g q).frozen ≡ f → Contains (if f then decided g s q else all) l →
+          Contains (flat_map (passed g rows s) (before_on_node g order q)) l ⊎
           Contains (passed g rows s q) l
       of_start true e k = inr (passed_decided q l k)
-      of_start false e k = elim (Contains-append_cases (flat_map (passed g rows s) (before_on_node g order q) ++ decided g s q ++ heard g rows s q) (received g rows s q) l k) [
-        | inr o ↦ inr (passed_executed q l on (Contains-append_left (if (process_at g q).frozen then [] else received g rows s q) (number_known s q ∷ []) l
-            (subst (λ (f : Bool). Contains (if f then [] else received g rows s q) l) (sym e) o)))
-        | inl m ↦ elim (Contains-append_cases (flat_map (passed g rows s) (before_on_node g order q) ++ decided g s q) (heard g rows s q) l m) [
-          | inr n ↦ inr (passed_heard q l n)
-          | inl n ↦ elim (Contains-append_cases (flat_map (passed g rows s) (before_on_node g order q)) (decided g s q) l n) [
-            | inr o ↦ inr (passed_decided q l o)
-            | inl o ↦ inl o
+      of_start false e k = elim (Contains-append_cases (flat_map (passed g rows s) (before_on_node g order q)
+          ++ decided g s q ++ heard g rows s q) (received g rows s q) l k) [
+            | inr o ↦ inr (passed_executed q l on (Contains-append_left (if (process_at g q).frozen then []
+                else received g rows s q) (number_known s q ∷ []) l
+                (subst (λ (f : Bool). Contains (if f then [] else received g rows s q) l) (sym e) o)))
+            | inl m ↦
+                elim (Contains-append_cases (flat_map (passed g rows s) (before_on_node g order q) ++ decided g s q)
+                (heard g rows s q) l m) [
+                  | inr n ↦ inr (passed_heard q l n)
+                  | inl n ↦
+                      elim (Contains-append_cases (flat_map (passed g rows s) (before_on_node g order q))
+                      (decided g s q) l n) [
+                        | inr o ↦ inr (passed_decided q l o)
+                        | inl o ↦ inl o
+                      ]
+                ]
           ]
-        ]
-      ]

@@ -9,19 +9,25 @@ use Rattle.cpg_expand.specs.Grown.{IsReadyFirst}
 use Rattle.cpg_expand.specs.declared.forest.Ready.{Ready}
 use Rattle.cpg_expand.specs.declared.forest.Ready.TheVariants.{At}
 
-pub trees_pushed : {T : Type 0} (g : Graph) (xs pushed : List (TreeState T)) (t : TreeState T) (n : ℕ) → (length xs ≡ n) × All (IsTree g) xs → IsTree g t → pushed ≡ xs ++ t ∷ [] →
+pub trees_pushed : {T : Type 0} (g : Graph) (xs pushed : List (TreeState T)) (t : TreeState T) (n : ℕ) →
+    (length xs ≡ n) × All (IsTree g) xs → IsTree g t →
+    pushed ≡ xs ++ t ∷ [] →
     (length pushed ≡ n + 1) × All (IsTree g) pushed
 trees_pushed g xs pushed t n has is e = (
   (let long = length-append xs (t ∷ []) in let same = ap length e in let before = has.0 in omega arith),
   subst (All (IsTree g)) (sym e) (All-push (IsTree g) xs t has.1 is),
 )
 
-pub constants_pushed : {T : Type 0} (x : T) (k : ℕ) (xs pushed : List (TreeState T)) (t : TreeState T) → All (IsConstant x k) xs → IsConstant x k t → pushed ≡ xs ++ t ∷ [] →
+pub constants_pushed : {T : Type 0} (x : T) (k : ℕ) (xs pushed : List (TreeState T)) (t : TreeState T) →
+    All (IsConstant x k) xs → IsConstant x k t →
+    pushed ≡ xs ++ t ∷ [] →
     All (IsConstant x k) pushed
 constants_pushed x k xs pushed t h is e = subst (All (IsConstant x k)) (sym e) (All-push (IsConstant x k) xs t h is)
 
 -- a node that is ready from the beginning
-pub nodes_pushed : (g : Graph) (xs pushed : List Ready) (t : TreeState ℕ) (n : ℕ) → (length xs ≡ n) × All (IsWait g) xs × All (IsReadyFirst g.faults) xs → IsTree g t → IsConstant 0 g.faults t →
+pub nodes_pushed : (g : Graph) (xs pushed : List Ready) (t : TreeState ℕ) (n : ℕ) →
+    (length xs ≡ n) × All (IsWait g) xs × All (IsReadyFirst g.faults) xs → IsTree g t →
+    IsConstant 0 g.faults t →
     pushed ≡ xs ++ At t ∷ [] →
     (length pushed ≡ n + 1) × All (IsWait g) pushed × All (IsReadyFirst g.faults) pushed
 nodes_pushed g xs pushed t n has is zero e = (

@@ -8,12 +8,21 @@ use Rattle.cpg_expand.specs.Agreeing.{IsTree}
 use Rattle.cpg_expand.specs.Forest.{ForestState, HasTrees, no_tree}
 use Rattle.cpg_expand.specs.Waiting.{free_of}
 
-pub free_tree : (g : Graph) (f : ForestState) → HasTrees g f → (node : ℕ) → node < length g.nodes → IsTree g (free_of g f node)
-free_tree g f has node l = All-get_or (IsTree g) f.free node (no_tree g.faults) (omega (arith, l, has.free)) has.all_free
+pub free_tree : (g : Graph) (f : ForestState) → HasTrees g f → (node : ℕ) → node < length g.nodes →
+    IsTree g (free_of g f node)
+free_tree g f has node l =
+    All-get_or (IsTree g) f.free node (no_tree g.faults) (omega (arith, l, has.free)) has.all_free
 
 -- trees that are put keep a tree for each
-pub has_put : (g : Graph) (f new : ForestState) (x node : ℕ) (times : TreeState (Option ℕ)) (free : TreeState ℕ) → HasTrees g f → IsTree g times → IsTree g free →
-    new ≡ record { times = set f.times x times; ends = f.ends; ready = f.ready; free = set f.free node free; wide = f.wide } → HasTrees g new
+pub has_put : (g : Graph) (f new : ForestState) (x node : ℕ) (times : TreeState (Option ℕ)) (free : TreeState ℕ) →
+    HasTrees g f → IsTree g times → IsTree g free →
+    new ≡ record {
+      times = set f.times x times;
+      ends = f.ends;
+      ready = f.ready;
+      free = set f.free node free;
+      wide = f.wide;
+    } → HasTrees g new
 has_put g f new x node times free has of_times of_free is = subst (HasTrees g) (sym is) (record {
   times = length-set f.times x times ∙ has.times;
   ends = has.ends;
@@ -26,8 +35,11 @@ has_put g f new x node times free has of_times of_free is = subst (HasTrees g) (
   own = has.own;
 })
 
-pub free_read : (g : Graph) (f : ForestState) → HasTrees g f → (i : ForestState) → i ≡ f → (v : TreeState ℕ) (at node : ℕ) → v ≡ get_or i.free at v → at ≡ node → node < length g.nodes →
+pub free_read : (g : Graph) (f : ForestState) → HasTrees g f → (i : ForestState) → i ≡ f →
+    (v : TreeState ℕ) (at node : ℕ) → v ≡ get_or i.free at v → at ≡ node →
+    node < length g.nodes →
     v ≡ free_of g f node
 free_read g f has i same v at node is e l =
     let long = ap (λ (h : ForestState). length h.free) same in
-    get_or_read_under i.free at (length i.free) v (no_tree g.faults) is (omega (arith, e, l, has.free, long)) refl ∙ ap (λ (h : ForestState). free_of g h at) same ∙ ap (free_of g f) e
+    get_or_read_under i.free at (length i.free) v (no_tree g.faults) is (omega (arith, e, l, has.free, long)) refl
+    ∙ ap (λ (h : ForestState). free_of g h at) same ∙ ap (free_of g f) e

@@ -1,5 +1,6 @@
 -- The latest time of an item, as the trees of what it waits for tell it, is its frozen time.
-use Rattle.std.proofs.Common.{ℕ, ◌<◌, ◌≤◌, ◌≡◌, ◌≢◌, true, List, length, get_or, Option, Some, None, unwrap_or, arith, refl, sym, ap, ◌∙◌, get_or-set_same, get_or-set_other}
+use Rattle.std.proofs.Common.{ℕ, ◌<◌, ◌≤◌, ◌≡◌, ◌≢◌, true, List, length, get_or, Option, Some, None, unwrap_or, arith}
+use Rattle.std.proofs.Common.{refl, sym, ap, ◌∙◌, get_or-set_same, get_or-set_other}
 use Rattle.std.proofs.lemmas.List.{length-set}
 use Rattle.std.proofs.lemmas.Option.{none-some}
 use Rattle.cpg_base.specs.Graph.{Graph, item_at}
@@ -19,22 +20,27 @@ pub set_count : (old : List (Option ℕ)) (x : ℕ) (latest : Option ℕ) → le
 set_count old x None = refl
 set_count old x (Some time) = length-set old x (Some time)
 
-pub set_other : (old : List (Option ℕ)) (x y : ℕ) (latest : Option ℕ) → y ≢ x → get_or (set_if old x latest) y None ≡ get_or old y None
+pub set_other : (old : List (Option ℕ)) (x y : ℕ) (latest : Option ℕ) → y ≢ x →
+    get_or (set_if old x latest) y None ≡ get_or old y None
 set_other old x y None other = refl
 set_other old x y (Some time) other = get_or-set_other old x y (Some time) None other
 
-pub set_here : (old : List (Option ℕ)) (x : ℕ) (latest : Option ℕ) → x < length old → get_or old x None ≡ None → get_or (set_if old x latest) x None ≡ latest
+pub set_here : (old : List (Option ℕ)) (x : ℕ) (latest : Option ℕ) → x < length old → get_or old x None ≡ None →
+    get_or (set_if old x latest) x None ≡ latest
 set_here old x None l unset = unset
 set_here old x (Some time) l unset = get_or-set_same old x (Some time) None l
 
 module _ (g : Graph) (order : List ℕ) (old : List (Option ℕ)) (x : ℕ) (latest : Option ℕ) where
   -- if the item is active, there is a latest time, which is no earlier than what it would have
   abbrev pub IsAbove : Type 0
-  IsAbove = (s : Scenario) → IsScenario g s → (t : Times) → IsRun g order old s t → item_active g s.values (item_at g x) ≡ true → (m : ℕ) × (latest ≡ Some m) × (unfrozen_time g order s t x ≤ m)
+  IsAbove = (s : Scenario) → IsScenario g s → (t : Times) → IsRun g order old s t →
+      item_active g s.values (item_at g x) ≡ true → (m : ℕ) × (latest ≡ Some m) × (unfrozen_time g order s t x ≤ m)
 
   -- in some scenario in which the item is active the latest time is no later than what it would have
   abbrev pub IsReachedBy : Type 0
-  IsReachedBy = (m : ℕ) → latest ≡ Some m → (s : Scenario) × IsScenario g s × (item_active g s.values (item_at g x) ≡ true) × ((t : Times) → IsRun g order old s t → m ≤ unfrozen_time g order s t x)
+  IsReachedBy =
+      (m : ℕ) → latest ≡ Some m → (s : Scenario) × IsScenario g s × (item_active g s.values (item_at g x) ≡ true) ×
+      ((t : Times) → IsRun g order old s t → m ≤ unfrozen_time g order s t x)
 
 -- what is set is what the item would have at most, and nothing else is
 pub record IsFound (g : Graph) (order : List ℕ) (old : List (Option ℕ)) (x : ℕ) (new : List (Option ℕ)) : Type 0 where
@@ -42,7 +48,8 @@ pub record IsFound (g : Graph) (order : List ℕ) (old : List (Option ℕ)) (x :
   pub same : (y : ℕ) → y ≢ x → get_or new y None ≡ get_or old y None
   pub long : length new ≡ length old
 
-module _ (g : Graph) (order : List ℕ) (topological : IsTopological g order) (old : List (Option ℕ)) (x : ℕ) (within : x < length old) (unset : get_or old x None ≡ None)
+module _ (g : Graph) (order : List ℕ) (topological : IsTopological g order) (old : List (Option ℕ)) (x : ℕ)
+    (within : x < length old) (unset : get_or old x None ≡ None)
     (latest : Option ℕ) (above : IsAbove g order old x latest) (reached : IsReachedBy g order old x latest) where
   reached_there : (time : ℕ) → latest ≡ Some time → WouldHave g order old x time
   reached_there time e =
@@ -55,7 +62,8 @@ module _ (g : Graph) (order : List ℕ) (topological : IsTopological g order) (o
         times = t.0;
         run = t.1;
         active = r.2;
-        has = both_ways (unfrozen_time g order r.0 t.0 x) up.0 time up.2 (some_same up.0 time (sym up.1 ∙ e)) (r.3 t.0 t.1);
+        has = both_ways (unfrozen_time g order r.0 t.0 x) up.0 time up.2
+            (some_same up.0 time (sym up.1 ∙ e)) (r.3 t.0 t.1);
       }
     where
       both_ways : (u m time : ℕ) → u ≤ m → m ≡ time → time ≤ u → u ≡ time
@@ -64,7 +72,8 @@ module _ (g : Graph) (order : List ℕ) (topological : IsTopological g order) (o
   it_is : (o : Option ℕ) → o ≡ latest → IsUnfrozenTime g order old x o
   it_is o is = record {
     reached = λ time e. reached_there time (sym is ∙ e);
-    greatest = λ time other e w. let up = above w.scenario w.lawful w.times w.run w.active in let same = some_same up.0 time (sym up.1 ∙ sym is ∙ e) in omega (arith, up.2, w.has, same);
+    greatest = λ time other e w. let up = above w.scenario w.lawful w.times w.run w.active in
+        let same = some_same up.0 time (sym up.1 ∙ sym is ∙ e) in omega (arith, up.2, w.has, same);
     none = λ e time w. let up = above w.scenario w.lawful w.times w.run w.active in none-some up.0 (sym e ∙ is ∙ up.1);
   }
 

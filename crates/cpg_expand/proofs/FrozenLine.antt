@@ -1,5 +1,6 @@
 -- The tree of a frozen start agrees with what is carried beside it.
-use Rattle.std.proofs.Common.{ℕ, ◌<◌, ◌≤◌, ◌≡◌, Bool, true, false, if◌then◌else◌, List, [], ◌∷◌, ◌++◌, flat_map, get_or, Option, Some, None, option_to_list, Contains, arith, refl, sym, ap, ◌∙◌, subst}
+use Rattle.std.proofs.Common.{ℕ, ◌<◌, ◌≤◌, ◌≡◌, Bool, true, false, if◌then◌else◌, List, [], ◌∷◌, ◌++◌, flat_map, get_or}
+use Rattle.std.proofs.Common.{Option, Some, None, option_to_list, Contains, arith, refl, sym, ap, ◌∙◌, subst}
 use Rattle.cpg_base.specs.Numbers.{greatest}
 use Rattle.cpg_base.specs.Graph.{Graph, process_at, process_count, item_count}
 use Rattle.cpg_base.specs.Activity.{active, activation, is_active, item_active}
@@ -22,40 +23,57 @@ use Rattle.cpg_expand.specs.Values.{time_if}
 use Rattle.cpg_expand.proofs.AgreeingTrees.{agrees_map, agrees_weaker}
 use Rattle.cpg_expand.proofs.GuardTrees.{each_of, few_of}
 
-module _ (g : Graph) (order : List ℕ) (rows : List (List Column)) (s : Scenario) (few : HasAtMostFaults g.faults s) (p : ℕ) (guard : Guard)
-    (leads : outcome_at guard s.values ≡ activation g s.values p) (on_way : (c : ℕ) → Contains (way guard s.values) c → Contains (deciding g s.values p) c) where
+module _ (g : Graph) (order : List ℕ) (rows : List (List Column)) (s : Scenario) (few : HasAtMostFaults g.faults s)
+    (p : ℕ) (guard : Guard)
+    (leads : outcome_at guard s.values ≡ activation g s.values p)
+    (on_way : (c : ℕ) → Contains (way guard s.values) c → Contains (deciding g s.values p) c) where
   -- one time wherever the process is active
-  pub frozen_line : (process_at g p).frozen ≡ true → (chooser : TreeState Bool) (tree : TreeState (Option ℕ)) (time : ℕ) → IsTree g chooser → IsActiveTree g.faults guard chooser →
+  pub frozen_line : (process_at g p).frozen ≡ true →
+      (chooser : TreeState Bool) (tree : TreeState (Option ℕ)) (time : ℕ) → IsTree g chooser →
+      IsActiveTree g.faults guard chooser →
       IsMap (λ b z. z ≡ time_if time b) chooser tree →
       HasValueFrom s (carried_at_start g order rows s p) (if active g s.values p then Some time else None) tree
   frozen_line frozen chooser tree time of_chooser actives made =
-      agrees_weaker s tree (values_known s (way guard s.values)) (carried_at_start g order rows s p) (λ z. z ≡ time_if time (active g s.values p))
+      agrees_weaker s tree (values_known s (way guard s.values)) (carried_at_start g order rows s p)
+      (λ z. z ≡ time_if time (active g s.values p))
       (λ z. z ≡ (if active g s.values p then Some time else None)) within (λ z e. e)
-      (agrees_map s (λ b z. z ≡ time_if time b) chooser tree (values_known s (way guard s.values)) (λ b. b ≡ active g s.values p) (λ z. z ≡ time_if time (active g s.values p))
-      (few_of g.faults chooser.faults s of_chooser.faults few) (each_of g chooser.faults chooser of_chooser.faults of_chooser) made
+      (agrees_map s (λ b z. z ≡ time_if time b) chooser tree (values_known s (way guard s.values))
+      (λ b. b ≡ active g s.values p) (λ z. z ≡ time_if time (active g s.values p))
+      (few_of g.faults chooser.faults s of_chooser.faults few)
+      (each_of g chooser.faults chooser of_chooser.faults of_chooser) made
       (λ b z e f. f ∙ ap (time_if time) e) chosen)
     where
       chosen : HasValueFrom s (values_known s (way guard s.values)) (active g s.values p) chooser
-      chosen = subst (λ (a : Activation). HasValueFrom s (values_known s (way guard s.values)) (is_active a) chooser) leads (actives s few)
+      chosen = subst (λ (a : Activation). HasValueFrom s (values_known s (way guard s.values)) (is_active a) chooser)
+          leads (actives s few)
 
       in_decided : (l : Literal) → Contains (values_known s (way guard s.values)) l → Contains (decided g s p) l
       in_decided l j =
           let r = Contains-map_parts (value_known s) (way guard s.values) l j in
-          subst (Contains (decided g s p)) r.2 (Contains-map (value_known s) (deciding g s.values p) r.0 (on_way r.0 r.1))
+          subst (Contains (decided g s p)) r.2
+          (Contains-map (value_known s) (deciding g s.values p) r.0 (on_way r.0 r.1))
 
-      within : (l : Literal) → Contains (values_known s (way guard s.values)) l → Contains (carried_at_start g order rows s p) l
-      within l j = subst (λ (f : Bool). Contains (if f then decided g s p else flat_map (passed g rows s) (before_on_node g order p) ++ decided g s p ++ heard g rows s p ++ received g rows s p) l)
+      within : (l : Literal) → Contains (values_known s (way guard s.values)) l →
+          Contains (carried_at_start g order rows s p) l
+      within l j = subst (λ (f : Bool). Contains (if f then decided g s p else flat_map (passed g rows s)
+          (before_on_node g order p) ++ decided g s p ++ heard g rows s p ++ received g rows s p) l)
           (sym frozen) (in_decided l j)
 
 -- a frozen time that no unfrozen time is above is the time of the run
-pub frozen_value : (g : Graph) (order : List ℕ) (frozen : List (Option ℕ)) (s : Scenario) (t : Times) → IsRun g order frozen s t → (p : ℕ) → p < process_count g → (time : ℕ) →
+pub frozen_value : (g : Graph) (order : List ℕ) (frozen : List (Option ℕ)) (s : Scenario) (t : Times) →
+    IsRun g order frozen s t → (p : ℕ) → p < process_count g → (time : ℕ) →
     get_or frozen p None ≡ Some time →
-    (active g s.values p ≡ true → unfrozen_time g order s t p ≤ time) → (if active g s.values p then Some time else None) ≡ get_or t.times p None
+    (active g s.values p ≡ true → unfrozen_time g order s t p ≤ time) →
+    (if active g s.values p then Some time else None) ≡ get_or t.times p None
 frozen_value g order frozen s t run p l time is most =
-    go (active g s.values p) refl ∙ sym (ap (λ ts. get_or ts p None) run.times ∙ get_or-map-below (time_by g order frozen s t) (item_count g) p None (omega (arith, l))
-    ∙ ap (λ (b : Bool). if b then Some (greatest (unfrozen_time g order s t p ∷ option_to_list (get_or frozen p None))) else None) (ap (item_active g s.values) (item_at-start g p l)))
+    go (active g s.values p) refl ∙ sym (ap (λ ts. get_or ts p None) run.times
+    ∙ get_or-map-below (time_by g order frozen s t) (item_count g) p None (omega (arith, l))
+    ∙ ap (λ (b : Bool). if b then Some (greatest (unfrozen_time g order s t p ∷ option_to_list (get_or frozen p None)))
+    else None) (ap (item_active g s.values) (item_at-start g p l)))
   where
-    go : (b : Bool) → active g s.values p ≡ b → (if b then Some time else None) ≡ (if b then Some (greatest (unfrozen_time g order s t p ∷ option_to_list (get_or frozen p None))) else None)
+    go : (b : Bool) → active g s.values p ≡ b →
+        (if b then Some time else None)
+        ≡ (if b then Some (greatest (unfrozen_time g order s t p ∷ option_to_list (get_or frozen p None))) else None)
     go true on = ap (λ n. Some n) (
         let one = ap (λ o. greatest (unfrozen_time g order s t p ∷ option_to_list o)) is in
         let both = greatest-cons (unfrozen_time g order s t p) (time ∷ []) in

@@ -1,5 +1,6 @@
 -- The tree of a frozen send agrees with what is carried beside it; and a frozen time is the run's.
-use Rattle.std.proofs.Common.{ℕ, ◌<◌, ◌≤◌, ◌≡◌, Bool, true, false, if◌then◌else◌, List, [], ◌∷◌, ◌++◌, flat_map, get_or, Option, Some, None, option_to_list, Contains, ◌⊎◌, arith, refl, sym, ap, ◌∙◌}
+use Rattle.std.proofs.Common.{ℕ, ◌<◌, ◌≤◌, ◌≡◌, Bool, true, false, if◌then◌else◌, List, [], ◌∷◌, ◌++◌, flat_map, get_or}
+use Rattle.std.proofs.Common.{Option, Some, None, option_to_list, Contains, ◌⊎◌, arith, refl, sym, ap, ◌∙◌}
 use Rattle.std.proofs.Common.{subst, inl, inr}
 use Rattle.std.proofs.lemmas.List.Elements.{Contains-append_left, Contains-append_right}
 use Rattle.cpg_base.specs.Numbers.{greatest}
@@ -20,24 +21,34 @@ use Rattle.cpg_expand.specs.Values.{time_if}
 use Rattle.cpg_expand.proofs.AgreeingTrees.{agrees_map, agrees_weaker}
 use Rattle.cpg_expand.proofs.GuardTrees.{each_of, few_of}
 
-module _ (g : Graph) (order : List ℕ) (rows : List (List Column)) (s : Scenario) (few : HasAtMostFaults g.faults s) (x : ℕ)
-    (says : List Literal) (goes : TreeState Bool) (of_goes : HasValueFrom s says (item_active g s.values (item_at g x)) goes)
-    (at_most : (l : Literal) → Contains says l → Contains (decided g s (producer g x)) l ⊎ ((active g s.values (producer g x) ≡ true) × Contains (sent_by_value g s x) l)) where
+module _ (g : Graph) (order : List ℕ) (rows : List (List Column)) (s : Scenario)
+    (few : HasAtMostFaults g.faults s) (x : ℕ)
+    (says : List Literal) (goes : TreeState Bool)
+    (of_goes : HasValueFrom s says (item_active g s.values (item_at g x)) goes)
+    (at_most : (l : Literal) → Contains says l → Contains (decided g s (producer g x)) l ⊎
+    ((active g s.values (producer g x) ≡ true) × Contains (sent_by_value g s x) l)) where
   -- one time wherever the item is sent
-  pub frozen_send_line : is_frozen g x ≡ true → (tree : TreeState (Option ℕ)) (time : ℕ) → IsTree g goes → IsMap (λ b z. z ≡ time_if time b) goes tree →
-      HasValueFrom s (carried_at_send g order rows s x) (if item_active g s.values (item_at g x) then Some time else None) tree
+  pub frozen_send_line : is_frozen g x ≡ true → (tree : TreeState (Option ℕ)) (time : ℕ) → IsTree g goes →
+      IsMap (λ b z. z ≡ time_if time b) goes tree →
+      HasValueFrom s (carried_at_send g order rows s x)
+      (if item_active g s.values (item_at g x) then Some time else None) tree
   frozen_send_line frozen tree time of_tree made =
-      agrees_weaker s tree says (carried_at_send g order rows s x) (λ z. z ≡ time_if time (item_active g s.values (item_at g x)))
+      agrees_weaker s tree says (carried_at_send g order rows s x)
+      (λ z. z ≡ time_if time (item_active g s.values (item_at g x)))
       (λ z. z ≡ (if item_active g s.values (item_at g x) then Some time else None)) within (λ z e. e)
-      (agrees_map s (λ b z. z ≡ time_if time b) goes tree says (λ b. b ≡ item_active g s.values (item_at g x)) (λ z. z ≡ time_if time (item_active g s.values (item_at g x)))
+      (agrees_map s (λ b z. z ≡ time_if time b) goes tree says (λ b. b ≡ item_active g s.values (item_at g x))
+      (λ z. z ≡ time_if time (item_active g s.values (item_at g x)))
       (few_of g.faults goes.faults s of_tree.faults few) (each_of g goes.faults goes of_tree.faults of_tree) made
       (λ b z e f. f ∙ ap (time_if time) e) of_goes)
     where
       all : List Literal
       all = flat_map (queued g order rows s) (queued_before g order x) ++ carried_at_end g order rows s (producer g x)
 
-      frozen_says : (l : Literal) → Contains (decided g s (producer g x) ++ sent_by_value g s x) l → Contains (carried_at_send g order rows s x) l
-      frozen_says l j = subst (λ (f : Bool). Contains ((if f then decided g s (producer g x) else all) ++ sent_by_value g s x) l) (sym frozen) j
+      frozen_says : (l : Literal) → Contains (decided g s (producer g x) ++ sent_by_value g s x) l →
+          Contains (carried_at_send g order rows s x) l
+      frozen_says l j =
+          subst (λ (f : Bool). Contains ((if f then decided g s (producer g x) else all) ++ sent_by_value g s x) l)
+          (sym frozen) j
 
       within : (l : Literal) → Contains says l → Contains (carried_at_send g order rows s x) l
       within l j = elim (at_most l j) [
@@ -46,10 +57,13 @@ module _ (g : Graph) (order : List ℕ) (rows : List (List Column)) (s : Scenari
       ]
 
 -- a frozen time that no unfrozen time is above is the time of the run
-pub frozen_send_value : (g : Graph) (order : List ℕ) (frozen : List (Option ℕ)) (s : Scenario) (t : Times) → IsRun g order frozen s t → (x : ℕ) → x < item_count g → (time : ℕ) →
+pub frozen_send_value : (g : Graph) (order : List ℕ) (frozen : List (Option ℕ)) (s : Scenario) (t : Times) →
+    IsRun g order frozen s t → (x : ℕ) → x < item_count g → (time : ℕ) →
     get_or frozen x None ≡ Some time →
-    (item_active g s.values (item_at g x) ≡ true → unfrozen_time g order s t x ≤ time) → (if item_active g s.values (item_at g x) then Some time else None) ≡ get_or t.times x None
-frozen_send_value g order frozen s t run x l time is most = go (item_active g s.values (item_at g x)) refl ∙ sym (time_is g order frozen s t run x l)
+    (item_active g s.values (item_at g x) ≡ true → unfrozen_time g order s t x ≤ time) →
+    (if item_active g s.values (item_at g x) then Some time else None) ≡ get_or t.times x None
+frozen_send_value g order frozen s t run x l time is most =
+    go (item_active g s.values (item_at g x)) refl ∙ sym (time_is g order frozen s t run x l)
   where
     go : (b : Bool) → item_active g s.values (item_at g x) ≡ b → (if b then Some time else None) ≡
         (if b then Some (greatest (unfrozen_time g order s t x ∷ option_to_list (get_or frozen x None))) else None)

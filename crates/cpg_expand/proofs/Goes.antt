@@ -1,10 +1,12 @@
 -- The trees of where an edge is live and an item is sent.
-use Rattle.std.proofs.Common.{ℕ, ◌<◌, ◌≡◌, ◌&&◌, Bool, true, false, true≢false, if◌then◌else◌, List, [], ◌∷◌, ◌++◌, map, get_or, Option, Some, None, unwrap_or, option_to_list, is_some, ◌⊎◌, inl, inr}
+use Rattle.std.proofs.Common.{ℕ, ◌<◌, ◌≡◌, ◌&&◌, Bool, true, false, true≢false, if◌then◌else◌, List, [], ◌∷◌, ◌++◌, map}
+use Rattle.std.proofs.Common.{get_or, Option, Some, None, unwrap_or, option_to_list, is_some, ◌⊎◌, inl, inr}
 use Rattle.std.proofs.Common.{refl, sym, ap, ap₂, ◌∙◌, subst}
 use Rattle.std.proofs.lemmas.List.Elements.{Contains-append_left}
 use Rattle.std.proofs.lemmas.Option.{none-some}
 use Rattle.cpg_base.specs.Numbers.{same_bool}
-use Rattle.cpg_base.specs.Graph.{Graph, process_count, edge_count, edge_at, source, condition_of, process_of, value_variable, item_at, producer, is_sent_item, producer_of_item}
+use Rattle.cpg_base.specs.Graph.{Graph, process_count, edge_count, edge_at, source, condition_of, process_of}
+use Rattle.cpg_base.specs.Graph.{value_variable, item_at, producer, is_sent_item, producer_of_item}
 use Rattle.cpg_base.specs.Activity.{active, live, takes, item_active}
 use Rattle.cpg_base.specs.declared.item.Item.{Item}
 use Rattle.cpg_base.specs.declared.item.Item.TheVariants.{Start, Message, Broadcast}
@@ -30,25 +32,32 @@ and_true true = refl
 and_true false = refl
 
 -- what is true where a tree is
-pub same_valued : (g : Graph) (chooser t : TreeState Bool) → IsTree g chooser → IsMap (λ x z. z ≡ same_bool true x) chooser t → (s : Scenario) → HasAtMostFaults g.faults s →
+pub same_valued : (g : Graph) (chooser t : TreeState Bool) → IsTree g chooser →
+    IsMap (λ x z. z ≡ same_bool true x) chooser t → (s : Scenario) →
+    HasAtMostFaults g.faults s →
     (b : Bool) (first more : List Literal) → HasValueFrom s first b chooser → HasValueFrom s (first ++ more) b t
 same_valued g chooser t of_chooser made s few b first more valued =
-    agrees_weaker s t first (first ++ more) (λ z. z ≡ b) (λ z. z ≡ b) (λ l j. Contains-append_left first more l j) (λ z e. e)
-    (agrees_map s (λ x z. z ≡ same_bool true x) chooser t first (λ x. x ≡ b) (λ z. z ≡ b) (few_of g.faults chooser.faults s of_chooser.faults few)
+    agrees_weaker s t first (first ++ more) (λ z. z ≡ b) (λ z. z ≡ b)
+    (λ l j. Contains-append_left first more l j) (λ z e. e)
+    (agrees_map s (λ x z. z ≡ same_bool true x) chooser t first (λ x. x ≡ b) (λ z. z ≡ b)
+    (few_of g.faults chooser.faults s of_chooser.faults few)
     (each_of g chooser.faults chooser of_chooser.faults of_chooser) made
     (λ x z e f. f ∙ ap (same_bool true) e ∙ same_true b) valued)
 
 -- ---- what an edge asks for
 
-no_question : (o : Option Bool) (c : Option ℕ) → asked_by o c ≡ None → (o ≡ None) ⊎ (((w : Bool) × (o ≡ Some w)) × (c ≡ None))
+no_question : (o : Option Bool) (c : Option ℕ) → asked_by o c ≡ None →
+    (o ≡ None) ⊎ (((w : Bool) × (o ≡ Some w)) × (c ≡ None))
 no_question None c e = inl refl
 no_question (Some w) None e = inr ((w, refl), refl)
 no_question (Some w) (Some d) e = absurd (none-some (d, w) (sym e))
 
-a_question : (o : Option Bool) (c : Option ℕ) (d : ℕ) (w : Bool) → asked_by o c ≡ Some (d, w) → (o ≡ Some w) × (c ≡ Some d)
+a_question : (o : Option Bool) (c : Option ℕ) (d : ℕ) (w : Bool) → asked_by o c ≡ Some (d, w) →
+    (o ≡ Some w) × (c ≡ Some d)
 a_question None c d w e = absurd (none-some (d, w) e)
 a_question (Some v) None d w e = absurd (none-some (d, w) e)
-a_question (Some v) (Some f) d w e = (ap (λ (q : Option (ℕ × Bool)). some_value q) e, ap (λ (q : Option (ℕ × Bool)). some_condition q) e)
+a_question (Some v) (Some f) d w e =
+    (ap (λ (q : Option (ℕ × Bool)). some_value q) e, ap (λ (q : Option (ℕ × Bool)). some_condition q) e)
   where
     some_value : Option (ℕ × Bool) → Option Bool
     some_value None = None
@@ -72,49 +81,68 @@ module _ (g : Graph) (e : ℕ) where
   asks_condition c w is = (a_question (edge_at g e).when (condition_of g (source g e)) c w is).1
 
   module _ (chooser t : TreeState Bool) where
-    pub live_simple : e < edge_count g → source g e < process_count g → asked g e ≡ None → IsTree g chooser → IsMap (λ x z. z ≡ same_bool true x) chooser t → IsLiveTree g e chooser t
+    pub live_simple : e < edge_count g → source g e < process_count g → asked g e ≡ None → IsTree g chooser →
+        IsMap (λ x z. z ≡ same_bool true x) chooser t →
+        IsLiveTree g e chooser t
     live_simple l h none of_chooser made s few first valued =
         let simple = asks_nothing l h none in
         let b : Bool = active g s.values (source g e) in
         let v : Bool = get_or s.values (unwrap_or (condition_of g (source g e)) 0) false in
-        subst (λ (z : Bool). HasValueFrom s (first ++ (if b then map (number_known s) (source_value g e) else [])) z t) (sym (ap (λ o. b && takes o v) simple ∙ and_true b))
-        (same_valued g chooser t of_chooser made s few b first (if b then map (number_known s) (source_value g e) else []) valued)
+        subst (λ (z : Bool). HasValueFrom s (first ++ (if b then map (number_known s) (source_value g e) else [])) z t)
+        (sym (ap (λ o. b && takes o v) simple ∙ and_true b))
+        (same_valued g chooser t of_chooser made s few b first
+        (if b then map (number_known s) (source_value g e) else []) valued)
 
-    pub live_tested : (c : ℕ) (w : Bool) → asked g e ≡ Some (c, w) → IsTestedTree g.faults c w chooser t → IsLiveTree g e chooser t
+    pub live_tested : (c : ℕ) (w : Bool) → asked g e ≡ Some (c, w) → IsTestedTree g.faults c w chooser t →
+        IsLiveTree g e chooser t
     live_tested c w is tested s few first valued =
         let both = a_question (edge_at g e).when (condition_of g (source g e)) c w is in
         let b : Bool = active g s.values (source g e) in
-        let lits = ap₂ (λ (o : Option Bool) (d : Option ℕ). first ++ (if b then map (number_known s) (if is_some o then map value_variable (option_to_list d) else []) else [])) (sym both.0)
+        let lits = ap₂ (λ (o : Option Bool) (d : Option ℕ). first ++ (if b then map (number_known s)
+        (if is_some o then map value_variable (option_to_list d) else []) else [])) (sym both.0)
         (sym both.1) in
-        let value = ap₂ (λ (o : Option Bool) (d : Option ℕ). b && takes o (get_or s.values (unwrap_or d 0) false)) (sym both.0) (sym both.1) in
+        let value = ap₂ (λ (o : Option Bool) (d : Option ℕ). b && takes o (get_or s.values (unwrap_or d 0) false))
+        (sym both.0) (sym both.1) in
         subst (λ (ls : List Literal). HasValueFrom s ls (live g s.values e) t) lits
-        (subst (λ (z : Bool). HasValueFrom s (first ++ (if b then value_known s c ∷ [] else [])) z t) value (tested s few b first valued))
+        (subst (λ (z : Bool). HasValueFrom s (first ++ (if b then value_known s c ∷ [] else [])) z t) value
+        (tested s few b first valued))
 
 module _ (g : Graph) (x : ℕ) (chooser t : TreeState Bool) where
   -- a message is sent if its edge is live
-  pub goes_message : (e : ℕ) → item_at g x ≡ Message e → is_sent_item g (item_at g x) ≡ true → IsLiveTree g e chooser t → IsGoesTree g x chooser t
+  pub goes_message : (e : ℕ) → item_at g x ≡ Message e → is_sent_item g (item_at g x) ≡ true →
+      IsLiveTree g e chooser t →
+      IsGoesTree g x chooser t
   goes_message e is sent lives s few first valued =
       let message = sym (ap (is_sent_item g) is) ∙ sent in
       subst (λ (i : Item). HasValueFrom s first (active g s.values (producer_of_item g i)) chooser →
-      HasValueFrom s (first ++ (if active g s.values (producer_of_item g i) then map (number_known s) (sent_value g i) else [])) (item_active g s.values i) t) (sym is)
-      (λ by_source. subst (λ (z : Bool). HasValueFrom s (first ++ (if active g s.values (source g e) then map (number_known s) (source_value g e) else [])) z t)
+      HasValueFrom s (first ++ (if active g s.values (producer_of_item g i) then map (number_known s) (sent_value g i)
+      else [])) (item_active g s.values i) t) (sym is)
+      (λ by_source. subst (λ (z : Bool). HasValueFrom s
+      (first ++ (if active g s.values (source g e) then map (number_known s) (source_value g e) else [])) z t)
       (sym (ap (λ (b : Bool). b && live g s.values e) message)) (lives s few first by_source))
       valued
 
   -- a broadcast with its process
-  pub goes_broadcast : (c : ℕ) → item_at g x ≡ Broadcast c → is_sent_item g (item_at g x) ≡ true → IsTree g chooser → IsMap (λ x z. z ≡ same_bool true x) chooser t → IsGoesTree g x chooser t
+  pub goes_broadcast : (c : ℕ) → item_at g x ≡ Broadcast c → is_sent_item g (item_at g x) ≡ true → IsTree g chooser →
+      IsMap (λ x z. z ≡ same_bool true x) chooser t →
+      IsGoesTree g x chooser t
   goes_broadcast c is sent of_chooser made s few first valued =
       let many = sym (ap (is_sent_item g) is) ∙ sent in
       let value : item_active g s.values (item_at g x) ≡ active g s.values (producer g x) =
-      ap (item_active g s.values) is ∙ ap (λ (b : Bool). b && active g s.values (process_of g c)) many ∙ ap (λ (i : Item). active g s.values (producer_of_item g i)) (sym is) in
-      subst (λ (z : Bool). HasValueFrom s (first ++ (if active g s.values (producer g x) then sent_by_value g s x else [])) z t) (sym value)
-      (same_valued g chooser t of_chooser made s few (active g s.values (producer g x)) first (if active g s.values (producer g x) then sent_by_value g s x else []) valued)
+      ap (item_active g s.values) is ∙ ap (λ (b : Bool). b && active g s.values (process_of g c)) many
+      ∙ ap (λ (i : Item). active g s.values (producer_of_item g i)) (sym is) in
+      subst (λ (z : Bool). HasValueFrom s
+      (first ++ (if active g s.values (producer g x) then sent_by_value g s x else [])) z t) (sym value)
+      (same_valued g chooser t of_chooser made s few (active g s.values (producer g x)) first
+      (if active g s.values (producer g x) then sent_by_value g s x else []) valued)
 
   no_start : (p : ℕ) → item_at g x ≡ Start p → is_sent_item g (item_at g x) ≡ true → ⊥
   no_start p is sent = true≢false (sym sent ∙ ap (is_sent_item g) is)
 
   -- what is sent and is no message is a broadcast
-  pub goes_other : (i : Item) → item_at g x ≡ i → ((e : ℕ) → i ≡ Message e → ⊥) → is_sent_item g (item_at g x) ≡ true → IsTree g chooser → IsMap (λ x z. z ≡ same_bool true x) chooser t →
+  pub goes_other : (i : Item) → item_at g x ≡ i → ((e : ℕ) → i ≡ Message e → ⊥) → is_sent_item g (item_at g x) ≡ true →
+      IsTree g chooser →
+      IsMap (λ x z. z ≡ same_bool true x) chooser t →
       IsGoesTree g x chooser t
   goes_other (Start p) is other sent of_chooser made = absurd (no_start p is sent)
   goes_other (Message e) is other sent of_chooser made = absurd (other e refl)

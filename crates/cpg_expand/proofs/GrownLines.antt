@@ -1,4 +1,5 @@
--- Trees that are grown tell what starts and sends rest on; lines go over to other frozen times; the first trees are grown.
+-- Trees that are grown tell what starts and sends rest on; lines go over to other frozen times; the first trees are
+-- grown.
 use Rattle.std.proofs.Common.{ℕ, ◌*◌, ◌<◌, ◌≡◌, List, [], length, get_or, Option, None, arith, refl, sym, ◌∙◌, subst}
 use Rattle.std.proofs.lemmas.Option.{none-some}
 use Rattle.std.proofs.lemmas.List.{length-replicate}
@@ -23,7 +24,8 @@ use Rattle.cpg_expand.specs.Agreeing.{HasValueFrom}
 use Rattle.cpg_expand.specs.Forest.{ForestState, HasTrees, no_tree, times_of, ends_of, ready_at, ready_by}
 use Rattle.cpg_expand.specs.declared.forest.Ready.{Ready}
 use Rattle.cpg_expand.specs.declared.forest.Ready.TheVariants.{After, At}
-use Rattle.cpg_expand.specs.Grown.{RowsHold, IsReadyLine, IsFreeLine, Lines, IsEarlier, AreSettledOf, IsGrown, IsReadyFirst, IsBare}
+use Rattle.cpg_expand.specs.Grown.{RowsHold, IsReadyLine, IsFreeLine, Lines, IsEarlier, AreSettledOf, IsGrown}
+use Rattle.cpg_expand.specs.Grown.{IsReadyFirst, IsBare}
 use Rattle.cpg_expand.specs.TreeValues.{HasTreeValues}
 use Rattle.cpg_expand.specs.Waiting.{ready_of, free_of}
 use Rattle.cpg_expand.proofs.AgreeingTrees.{agrees_constant, agrees_weaker}
@@ -32,12 +34,15 @@ use Rattle.cpg_expand.proofs.GuardTrees.{times_tree}
 
 -- ---- what is told
 
-pub valued_from_lines : (g : Graph) (order : List ℕ) (rows : List (List Column)) (i : ℕ) (f : ForestState) → HasTrees g f → RowsHold g order i f rows →
+pub valued_from_lines : (g : Graph) (order : List ℕ) (rows : List (List Column)) (i : ℕ) (f : ForestState) →
+    HasTrees g f →
+    RowsHold g order i f rows →
     (frozen : List (Option ℕ)) (s : Scenario) (t : Times) → IsRun g order frozen s t →
     Lines g order rows s t i f → HasTreeValues g order rows s t i f
 valued_from_lines g order rows i f has hold frozen s t run lines = record {
   ends = λ q l sooner on. lines.ends q l sooner;
-  sends = λ x l sent sooner on. valued_by_tree g.faults rows s x (λ (y : Option ℕ). y ≡ get_or t.times x None) (times_of g f x) (times_tree g f has x l).faults
+  sends = λ x l sent sooner on. valued_by_tree g.faults rows s x (λ (y : Option ℕ). y ≡ get_or t.times x None)
+      (times_of g f x) (times_tree g f has x l).faults
       (λ p is_on.
       let here = (lines.times x l sooner).value p is_on in
       (here, hold.sends x l sent sooner p _ is_on.stands (here ∙ has_time g order frozen s t run x l on)));
@@ -45,33 +50,55 @@ valued_from_lines g order rows i f has hold frozen s t run lines = record {
 
 -- ---- other frozen times
 
-module _ (g : Graph) (order : List ℕ) (topological : IsTopological g order) (rows : List (List Column)) (s : Scenario) (i : ℕ) (f : ForestState) where
-  lines_same : (t u : Times) → AgreeBefore g order t u (i * phases g) → Lines g order rows s t i f → Lines g order rows s u i f
+module _ (g : Graph) (order : List ℕ) (topological : IsTopological g order) (rows : List (List Column)) (s : Scenario)
+    (i : ℕ) (f : ForestState) where
+  lines_same : (t u : Times) → AgreeBefore g order t u (i * phases g) → Lines g order rows s t i f →
+      Lines g order rows s u i f
   lines_same t u a lines = record {
-    times = λ x h l. subst (λ (o : Option ℕ). HasValueFrom s (carried g order rows s x) o (times_of g f x)) (a.items x h (item_before g order topological s t u i a x h l)) (lines.times x h l);
-    ends = λ q h l. subst (λ (o : Option ℕ). HasValueFrom s (carried_at_end g order rows s q) o (ends_of g f q)) (a.ends q h (end_before g order topological s t u i a q l)) (lines.ends q h l);
-    ready = λ node l w. let r = lines.ready node l w in record { time = r.time; is = ready_same g order topological s t u i a node r.time r.is; has_value = r.has_value };
-    free = λ node l q. let r = lines.free node l q in record { time = r.time; is = free_same g order topological s t u i a node r.time r.is; has_value = r.has_value };
+    times = λ x h l. subst (λ (o : Option ℕ). HasValueFrom s (carried g order rows s x) o (times_of g f x))
+        (a.items x h (item_before g order topological s t u i a x h l)) (lines.times x h l);
+    ends = λ q h l. subst (λ (o : Option ℕ). HasValueFrom s (carried_at_end g order rows s q) o (ends_of g f q))
+        (a.ends q h (end_before g order topological s t u i a q l)) (lines.ends q h l);
+    ready = λ node l w. let r = lines.ready node l w in record {
+      time = r.time;
+      is = ready_same g order topological s t u i a node r.time r.is;
+      has_value = r.has_value;
+    };
+    free = λ node l q. let r = lines.free node l q in record {
+      time = r.time;
+      is = free_same g order topological s t u i a node r.time r.is;
+      has_value = r.has_value;
+    };
   }
 
   -- lines go over to a list of frozen times that is the same for what is made before the place
-  pub lines_over : (frozen others : List (Option ℕ)) → ((x : ℕ) → x < item_count g → place order (producer g x) < i → get_or frozen x None ≡ get_or others x None) →
-      ((t : Times) → IsRun g order frozen s t → Lines g order rows s t i f) → (u : Times) → IsRun g order others s u → Lines g order rows s u i f
+  pub lines_over : (frozen others : List (Option ℕ)) →
+      ((x : ℕ) → x < item_count g → place order (producer g x) < i → get_or frozen x None ≡ get_or others x None) →
+      ((t : Times) → IsRun g order frozen s t → Lines g order rows s t i f) → (u : Times) → IsRun g order others s u →
+      Lines g order rows s u i f
   lines_over frozen others same lines u run =
       let r = a_run g order frozen s topological in
       lines_same r.0 u (agree_before g order topological s r.0 u frozen others r.1 run (i * phases g)
-      (λ x h l. same x h (earlier_place (place order (producer g x)) i (phase (item_at g x)) (phases g) l))) (lines r.0 r.1)
+      (λ x h l. same x h (earlier_place (place order (producer g x)) i (phase (item_at g x)) (phases g) l)))
+      (lines r.0 r.1)
 
 -- ---- the first trees
 
-module _ (g : Graph) (order : List ℕ) (f : ForestState) (bare : IsBare g f) (has : HasTrees g f) (rows : List (List Column)) (s : Scenario) (t : Times) where
+module _ (g : Graph) (order : List ℕ) (f : ForestState) (bare : IsBare g f) (has : HasTrees g f)
+    (rows : List (List Column)) (s : Scenario) (t : Times) where
   ready_first : (node : ℕ) → node < length g.nodes → IsReadyLine g order rows s t 0 node (ready_of g f node)
   ready_first node l = record {
     time = 0;
-    is = record { ends = λ q k before. absurd (omega (arith, before)); heard = λ q c k before. absurd (omega (arith, before)); least = λ b x y. omega arith };
-    has_value = agrees_weaker s (ready_of g f node) [] _ (λ z. z ≡ 0) (λ z. z ≡ 0) (λ l j. absurd (Contains-nil l j)) (λ z e. e)
+    is = record {
+      ends = λ q k before. absurd (omega (arith, before));
+      heard = λ q c k before. absurd (omega (arith, before));
+      least = λ b x y. omega arith;
+    };
+    has_value =
+        agrees_weaker s (ready_of g f node) [] _ (λ z. z ≡ 0) (λ z. z ≡ 0) (λ l j. absurd (Contains-nil l j)) (λ z e. e)
         (agrees_constant s 0 g.faults (ready_of g f node) (λ z. z ≡ 0) refl
-        (first (ready_at g f node) (All-get_or (IsReadyFirst g.faults) f.ready node (At (no_tree g.faults)) (omega (arith, l, has.ready)) bare.ready)));
+        (first (ready_at g f node) (All-get_or (IsReadyFirst g.faults) f.ready node (At (no_tree g.faults))
+        (omega (arith, l, has.ready)) bare.ready)));
   }
     where
       first : (r : Ready) → IsReadyFirst g.faults r → IsConstant 0 g.faults (ready_by g f r)
@@ -82,8 +109,10 @@ module _ (g : Graph) (order : List ℕ) (f : ForestState) (bare : IsBare g f) (h
   free_first node l = record {
     time = 0;
     is = record { above = λ y h. absurd (let before = h.1 in omega (arith, before)); least = λ b h. omega arith };
-    has_value = agrees_weaker s (free_of g f node) [] _ (λ z. z ≡ 0) (λ z. z ≡ 0) (λ l j. absurd (Contains-nil l j)) (λ z e. e)
-        (agrees_constant s 0 g.faults (free_of g f node) (λ z. z ≡ 0) refl (All-get_or (IsConstant 0 g.faults) f.free node (no_tree g.faults) (omega (arith, l, has.free)) bare.free));
+    has_value =
+        agrees_weaker s (free_of g f node) [] _ (λ z. z ≡ 0) (λ z. z ≡ 0) (λ l j. absurd (Contains-nil l j)) (λ z e. e)
+        (agrees_constant s 0 g.faults (free_of g f node) (λ z. z ≡ 0) refl
+        (All-get_or (IsConstant 0 g.faults) f.free node (no_tree g.faults) (omega (arith, l, has.free)) bare.free));
   }
 
   pub lines_first : Lines g order rows s t 0 f
@@ -102,10 +131,12 @@ settled_first g order = record {
   low = record { low = λ x time l e. absurd (none-some time (sym (none_frozen g x) ∙ e)) };
 }
 
-pub grown_first : (g : Graph) (order : List ℕ) (f : ForestState) → HasTrees g f → IsBare g f → IsGrown g order 0 (nothing_frozen g) f
+pub grown_first : (g : Graph) (order : List ℕ) (f : ForestState) → HasTrees g f → IsBare g f →
+    IsGrown g order 0 (nothing_frozen g) f
 grown_first g order f has bare = record {
   trees = has;
-  unsent = λ x big l is. All-get_or (IsConstant None g.faults) f.times x (no_tree g.faults) (omega (arith, l, has.times)) bare.times;
+  unsent = λ x big l is.
+      All-get_or (IsConstant None g.faults) f.times x (no_tree g.faults) (omega (arith, l, has.times)) bare.times;
   settled = settled_first g order;
   lines = λ rows hold s law t run. lines_first g order f bare has rows s t;
 }

@@ -1,5 +1,7 @@
--- Trees that are grown along a whole order: the rows of their times are rows that a builder finds, and they tell when the processes end.
-use Rattle.std.proofs.Common.{ℕ, ◌<◌, ◌≤◌, ◌≡◌, List, [], length, get_or, Option, Contains, arith, refl, sym, ◌∙◌, subst, inl, inr}
+-- Trees that are grown along a whole order: the rows of their times are rows that a builder finds, and they tell when
+-- the processes end.
+use Rattle.std.proofs.Common.{ℕ, ◌<◌, ◌≤◌, ◌≡◌, List, [], length, get_or, Option, Contains, arith, refl, sym, ◌∙◌}
+use Rattle.std.proofs.Common.{subst, inl, inr}
 use Rattle.std.proofs.lemmas.Bool.{both_ways, cases_lt}
 use Rattle.std.proofs.lemmas.Grind.{same_number_lists}
 use Rattle.std.proofs.lemmas.List.{length-map, get_or-map}
@@ -34,10 +36,13 @@ use Rattle.cpg_expand.proofs.TreeColumns.{column_there, tree_row_carries, merged
 use Rattle.cpg_expand.proofs.GuardTrees.{times_tree}
 
 -- what is said of a problem, an order and a slice of trees is said of the graph, the list and the trees that they are
-pub said_of : (P : Graph → List ℕ → List (TreeState (Option ℕ)) → Type 0) (g h : Graph) (us vs : List ℕ) (ts rs : List (TreeState (Option ℕ))) → h ≡ g → vs ≡ us → rs ≡ ts → P h vs rs → P g us ts
-said_of P g h us vs ts rs e f i holds = subst (λ x. P x us ts) e (subst (λ x. P h x ts) f (subst (λ x. P h vs x) i holds))
+pub said_of : (P : Graph → List ℕ → List (TreeState (Option ℕ)) → Type 0) (g h : Graph) (us vs : List ℕ)
+    (ts rs : List (TreeState (Option ℕ))) → h ≡ g → vs ≡ us → rs ≡ ts → P h vs rs → P g us ts
+said_of P g h us vs ts rs e f i holds =
+    subst (λ x. P x us ts) e (subst (λ x. P h x ts) f (subst (λ x. P h vs x) i holds))
 
-module _ (g : Graph) (urgency : List ℕ) (guards : Guards) (a : IsAdmitted g urgency guards) (order : List ℕ) (topological : IsTopological g order) (frozen : List (Option ℕ)) (f : ForestState)
+module _ (g : Graph) (urgency : List ℕ) (guards : Guards) (a : IsAdmitted g urgency guards) (order : List ℕ)
+    (topological : IsTopological g order) (frozen : List (Option ℕ)) (f : ForestState)
     (grown : IsGrown g order (process_count g) frozen f) where
   placed : (q : ℕ) → q < process_count g → place order q < process_count g
   placed q l = place_in_order (process_count g) order topological.all q (omega (arith, l))
@@ -47,7 +52,9 @@ module _ (g : Graph) (urgency : List ℕ) (guards : Guards) (a : IsAdmitted g ur
   earlier x l = placed (producer g x) (producer_within g a.well_formed x l)
 
   pub grown_gives_ends : GiveEnds g order frozen f.ends
-  grown_gives_ends s t law run q l x on = ((grown.lines (own_rows f) (own_rows_hold g order (process_count g) f grown.trees) s law t run).ends q l (placed q l)).value x on
+  grown_gives_ends s t law run q l x on =
+      ((grown.lines (own_rows f) (own_rows_hold g order (process_count g) f grown.trees) s law t run).ends q l
+      (placed q l)).value x on
 
   pub grown_frozen : AreFrozenTimes g order frozen
   grown_frozen = record {
@@ -77,7 +84,8 @@ module _ (g : Graph) (urgency : List ℕ) (guards : Guards) (a : IsAdmitted g ur
         let inside : p < item_count g = omega (arith, l) in
         subst (AreMergedOf g urgency (times_of g f p)) (sym (columns_at p inside)) ((row_is p inside).start l)
 
-    sent_row : (x : ℕ) → process_count g ≤ x → x < item_count g → AreEntriesOf g urgency (times_of g f x) (row_at columns x)
+    sent_row : (x : ℕ) → process_count g ≤ x → x < item_count g →
+        AreEntriesOf g urgency (times_of g f x) (row_at columns x)
     sent_row x big l = subst (AreEntriesOf g urgency (times_of g f x)) (sym (columns_at x l)) ((row_is x l).send big)
 
     -- the columns of what is sent are the paths of its tree that have a time
@@ -86,7 +94,8 @@ module _ (g : Graph) (urgency : List ℕ) (guards : Guards) (a : IsAdmitted g ur
       sends = λ x l big sooner path time j is.
           let r = sent_row x big l in (
             record { time = time; cube = path.0 },
-            column_there g a.limits.few_processes urgency a.topological.all (times_of g f x) (row_at columns x) r.are path time j is,
+            column_there g a.limits.few_processes urgency a.topological.all (times_of g f x)
+                (row_at columns x) r.are path time j is,
             refl,
           );
     }
@@ -98,10 +107,12 @@ module _ (g : Graph) (urgency : List ℕ) (guards : Guards) (a : IsAdmitted g ur
     carrying_row x l = elim (cases_lt x (process_count g)) [
       | inl start ↦
           let r = start_row x start in
-          merged_row_carries g a.limits.few_processes urgency a.topological.all (times_of g f x) r.columns r.are order frozen timed columns x (tree x l) (faults_of x l) r.merge
+          merged_row_carries g a.limits.few_processes urgency a.topological.all
+          (times_of g f x) r.columns r.are order frozen timed columns x (tree x l) (faults_of x l) r.merge
       | inr send ↦
           let r = sent_row x send l in
-          tree_row_carries g a.limits.few_processes urgency a.topological.all (times_of g f x) (row_at columns x) r.are order frozen timed columns x (tree x l) (faults_of x l) r.by_lows refl
+          tree_row_carries g a.limits.few_processes urgency a.topological.all (times_of g f x)
+          (row_at columns x) r.are order frozen timed columns x (tree x l) (faults_of x l) r.by_lows refl
     ]
 
     carrying : AreCarrying g urgency order frozen columns
@@ -112,9 +123,11 @@ module _ (g : Graph) (urgency : List ℕ) (guards : Guards) (a : IsAdmitted g ur
     }
 
     items : items_of rows ≡ numbers_below (item_count g)
-    items = same_number_lists (items_of rows) (numbers_below (item_count g)) (count ∙ sym (length-range_with_len 0 (item_count g)))
+    items = same_number_lists (items_of rows) (numbers_below (item_count g))
+        (count ∙ sym (length-range_with_len 0 (item_count g)))
         (λ x l. let inside : x < item_count g = omega (arith, l, count) in
-        get_or-map (λ (row : Row). row.item) rows x no_row 0 (omega (arith, inside, are.count)) ∙ (row_is x inside).item ∙ sym (get_or-range_with_len 0 (item_count g) x 0 inside ∙ omega arith))
+        get_or-map (λ (row : Row). row.item) rows x no_row 0 (omega (arith, inside, are.count)) ∙ (row_is x inside).item
+        ∙ sym (get_or-range_with_len 0 (item_count g) x 0 inside ∙ omega arith))
       where
         count : length (items_of rows) ≡ item_count g
         count = length-map rows (λ (row : Row). row.item) ∙ are.count

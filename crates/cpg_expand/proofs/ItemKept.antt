@@ -8,9 +8,11 @@ use Rattle.cpg_expand.specs.declared.forest.Ready.TheVariants.{After, At}
 use Rattle.cpg_expand.specs.Sent.{IsItemAdded}
 use Rattle.cpg_expand.specs.Waiting.{ready_of, free_of}
 
-module _ (g : Graph) (order : List ℕ) (chooser : TreeState Bool) (x : ℕ) (old new : ForestState) (before after : List (Option ℕ)) (added : IsItemAdded g order chooser x old new before after) where
+module _ (g : Graph) (order : List ℕ) (chooser : TreeState Bool) (x : ℕ) (old new : ForestState)
+    (before after : List (Option ℕ)) (added : IsItemAdded g order chooser x old new before after) where
   pub other_times : (y : ℕ) → y ≢ x → times_of g new y ≡ times_of g old y
-  other_times y other = ap (λ (f : ForestState). times_of g f y) added.is ∙ get_or-set_other old.times x y added.sent (no_tree g.faults) other
+  other_times y other = ap (λ (f : ForestState). times_of g f y) added.is
+      ∙ get_or-set_other old.times x y added.sent (no_tree g.faults) other
 
   pub same_ends : (q : ℕ) → ends_of g new q ≡ ends_of g old q
   same_ends q = ap (λ (f : ForestState). ends_of g f q) added.is
@@ -18,10 +20,14 @@ module _ (g : Graph) (order : List ℕ) (chooser : TreeState Bool) (x : ℕ) (ol
   pub same_ready : (node : ℕ) → ready_of g new node ≡ ready_of g old node
   same_ready node = ap (λ (f : ForestState). ready_of g f node) added.is ∙ kept (ready_at g old node)
     where
-      kept : (r : Ready) → ready_by g (record { times = set old.times x added.sent; ends = old.ends; ready = old.ready; free = set old.free (home g x) added.freed; wide = old.wide }) r ≡ ready_by g
+      kept : (r : Ready) →
+          ready_by g
+          (record { times = set old.times x added.sent; ends = old.ends; ready = old.ready; free = set old.free (home g x) added.freed; wide = old.wide }) r
+          ≡ ready_by g
           old r
       kept (After q) = refl
       kept (At t) = refl
 
   pub other_free : (node : ℕ) → node ≢ home g x → free_of g new node ≡ free_of g old node
-  other_free node other = ap (λ (f : ForestState). free_of g f node) added.is ∙ get_or-set_other old.free (home g x) node added.freed (no_tree g.faults) other
+  other_free node other = ap (λ (f : ForestState). free_of g f node) added.is
+      ∙ get_or-set_other old.free (home g x) node added.freed (no_tree g.faults) other

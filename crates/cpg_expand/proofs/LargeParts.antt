@@ -11,7 +11,8 @@ use Rattle.cpg_expand.specs.Large.{IsLarge, IsLargeDown, IsLargeWith, ShowsLarge
 use Rattle.cpg_expand.specs.Later.{IsLatest}
 use Rattle.cpg_expand.proofs.LargeShown.{shown_as}
 
-module _ {T : Type 0} (large : Activation → Type 0) (fits : Guard → TreeState T → Type 0) (wide : Option ℕ) (fault : BuildFault) (guard : Guard) where
+module _ {T : Type 0} (large : Activation → Type 0) (fits : Guard → TreeState T → Type 0) (wide : Option ℕ)
+    (fault : BuildFault) (guard : Guard) where
   abbrev IsShown : Guard → Type 0
   IsShown part = ShowsLarge wide (IsLargeDown large fits part) fault
 
@@ -20,24 +21,32 @@ module _ {T : Type 0} (large : Activation → Type 0) (fits : Guard → TreeStat
 
   module _ (c : ℕ) (off on : Guard) (is : guard ≡ Test c off on) where
     pub large_off : IsShown off → IsShown guard
-    large_off h = subst IsShown (sym is) (shown_as (IsLargeDown large fits off) (IsLargeDown large fits (Test c off on)) wide fault (λ x. inl x) h)
+    large_off h = subst IsShown (sym is)
+        (shown_as (IsLargeDown large fits off) (IsLargeDown large fits (Test c off on)) wide fault (λ x. inl x) h)
 
     pub large_on : IsShown on → IsShown guard
-    large_on h = subst IsShown (sym is) (shown_as (IsLargeDown large fits on) (IsLargeDown large fits (Test c off on)) wide fault (λ x. inr (inl x)) h)
+    large_on h = subst IsShown (sym is)
+        (shown_as (IsLargeDown large fits on) (IsLargeDown large fits (Test c off on)) wide fault (λ x. inr (inl x)) h)
 
     pub large_part : (t : TreeState T) → fits (Test c off on) t → ShowsLarge wide (IsLarge t) fault → IsShown guard
-    large_part t has_value h = subst IsShown (sym is) (shown_as (IsLarge t) (IsLargeDown large fits (Test c off on)) wide fault (λ x. inr (inr (t, has_value, x))) h)
+    large_part t has_value h = subst IsShown (sym is)
+        (shown_as (IsLarge t) (IsLargeDown large fits (Test c off on)) wide fault (λ x. inr (inr (t, has_value, x))) h)
 
-module _ (g : Graph) (f : ForestState) (wait : TreeState ℕ) (wide : Option ℕ) (fault : BuildFault) (whole : List ℕ) (e : ℕ) (es : List ℕ) (is : whole ≡ e ∷ es) where
+module _ (g : Graph) (f : ForestState) (wait : TreeState ℕ) (wide : Option ℕ) (fault : BuildFault) (whole : List ℕ)
+    (e : ℕ) (es : List ℕ) (is : whole ≡ e ∷ es) where
   abbrev IsShownWith : List ℕ → Type 0
   IsShownWith edges = ShowsLarge wide (IsLargeWith g f wait edges) fault
 
   pub large_own : is_message g e ≡ false → IsShownWith es → IsShownWith whole
-  large_own own h = subst IsShownWith (sym is) (shown_as (IsLargeWith g f wait es) (IsLargeWith g f wait (e ∷ es)) wide fault (λ x. inl (own, x)) h)
+  large_own own h = subst IsShownWith (sym is)
+      (shown_as (IsLargeWith g f wait es) (IsLargeWith g f wait (e ∷ es)) wide fault (λ x. inl (own, x)) h)
 
-  module _ (both : TreeState ℕ) (made : IsLatest g.faults wait (later_by (input_delay g e) (input_tree g f e)) both) where
+  module _ (both : TreeState ℕ)
+      (made : IsLatest g.faults wait (later_by (input_delay g e) (input_tree g f e)) both) where
     pub large_both : ShowsLarge wide (IsLarge both) fault → IsShownWith whole
-    large_both h = subst IsShownWith (sym is) (shown_as (IsLarge both) (IsLargeWith g f wait (e ∷ es)) wide fault (λ x. inr (both, made, inl x)) h)
+    large_both h = subst IsShownWith (sym is)
+        (shown_as (IsLarge both) (IsLargeWith g f wait (e ∷ es)) wide fault (λ x. inr (both, made, inl x)) h)
 
     pub large_later : ShowsLarge wide (IsLargeWith g f both es) fault → IsShownWith whole
-    large_later h = subst IsShownWith (sym is) (shown_as (IsLargeWith g f both es) (IsLargeWith g f wait (e ∷ es)) wide fault (λ x. inr (both, made, inr x)) h)
+    large_later h = subst IsShownWith (sym is)
+        (shown_as (IsLargeWith g f both es) (IsLargeWith g f wait (e ∷ es)) wide fault (λ x. inr (both, made, inr x)) h)

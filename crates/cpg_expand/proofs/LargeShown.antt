@@ -1,5 +1,6 @@
 -- Faults that name an item where a tree has too many leaves, and where along an order that comes about.
-use Rattle.std.proofs.Common.{ℕ, ◌+◌, ◌<◌, ◌≡◌, ◌∙◌, Bool, List, [], ◌∷◌, length, get_or, Option, None, Some, arith, refl, sym, ap, subst, inl, inr}
+use Rattle.std.proofs.Common.{ℕ, ◌+◌, ◌<◌, ◌≡◌, ◌∙◌, Bool, List, [], ◌∷◌, length, get_or, Option, None, Some, arith}
+use Rattle.std.proofs.Common.{refl, sym, ap, subst, inl, inr}
 use Rattle.std.specs.Prelude.{IfErr, IsErrAnd, Result, Ok, Err}
 use Rattle.cpg_base.specs.Graph.{Graph, process_count, item_count, node_of, producer}
 use Rattle.cpg_base.specs.Order.{IsOrder, place}
@@ -18,27 +19,33 @@ use Rattle.cpg_expand.specs.Large.{HasLargeFree, HasLargeTree, IsLargeBegun, IsL
 use Rattle.cpg_expand.specs.Sent.{AreItemsAdded}
 
 -- a fault that names an item for one cause names it for another that follows
-pub shown_as : (A B : Type 0) (wide : Option ℕ) (fault : BuildFault) → (A → B) → ShowsLarge wide A fault → ShowsLarge wide B fault
+pub shown_as : (A B : Type 0) (wide : Option ℕ) (fault : BuildFault) → (A → B) → ShowsLarge wide A fault →
+    ShowsLarge wide B fault
 shown_as A B wide (TooWide x) f h = (h.0, f h.1)
 shown_as A B wide OutOfMemory f h = h
 
 -- a fault that is handed on
-pub handed_on : {T : Type 0} (P : BuildFault → Type 0) (result : Result T BuildFault) (shown : BuildFault) → IsErrAnd result (λ e. e ≡ shown) → P shown → IfErr result P
+pub handed_on : {T : Type 0} (P : BuildFault → Type 0) (result : Result T BuildFault) (shown : BuildFault) →
+    IsErrAnd result (λ e. e ≡ shown) → P shown → IfErr result P
 handed_on P (Ok x) shown same h = absurd same
 handed_on P (Err e) shown same h = subst P (sym same) h
 
 -- for another cause
-pub handed_as : {T : Type 0} (A B : Type 0) (wide : Option ℕ) (result : Result T BuildFault) (shown : BuildFault) → IsErrAnd result (λ e. e ≡ shown) → (A → B) → ShowsLarge wide A shown →
+pub handed_as : {T : Type 0} (A B : Type 0) (wide : Option ℕ) (result : Result T BuildFault) (shown : BuildFault) →
+    IsErrAnd result (λ e. e ≡ shown) → (A → B) →
+    ShowsLarge wide A shown →
     IfErr result (ShowsLarge wide B)
 handed_as A B wide (Ok x) shown same f h = absurd same
 handed_as A B wide (Err e) shown same f h = subst (ShowsLarge wide B) (sym same) (shown_as A B wide shown f h)
 
 -- the fault of one name for an item is that of another name for it
-pub named_as : (A : Type 0) (wide other : Option ℕ) (fault : BuildFault) → wide ≡ other → ShowsLarge wide A fault → ShowsLarge other A fault
+pub named_as : (A : Type 0) (wide other : Option ℕ) (fault : BuildFault) → wide ≡ other → ShowsLarge wide A fault →
+    ShowsLarge other A fault
 named_as A wide other fault e h = subst (λ o. ShowsLarge o A fault) e h
 
 -- if no item is to be named, no fault names one
-pub none_named : (A : Type 0) (is_shown : ℕ → Type 0) (fault : BuildFault) → ShowsLarge None A fault → ShowsBuildFault is_shown fault
+pub none_named : (A : Type 0) (is_shown : ℕ → Type 0) (fault : BuildFault) → ShowsLarge None A fault →
+    ShowsBuildFault is_shown fault
 none_named A is_shown (TooWide x) h = absurd (no_name x h.0)
   where
     no_name : (x : ℕ) → None ≡ Some x → ⊥
@@ -46,33 +53,58 @@ none_named A is_shown (TooWide x) h = absurd (no_name x h.0)
 none_named A is_shown OutOfMemory h = tt
 
 -- a tree that is too large by one name of a graph and a guard is so by another
-pub thawed_as : (g h : Graph) → h ≡ g → (p : ℕ) (f : ForestState) (guard found : Guard) → found ≡ guard → IsLargeThawed h p f found → IsLargeThawed g p f guard
-thawed_as g h same p f guard found is large = subst (λ (k : Graph). IsLargeThawed k p f guard) same (subst (IsLargeThawed h p f) is large)
+pub thawed_as : (g h : Graph) → h ≡ g → (p : ℕ) (f : ForestState) (guard found : Guard) → found ≡ guard →
+    IsLargeThawed h p f found →
+    IsLargeThawed g p f guard
+thawed_as g h same p f guard found is large =
+    subst (λ (k : Graph). IsLargeThawed k p f guard) same (subst (IsLargeThawed h p f) is large)
 
 -- what an item that is sent adds leaves the name
-pub added_wide : (g : Graph) (order : List ℕ) (chooser : TreeState Bool) (xs : List ℕ) (old new : ForestState) (before after : List (Option ℕ)) →
+pub added_wide : (g : Graph) (order : List ℕ) (chooser : TreeState Bool) (xs : List ℕ) (old new : ForestState)
+    (before after : List (Option ℕ)) →
     AreItemsAdded g order chooser xs old new before after → new.wide ≡ old.wide
 added_wide g order chooser [] old new before after h = ap (λ (f : ForestState). f.wide) h.0
-added_wide g order chooser (x ∷ xs) old new before after h = added_wide g order chooser xs h.0 new h.1 after h.3 ∙ ap (λ (f : ForestState). f.wide) h.2.is
+added_wide g order chooser (x ∷ xs) old new before after h =
+    added_wide g order chooser xs h.0 new h.1 after h.3 ∙ ap (λ (f : ForestState). f.wide) h.2.is
 
-pub begun_wide : (g : Graph) (order : List ℕ) (guards : Guards) (p : ℕ) (old new : ForestState) (before after : List (Option ℕ)) (chooser : TreeState Bool) →
+pub begun_wide : (g : Graph) (order : List ℕ) (guards : Guards) (p : ℕ) (old new : ForestState)
+    (before after : List (Option ℕ)) (chooser : TreeState Bool) →
     IsBegun g order guards p old new before after chooser → new.wide ≡ old.wide
 begun_wide g order guards p old new before after chooser begun = ap (λ (f : ForestState). f.wide) begun.is
 
-module _ (g : Graph) (urgency : List ℕ) (guards : Guards) (are : AreGuardsOf g urgency guards) (order : List ℕ) (lawful : IsOrder order) (k p : ℕ) (within : k < length order)
+module _ (g : Graph) (urgency : List ℕ) (guards : Guards) (are : AreGuardsOf g urgency guards) (order : List ℕ)
+    (lawful : IsOrder order) (k p : ℕ) (within : k < length order)
     (at : p ≡ get_or order k 0)
     (frozen : List (Option ℕ)) (f : ForestState) where
   stands : place order p ≡ k
   stands = ap (place order) at ∙ place_at order lawful k within
 
-  pub large_begun : p < process_count g → IsGrown g order k frozen f → IsLargeBegun g order guards p f → HasLargeTree g urgency order
-  large_begun l grown large = record { guards = guards; are = are; reached = k; frozen = frozen; forest = f; grown = grown; large = inr (inr (p, l, stands, large)) }
+  pub large_begun : p < process_count g → IsGrown g order k frozen f → IsLargeBegun g order guards p f →
+      HasLargeTree g urgency order
+  large_begun l grown large = record {
+    guards = guards;
+    are = are;
+    reached = k;
+    frozen = frozen;
+    forest = f;
+    grown = grown;
+    large = inr (inr (p, l, stands, large));
+  }
 
-  pub large_left : (node_of g p < length g.nodes) → IsGrown g order (k + 1) frozen f → IsLargeLeft g order p f → HasLargeTree g urgency order
+  pub large_left : (node_of g p < length g.nodes) → IsGrown g order (k + 1) frozen f → IsLargeLeft g order p f →
+      HasLargeTree g urgency order
   large_left there grown (inl large) =
       let q = in_queue g p large.item large.sent in
       let by_p : place order (producer g large.item) ≡ k = ap (place order) q.by ∙ stands in
-      record { guards = guards; are = are; reached = k + 1; frozen = frozen; forest = f; grown = grown; large = inl (large.item, q.within, omega (arith, by_p), large.large) }
+      record {
+        guards = guards;
+        are = are;
+        reached = k + 1;
+        frozen = frozen;
+        forest = f;
+        grown = grown;
+        large = inl (large.item, q.within, omega (arith, by_p), large.large);
+      }
   large_left there grown (inr large) = record {
     guards = guards;
     are = are;

@@ -1,12 +1,14 @@
 -- What the code finds of latest times.
-use Rattle.std.proofs.Common.{ℕ, ◌+◌, suc, ◌<◌, ◌≤◌, ◌≡◌, ◌==◌, max, Bool, true, false, if◌then◌else◌, List, [], ◌∷◌, ◌++◌, length, take, get_or, Option, Some, None, Contains, arith, eq-eqb, refl}
+use Rattle.std.proofs.Common.{ℕ, ◌+◌, suc, ◌<◌, ◌≤◌, ◌≡◌, ◌==◌, max, Bool, true, false, if◌then◌else◌, List, [], ◌∷◌}
+use Rattle.std.proofs.Common.{◌++◌, length, take, get_or, Option, Some, None, Contains, arith, eq-eqb, refl}
 use Rattle.std.proofs.Common.{sym, ap, ◌∙◌, subst, inl, inr, ◌⊎◌}
 use Rattle.std.specs.Option.{IfNone, IfSome}
 use Rattle.std.proofs.Math.Seq.{take-suc}
 use Rattle.std.proofs.lemmas.Bool.{and_from, and_parts, cases_lt, ne_eqb}
 use Rattle.std.proofs.lemmas.List.Elements.{Contains-append_cases}
 use Rattle.cpg_base.specs.Bus.{round, slot_length}
-use Rattle.cpg_base.specs.Graph.{Graph, process_count, process_of, node_of, source, home, is_message, message_item, broadcast_item}
+use Rattle.cpg_base.specs.Graph.{Graph, process_count, process_of, node_of, source, home, is_message, message_item}
+use Rattle.cpg_base.specs.Graph.{broadcast_item}
 use Rattle.cpg_base.specs.Scenario.{Scenario, IsScenario}
 use Rattle.cpg_base.proofs.Lists.{Contains-cases, Contains-nil}
 use Rattle.cpg_rules.specs.Guards.{Guards}
@@ -18,20 +20,25 @@ use Rattle.cpg_tree.proofs.OnePath.{scenario_few, the_path}
 use Rattle.cpg_expand.specs.Agreeing.{IsTree}
 use Rattle.cpg_expand.specs.Forest.{ForestState, times_of, ends_of, heard_tree, heard_delay, input_tree, input_delay}
 use Rattle.cpg_expand.specs.Earlier.{IsBetween, IsAskedTree, IsBothTree}
-use Rattle.cpg_expand.specs.Latest.{HasEnded, HasEndedOf, HasHeard, HasHeardOf, HasInput, HasInputOf, HasLater, HasQueued, HasQueuedOf, IsRaised, or_later}
+use Rattle.cpg_expand.specs.Latest.{HasEnded, HasEndedOf, HasHeard, HasHeardOf, HasInput, HasInputOf, HasLater}
+use Rattle.cpg_expand.specs.Latest.{HasQueued, HasQueuedOf, IsRaised, or_later}
 use Rattle.cpg_expand.specs.Tops.{IsTop}
 use Rattle.cpg_expand.specs.Values.{time_later}
 use Rattle.cpg_expand.specs.Waited.{stands_before}
 
 -- ---- the greatest time of a tree where another one is true
 
-pub top_where : (g : Graph) → process_count g ≤ 128 → (t : TreeState (Option ℕ)) (u : TreeState Bool) → IsTree g t → IsTree g u → (o : Option ℕ) → IfNone o (IsNowhere t u) →
+pub top_where : (g : Graph) → process_count g ≤ 128 → (t : TreeState (Option ℕ)) (u : TreeState Bool) → IsTree g t →
+    IsTree g u → (o : Option ℕ) →
+    IfNone o (IsNowhere t u) →
     IfSome o (IsMostWhere t u) → IsTop g (HasWhere t u) o
-top_where g few t u of of_u None none some = λ time s law h. none s time (subst (λ n. HasAtMostFaults n s) (sym of.faults) (scenario_few g s law)) h
+top_where g few t u of of_u None none some =
+    λ time s law h. none s time (subst (λ n. HasAtMostFaults n s) (sym of.faults) (scenario_few g s law)) h
 top_where g few t u of of_u (Some most) none some =
     let r = some.reached g (record { few = few; faults = of.faults; known = of.known; known_too = of_u.known }) in
     record {
-      above = λ time s law h. some.above s time (subst (λ n. HasAtMostFaults n s) (sym of.faults) (scenario_few g s law)) h;
+      above =
+          λ time s law h. some.above s time (subst (λ n. HasAtMostFaults n s) (sym of.faults) (scenario_few g s law)) h;
       scenario = r.scenario;
       lawful = r.lawful;
       there = r.has;
@@ -41,7 +48,9 @@ top_where g few t u of of_u (Some most) none some =
 
 module _ (g : Graph) (A B : ℕ → Scenario → Type 0) where
   -- by what comes to the same
-  pub raised_as : ((n : ℕ) (s : Scenario) → IsScenario g s → B n s → A n s) → ((n : ℕ) (s : Scenario) → IsScenario g s → A n s → B n s) → (old new : ℕ) → IsRaised g A old new → IsRaised g B old new
+  pub raised_as : ((n : ℕ) (s : Scenario) → IsScenario g s → B n s → A n s) →
+      ((n : ℕ) (s : Scenario) → IsScenario g s → A n s → B n s) → (old new : ℕ) → IsRaised g A old new →
+      IsRaised g B old new
   raised_as back forth old new r = record {
     from = r.from;
     above = λ n s law h. r.above n s law (back n s law h);
@@ -53,7 +62,9 @@ module _ (g : Graph) (A B : ℕ → Scenario → Type 0) where
   raised_by_none none old = record { from = omega arith; above = λ n s law h. absurd (none n s h); found = inl refl }
 
   -- by the one and then by the other
-  pub raised_on : (C : ℕ → Scenario → Type 0) → ((n : ℕ) (s : Scenario) → C n s → A n s ⊎ B n s) → ((n : ℕ) (s : Scenario) → A n s → C n s) → ((n : ℕ) (s : Scenario) → B n s → C n s) →
+  pub raised_on : (C : ℕ → Scenario → Type 0) → ((n : ℕ) (s : Scenario) → C n s → A n s ⊎ B n s) →
+      ((n : ℕ) (s : Scenario) → A n s → C n s) →
+      ((n : ℕ) (s : Scenario) → B n s → C n s) →
       (first mid last : ℕ) → IsRaised g A first mid → IsRaised g B mid last → IsRaised g C first last
   raised_on C split left right first mid last before one = record {
     from = omega (arith, before.from, one.from);
@@ -73,12 +84,16 @@ module _ (g : Graph) (A B : ℕ → Scenario → Type 0) where
 
 -- ---- what is there a delay after the time of a tree
 
-pub later_raised : (g : Graph) (tree : TreeState (Option ℕ)) (wanted : TreeState Bool) (latest delay : ℕ) (o : Option ℕ) → IsTop g (HasWhere tree wanted) o →
+pub later_raised : (g : Graph) (tree : TreeState (Option ℕ)) (wanted : TreeState Bool) (latest delay : ℕ)
+    (o : Option ℕ) →
+    IsTop g (HasWhere tree wanted) o →
     IsRaised g (HasLater tree wanted delay) latest (or_later latest delay o)
-later_raised g tree wanted latest delay None none = record { from = omega arith; above = λ n s law h. absurd (none h.time s law h.has); found = inl refl }
+later_raised g tree wanted latest delay None none =
+    record { from = omega arith; above = λ n s law h. absurd (none h.time s law h.has); found = inl refl }
 later_raised g tree wanted latest delay (Some time) top = record {
   from = omega arith;
-  above = λ n s law h. no_later n (time_later delay (Some h.time)) (time_later delay (Some time)) latest h.is (delayed h.time time delay (top.above h.time s law h.has));
+  above = λ n s law h. no_later n (time_later delay (Some h.time)) (time_later delay (Some time)) latest h.is
+      (delayed h.time time delay (top.above h.time s law h.has));
   found = by (later_or latest (time_later delay (Some time)));
 }
   where
@@ -89,10 +104,15 @@ later_raised g tree wanted latest delay (Some time) top = record {
     delayed a b d l = omega (arith, l)
 
     later_or : (a b : ℕ) → (max a b ≡ a) ⊎ (max a b ≡ b)
-    later_or a b = elim (cases_lt a b) [ inl l ↦ inr (let e : max a b ≡ b = omega (arith, l) in e) | inr l ↦ inl (let e : max a b ≡ a = omega (arith, l) in e) ]
+    later_or a b = elim (cases_lt a b) [
+      | inl l ↦ inr (let e : max a b ≡ b = omega (arith, l) in e)
+      | inr l ↦ inl (let e : max a b ≡ a = omega (arith, l) in e)
+    ]
 
-    by : (max latest (time_later delay (Some time)) ≡ latest) ⊎ (max latest (time_later delay (Some time)) ≡ time_later delay (Some time)) →
-        (max latest (time_later delay (Some time)) ≡ latest) ⊎ ((s : Scenario) × IsScenario g s × HasLater tree wanted delay (max latest (time_later delay (Some time))) s)
+    by : (max latest (time_later delay (Some time)) ≡ latest) ⊎
+        (max latest (time_later delay (Some time)) ≡ time_later delay (Some time)) →
+        (max latest (time_later delay (Some time)) ≡ latest) ⊎
+        ((s : Scenario) × IsScenario g s × HasLater tree wanted delay (max latest (time_later delay (Some time))) s)
     by (inl e) = inl e
     by (inr same) = inr (top.scenario, top.lawful, record { time = time; has = top.there; is = same })
 
@@ -100,132 +120,189 @@ later_raised g tree wanted latest delay (Some time) top = record {
 
 module _ (g : Graph) (f : ForestState) (node c : ℕ) (wanted : TreeState Bool) (old new : ℕ) where
   heard_if : (d : Bool) → (node_of g (process_of g c) == node) ≡ d →
-      IsRaised g (HasLater (if d then ends_of g f (process_of g c) else times_of g f (broadcast_item g c)) wanted (if d then 0 else slot_length g (home g (broadcast_item g c)))) old new →
+      IsRaised g (HasLater (if d then ends_of g f (process_of g c) else times_of g f (broadcast_item g c)) wanted
+      (if d then 0 else slot_length g (home g (broadcast_item g c)))) old new →
       IsRaised g (HasLater (heard_tree g f node c) wanted (heard_delay g node c)) old new
   heard_if d e is = subst (λ (b : Bool). IsRaised g
-      (HasLater (if b then ends_of g f (process_of g c) else times_of g f (broadcast_item g c)) wanted (if b then 0 else slot_length g (home g (broadcast_item g c)))) old new) (sym e) is
+      (HasLater (if b then ends_of g f (process_of g c) else times_of g f (broadcast_item g c)) wanted
+      (if b then 0 else slot_length g (home g (broadcast_item g c)))) old new) (sym e) is
 
   -- on its own node by the end of its process
-  pub heard_by_end : node_of g (process_of g c) ≡ node → IsRaised g (HasLater (ends_of g f (process_of g c)) wanted 0) old new →
+  pub heard_by_end : node_of g (process_of g c) ≡ node →
+      IsRaised g (HasLater (ends_of g f (process_of g c)) wanted 0) old new →
       IsRaised g (HasLater (heard_tree g f node c) wanted (heard_delay g node c)) old new
   heard_by_end e is = heard_if true (eq-eqb (node_of g (process_of g c)) node e) is
 
   -- on others by its frame
-  pub heard_by_frame : (node_of g (process_of g c) ≡ node → ⊥) → IsRaised g (HasLater (times_of g f (broadcast_item g c)) wanted (slot_length g (home g (broadcast_item g c)))) old new →
+  pub heard_by_frame : (node_of g (process_of g c) ≡ node → ⊥) →
+      IsRaised g
+      (HasLater (times_of g f (broadcast_item g c)) wanted (slot_length g (home g (broadcast_item g c)))) old new →
       IsRaised g (HasLater (heard_tree g f node c) wanted (heard_delay g node c)) old new
   heard_by_frame e is = heard_if false (ne_eqb (node_of g (process_of g c)) node e) is
 
 -- ---- what the processes of a node test
 
-module _ (g : Graph) (order : List ℕ) (guards : Guards) (f : ForestState) (active : TreeState Bool) (of_active : IsTree g active) (node from to : ℕ) where
+module _ (g : Graph) (order : List ℕ) (guards : Guards) (f : ForestState) (active : TreeState Bool)
+    (of_active : IsTree g active) (node from to : ℕ) where
   -- the time is a condition's if one of them tests it and the process is active
-  pub heard_raised : (c : ℕ) (asked wanted : TreeState Bool) → IsTree g asked → IsTree g wanted → IsAskedTree g order guards node from to c (process_count g) asked →
+  pub heard_raised : (c : ℕ) (asked wanted : TreeState Bool) → IsTree g asked → IsTree g wanted →
+      IsAskedTree g order guards node from to c (process_count g) asked →
       IsBothTree g.faults asked active wanted →
-      (old new : ℕ) → IsRaised g (HasLater (heard_tree g f node c) wanted (heard_delay g node c)) old new → IsRaised g (HasHeard g order guards f active node from to c) old new
-  heard_raised c asked wanted of_asked of_wanted asks both old new r = raised_as g (HasLater (heard_tree g f node c) wanted (heard_delay g node c))
+      (old new : ℕ) → IsRaised g (HasLater (heard_tree g f node c) wanted (heard_delay g node c)) old new →
+      IsRaised g (HasHeard g order guards f active node from to c) old new
+  heard_raised c asked wanted of_asked of_wanted asks both old new r =
+      raised_as g (HasLater (heard_tree g f node c) wanted (heard_delay g node c))
       (HasHeard g order guards f active node from to c) back forth old new r
     where
-      back : (n : ℕ) (s : Scenario) → IsScenario g s → HasHeard g order guards f active node from to c n s → HasLater (heard_tree g f node c) wanted (heard_delay g node c) n s
+      back : (n : ℕ) (s : Scenario) → IsScenario g s → HasHeard g order guards f active node from to c n s →
+          HasLater (heard_tree g f node c) wanted (heard_delay g node c) n s
       back n s law h =
           let few = scenario_few g s law in
           let x = the_path g.faults asked.paths of_asked.each s few in
           let z = the_path g.faults wanted.paths of_wanted.each s few in
           record {
             time = h.time;
-            has = record { has = h.has; there = (z.0, z.1, both s few x.0 h.acts.0 z.0 x.1 h.acts.1 z.1 ∙ and_from x.0.1 h.acts.0.1 ((asks s few x.0 x.1).1 h.asked) h.acts.2) };
+            has = record {
+              has = h.has;
+              there = (
+                z.0,
+                z.1,
+                both s few x.0 h.acts.0 z.0 x.1 h.acts.1 z.1
+                    ∙ and_from x.0.1 h.acts.0.1 ((asks s few x.0 x.1).1 h.asked) h.acts.2,
+              );
+            };
             is = h.is;
           }
 
-      forth : (n : ℕ) (s : Scenario) → IsScenario g s → HasLater (heard_tree g f node c) wanted (heard_delay g node c) n s → HasHeard g order guards f active node from to c n s
+      forth : (n : ℕ) (s : Scenario) → IsScenario g s →
+          HasLater (heard_tree g f node c) wanted (heard_delay g node c) n s →
+          HasHeard g order guards f active node from to c n s
       forth n s law h =
           let few = scenario_few g s law in
           let x = the_path g.faults asked.paths of_asked.each s few in
           let y = the_path g.faults active.paths of_active.each s few in
-          let parts = and_parts x.0.1 y.0.1 (sym (both s few x.0 y.0 h.has.there.0 x.1 y.1 h.has.there.1) ∙ h.has.there.2) in
-          record { asked = (asks s few x.0 x.1).0 parts.0; acts = (y.0, y.1, parts.1); time = h.time; has = h.has.has; is = h.is }
+          let parts =
+          and_parts x.0.1 y.0.1 (sym (both s few x.0 y.0 h.has.there.0 x.1 y.1 h.has.there.1) ∙ h.has.there.2) in
+          record {
+            asked = (asks s few x.0 x.1).0 parts.0;
+            acts = (y.0, y.1, parts.1);
+            time = h.time;
+            has = h.has.has;
+            is = h.is;
+          }
 
   -- nothing is raised if the condition is heard no later wherever the process is active
-  pub heard_no_later : (c latest : ℕ) → IsRaised g (HasLater (heard_tree g f node c) active (heard_delay g node c)) latest latest →
+  pub heard_no_later : (c latest : ℕ) →
+      IsRaised g (HasLater (heard_tree g f node c) active (heard_delay g node c)) latest latest →
       IsRaised g (HasHeard g order guards f active node from to c) latest latest
   heard_no_later c latest r = record {
     from = omega arith;
-    above = λ n s law h. r.above n s law (record { time = h.time; has = record { has = h.has; there = h.acts }; is = h.is });
+    above = λ n s law h.
+        r.above n s law (record { time = h.time; has = record { has = h.has; there = h.acts }; is = h.is });
     found = inl refl;
   }
 
   pub none_heard : (first : ℕ) → IsRaised g (HasHeardOf g order guards f active node from to 0) first first
-  none_heard first = raised_by_none g (HasHeardOf g order guards f active node from to 0) (HasHeardOf g order guards f active node from to 0) (λ n s h. below n s h) first
+  none_heard first = raised_by_none g (HasHeardOf g order guards f active node from to 0)
+      (HasHeardOf g order guards f active node from to 0) (λ n s h. below n s h) first
     where
       below : (n : ℕ) (s : Scenario) → HasHeardOf g order guards f active node from to 0 n s → ⊥
       below n s h = omega (arith, h.below)
 
-  pub next_heard : (c first mid last : ℕ) → IsRaised g (HasHeardOf g order guards f active node from to c) first mid → IsRaised g (HasHeard g order guards f active node from to c) mid last →
+  pub next_heard : (c first mid last : ℕ) → IsRaised g (HasHeardOf g order guards f active node from to c) first mid →
+      IsRaised g (HasHeard g order guards f active node from to c) mid last →
       IsRaised g (HasHeardOf g order guards f active node from to (c + 1)) first last
-  next_heard c first mid last = raised_on g (HasHeardOf g order guards f active node from to c) (HasHeard g order guards f active node from to c)
+  next_heard c first mid last =
+      raised_on g (HasHeardOf g order guards f active node from to c) (HasHeard g order guards f active node from to c)
       (HasHeardOf g order guards f active node from to (c + 1)) split
-      (λ n s h. record { condition = h.condition; below = omega (arith, h.below); there = h.there }) (λ n s h. record { condition = c; below = omega arith; there = h }) first mid last
+      (λ n s h. record { condition = h.condition; below = omega (arith, h.below); there = h.there })
+      (λ n s h. record { condition = c; below = omega arith; there = h }) first mid last
     where
-      split : (n : ℕ) (s : Scenario) → HasHeardOf g order guards f active node from to (c + 1) n s → HasHeardOf g order guards f active node from to c n s ⊎
+      split : (n : ℕ) (s : Scenario) → HasHeardOf g order guards f active node from to (c + 1) n s →
+          HasHeardOf g order guards f active node from to c n s ⊎
           HasHeard g order guards f active node from to c n s
       split n s h = elim (cases_lt h.condition c) [
         | inl less ↦ inl (record { condition = h.condition; below = less; there = h.there })
-        | inr more ↦ inr (subst (λ d. HasHeard g order guards f active node from to d n s) (let e : h.condition ≡ c = omega (arith, h.below, more) in e) h.there)
+        | inr more ↦ inr (subst (λ d. HasHeard g order guards f active node from to d n s) (let e : h.condition ≡ c =
+            omega (arith, h.below, more) in e) h.there)
       ]
 
 -- ---- the ends of the processes of a node
 
 module _ (g : Graph) (order : List ℕ) (f : ForestState) (active : TreeState Bool) (node from to : ℕ) where
   -- another process raises nothing
-  pub not_ended : (q latest : ℕ) → (IsBetween g order node from to q → ⊥) → IsRaised g (HasEnded g order f active node from to q) latest latest
-  not_ended q latest off = raised_by_none g (HasEnded g order f active node from to q) (HasEnded g order f active node from to q) (λ n s h. off h.between) latest
+  pub not_ended : (q latest : ℕ) → (IsBetween g order node from to q → ⊥) →
+      IsRaised g (HasEnded g order f active node from to q) latest latest
+  not_ended q latest off = raised_by_none g (HasEnded g order f active node from to q)
+      (HasEnded g order f active node from to q) (λ n s h. off h.between) latest
 
-  pub one_ended : (q old new : ℕ) → IsBetween g order node from to q → IsRaised g (HasLater (ends_of g f q) active 0) old new → IsRaised g (HasEnded g order f active node from to q) old new
-  one_ended q old new on = raised_as g (HasLater (ends_of g f q) active 0) (HasEnded g order f active node from to q) (λ n s law h. h.there) (λ n s law h. record { between = on; there = h }) old new
+  pub one_ended : (q old new : ℕ) → IsBetween g order node from to q →
+      IsRaised g (HasLater (ends_of g f q) active 0) old new →
+      IsRaised g (HasEnded g order f active node from to q) old new
+  one_ended q old new on = raised_as g (HasLater (ends_of g f q) active 0) (HasEnded g order f active node from to q)
+      (λ n s law h. h.there) (λ n s law h. record { between = on; there = h }) old new
 
   pub none_ended : (first : ℕ) → IsRaised g (HasEndedOf g order f active node from to 0) first first
-  none_ended first = raised_by_none g (HasEndedOf g order f active node from to 0) (HasEndedOf g order f active node from to 0) (λ n s h. below n s h) first
+  none_ended first = raised_by_none g (HasEndedOf g order f active node from to 0)
+      (HasEndedOf g order f active node from to 0) (λ n s h. below n s h) first
     where
       below : (n : ℕ) (s : Scenario) → HasEndedOf g order f active node from to 0 n s → ⊥
       below n s h = omega (arith, h.below)
 
-  pub next_ended : (q first mid last : ℕ) → IsRaised g (HasEndedOf g order f active node from to q) first mid → IsRaised g (HasEnded g order f active node from to q) mid last →
+  pub next_ended : (q first mid last : ℕ) → IsRaised g (HasEndedOf g order f active node from to q) first mid →
+      IsRaised g (HasEnded g order f active node from to q) mid last →
       IsRaised g (HasEndedOf g order f active node from to (q + 1)) first last
-  next_ended q first mid last = raised_on g (HasEndedOf g order f active node from to q) (HasEnded g order f active node from to q) (HasEndedOf g order f active node from to (q + 1)) split
-      (λ n s h. record { process = h.process; below = omega (arith, h.below); there = h.there }) (λ n s h. record { process = q; below = omega arith; there = h }) first mid last
+  next_ended q first mid last = raised_on g (HasEndedOf g order f active node from to q)
+      (HasEnded g order f active node from to q) (HasEndedOf g order f active node from to (q + 1)) split
+      (λ n s h. record { process = h.process; below = omega (arith, h.below); there = h.there })
+      (λ n s h. record { process = q; below = omega arith; there = h }) first mid last
     where
-      split : (n : ℕ) (s : Scenario) → HasEndedOf g order f active node from to (q + 1) n s → HasEndedOf g order f active node from to q n s ⊎ HasEnded g order f active node from to q n s
+      split : (n : ℕ) (s : Scenario) → HasEndedOf g order f active node from to (q + 1) n s →
+          HasEndedOf g order f active node from to q n s ⊎ HasEnded g order f active node from to q n s
       split n s h = elim (cases_lt h.process q) [
         | inl less ↦ inl (record { process = h.process; below = less; there = h.there })
-        | inr more ↦ inr (subst (λ d. HasEnded g order f active node from to d n s) (let e : h.process ≡ q = omega (arith, h.below, more) in e) h.there)
+        | inr more ↦ inr (subst (λ d. HasEnded g order f active node from to d n s) (let e : h.process ≡ q =
+            omega (arith, h.below, more) in e) h.there)
       ]
 
 -- ---- what stands before an item in the queue of its node
 
 module _ (g : Graph) (order : List ℕ) (f : ForestState) (goes : TreeState Bool) (x : ℕ) where
-  pub not_queued : (y latest : ℕ) → stands_before g order y x ≡ false → IsRaised g (HasQueued g order f goes x y) latest latest
-  not_queued y latest off = raised_by_none g (HasQueued g order f goes x y) (HasQueued g order f goes x y) (λ n s h. apart (sym h.before ∙ off)) latest
+  pub not_queued : (y latest : ℕ) → stands_before g order y x ≡ false →
+      IsRaised g (HasQueued g order f goes x y) latest latest
+  not_queued y latest off = raised_by_none g (HasQueued g order f goes x y) (HasQueued g order f goes x y)
+      (λ n s h. apart (sym h.before ∙ off)) latest
     where
       apart : true ≡ false → ⊥
       apart e = cc
 
-  pub one_queued : (y old new : ℕ) → stands_before g order y x ≡ true → IsRaised g (HasLater (times_of g f y) goes (round g)) old new → IsRaised g (HasQueued g order f goes x y) old new
-  one_queued y old new on = raised_as g (HasLater (times_of g f y) goes (round g)) (HasQueued g order f goes x y) (λ n s law h. h.there) (λ n s law h. record { before = on; there = h }) old new
+  pub one_queued : (y old new : ℕ) → stands_before g order y x ≡ true →
+      IsRaised g (HasLater (times_of g f y) goes (round g)) old new →
+      IsRaised g (HasQueued g order f goes x y) old new
+  one_queued y old new on = raised_as g (HasLater (times_of g f y) goes (round g)) (HasQueued g order f goes x y)
+      (λ n s law h. h.there) (λ n s law h. record { before = on; there = h }) old new
 
   pub none_queued : (first : ℕ) → IsRaised g (HasQueuedOf g order f goes x 0) first first
-  none_queued first = raised_by_none g (HasQueuedOf g order f goes x 0) (HasQueuedOf g order f goes x 0) (λ n s h. below n s h) first
+  none_queued first =
+      raised_by_none g (HasQueuedOf g order f goes x 0) (HasQueuedOf g order f goes x 0) (λ n s h. below n s h) first
     where
       below : (n : ℕ) (s : Scenario) → HasQueuedOf g order f goes x 0 n s → ⊥
       below n s h = omega (arith, h.below)
 
-  pub next_queued : (y first mid last : ℕ) → IsRaised g (HasQueuedOf g order f goes x y) first mid → IsRaised g (HasQueued g order f goes x y) mid last →
+  pub next_queued : (y first mid last : ℕ) → IsRaised g (HasQueuedOf g order f goes x y) first mid →
+      IsRaised g (HasQueued g order f goes x y) mid last →
       IsRaised g (HasQueuedOf g order f goes x (y + 1)) first last
-  next_queued y first mid last = raised_on g (HasQueuedOf g order f goes x y) (HasQueued g order f goes x y) (HasQueuedOf g order f goes x (y + 1)) split
-      (λ n s h. record { item = h.item; below = omega (arith, h.below); there = h.there }) (λ n s h. record { item = y; below = omega arith; there = h }) first mid last
+  next_queued y first mid last = raised_on g (HasQueuedOf g order f goes x y) (HasQueued g order f goes x y)
+      (HasQueuedOf g order f goes x (y + 1)) split
+      (λ n s h. record { item = h.item; below = omega (arith, h.below); there = h.there })
+      (λ n s h. record { item = y; below = omega arith; there = h }) first mid last
     where
-      split : (n : ℕ) (s : Scenario) → HasQueuedOf g order f goes x (y + 1) n s → HasQueuedOf g order f goes x y n s ⊎ HasQueued g order f goes x y n s
+      split : (n : ℕ) (s : Scenario) → HasQueuedOf g order f goes x (y + 1) n s →
+          HasQueuedOf g order f goes x y n s ⊎ HasQueued g order f goes x y n s
       split n s h = elim (cases_lt h.item y) [
         | inl less ↦ inl (record { item = h.item; below = less; there = h.there })
-        | inr more ↦ inr (subst (λ d. HasQueued g order f goes x d n s) (let e : h.item ≡ y = omega (arith, h.below, more) in e) h.there)
+        | inr more ↦ inr (subst (λ d. HasQueued g order f goes x d n s) (let e : h.item ≡ y =
+            omega (arith, h.below, more) in e) h.there)
       ]
 
 -- ---- inputs
@@ -233,21 +310,27 @@ module _ (g : Graph) (order : List ℕ) (f : ForestState) (goes : TreeState Bool
 module _ (g : Graph) (f : ForestState) (active : TreeState Bool) where
   -- an input of the node itself raises nothing
   pub not_raised : (e latest : ℕ) → is_message g e ≡ false → IsRaised g (HasInput g f active e) latest latest
-  not_raised e latest off = raised_by_none g (HasInput g f active e) (HasInput g f active e) (λ n s h. apart (sym h.message ∙ off)) latest
+  not_raised e latest off =
+      raised_by_none g (HasInput g f active e) (HasInput g f active e) (λ n s h. apart (sym h.message ∙ off)) latest
     where
       apart : true ≡ false → ⊥
       apart i = cc
 
   -- one from another node raises by its frame
-  pub input_raised : (e latest last : ℕ) → is_message g e ≡ true → IsRaised g (HasLater (times_of g f (message_item g e)) active (slot_length g (home g (message_item g e)))) latest last →
+  pub input_raised : (e latest last : ℕ) → is_message g e ≡ true →
+      IsRaised g
+      (HasLater (times_of g f (message_item g e)) active (slot_length g (home g (message_item g e)))) latest last →
       IsRaised g (HasInput g f active e) latest last
   input_raised e latest last on is = by_tree on
-      (subst (λ (b : Bool). IsRaised g (HasLater (if b then times_of g f (message_item g e) else ends_of g f (source g e)) active (if b then slot_length g (home g (message_item g e)) else 0)) latest
+      (subst (λ (b : Bool). IsRaised g (HasLater (if b then times_of g f (message_item g e)
+      else ends_of g f (source g e)) active (if b then slot_length g (home g (message_item g e)) else 0)) latest
       last) (sym on) is)
     where
-      by_tree : is_message g e ≡ true → IsRaised g (HasLater (input_tree g f e) active (input_delay g e)) latest last → IsRaised g (HasInput g f active e) latest last
+      by_tree : is_message g e ≡ true → IsRaised g (HasLater (input_tree g f e) active (input_delay g e)) latest last →
+          IsRaised g (HasInput g f active e) latest last
       by_tree m = raised_as g (HasLater (input_tree g f e) active (input_delay g e)) (HasInput g f active e)
-          (λ n s law h. record { time = h.time; has = h.has; is = h.is }) (λ n s law h. record { message = m; time = h.time; has = h.has; is = h.is }) latest last
+          (λ n s law h. record { time = h.time; has = h.has; is = h.is })
+          (λ n s law h. record { message = m; time = h.time; has = h.has; is = h.is }) latest last
 
   -- ---- one input after another
 
@@ -258,7 +341,8 @@ module _ (g : Graph) (f : ForestState) (active : TreeState Bool) where
     found = inl refl;
   }
 
-  pub next_raised : (edges : List ℕ) (k e : ℕ) → k < length edges → e ≡ get_or edges k 0 → (first mid last : ℕ) → IsRaised g (HasInputOf g f active (take k edges)) first mid →
+  pub next_raised : (edges : List ℕ) (k e : ℕ) → k < length edges → e ≡ get_or edges k 0 → (first mid last : ℕ) →
+      IsRaised g (HasInputOf g f active (take k edges)) first mid →
       IsRaised g (HasInput g f active e) mid last →
       IsRaised g (HasInputOf g f active (take (k + 1) edges)) first last
   next_raised edges k e inside at first mid last before one = record {
@@ -280,12 +364,17 @@ module _ (g : Graph) (f : ForestState) (active : TreeState Bool) where
     where
       last_of : (d : ℕ) → Contains (take (k + 1) edges) d → Contains (take k edges) d ⊎ (d ≡ e)
       last_of d c =
-          let is : take (k + 1) edges ≡ take k edges ++ get_or edges k 0 ∷ [] = ap (λ n. take n edges) (let e : k + 1 ≡ suc k = omega arith in e) ∙ take-suc edges k 0 inside in
+          let is : take (k + 1) edges ≡ take k edges ++ get_or edges k 0 ∷ [] =
+          ap (λ n. take n edges) (let e : k + 1 ≡ suc k = omega arith in e) ∙ take-suc edges k 0 inside in
           elim (Contains-append_cases (take k edges) (get_or edges k 0 ∷ []) d (subst (λ ds. Contains ds d) is c)) [
             | inl i ↦ inl i
-            | inr i ↦ elim (Contains-cases (get_or edges k 0) [] d i) [ inl same ↦ inr (sym same ∙ sym at) | inr j ↦ absurd (Contains-nil d j) ]
+            | inr i ↦ elim (Contains-cases (get_or edges k 0) [] d i) [
+              | inl same ↦ inr (sym same ∙ sym at)
+              | inr j ↦ absurd (Contains-nil d j)
+            ]
           ]
 
-      by : (n : ℕ) (s : Scenario) → IsScenario g s → (d : ℕ) → HasInput g f active d n s → Contains (take k edges) d ⊎ (d ≡ e) → n ≤ last
+      by : (n : ℕ) (s : Scenario) → IsScenario g s → (d : ℕ) → HasInput g f active d n s →
+          Contains (take k edges) d ⊎ (d ≡ e) → n ≤ last
       by n s law d h (inl c) = omega (arith, before.above n s law (record { edge = d; of = c; there = h }), one.from)
       by n s law d h (inr same) = one.above n s law (subst (λ x. HasInput g f active x n s) same h)

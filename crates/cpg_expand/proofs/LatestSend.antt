@@ -1,5 +1,7 @@
--- The latest time of an item that is sent, by each thing that it waits for alone, is what it would have at most if it weren't frozen.
-use Rattle.std.proofs.Common.{ℕ, ◌+◌, ◌*◌, ◌^◌, ◌<◌, ◌≤◌, ◌≡◌, Bool, true, List, get_or, Option, Some, None, Contains, arith, lt-ltb, refl, sym, ap, ◌∙◌, subst, inl, inr, mul-le-mul_right}
+-- The latest time of an item that is sent, by each thing that it waits for alone, is what it would have at most if it
+-- weren't frozen.
+use Rattle.std.proofs.Common.{ℕ, ◌+◌, ◌*◌, ◌^◌, ◌<◌, ◌≤◌, ◌≡◌, Bool, true, List, get_or, Option, Some, None, Contains}
+use Rattle.std.proofs.Common.{arith, lt-ltb, refl, sym, ap, ◌∙◌, subst, inl, inr, mul-le-mul_right}
 use Rattle.std.proofs.lemmas.Bool.{cases_lt, cond-true}
 use Rattle.cpg_base.specs.Bus.{round, offset, first_from, next_slot}
 use Rattle.cpg_base.specs.Graph.{Graph, item_count, item_at, home, producer}
@@ -34,29 +36,38 @@ no_turn j k turn off e = subst (λ n. j * n + off ≤ k * n + off) (sym e) (omeg
 more_turns : (j k turn off : ℕ) → j ≤ k → j * turn + off ≤ k * turn + off
 more_turns j k turn off l = omega (arith, mul-le-mul_right turn l)
 
-next_slot_later : (g : Graph) (node first second : ℕ) → first ≤ second → next_slot g node first ≤ next_slot g node second
+next_slot_later : (g : Graph) (node first second : ℕ) → first ≤ second →
+    next_slot g node first ≤ next_slot g node second
 next_slot_later g node first second l = elim (cases_lt 0 (round g)) [
   | inl h ↦ more_turns (first_from g node first) (first_from g node second) (round g) (offset g node)
       (first_from_least g node first h (first_from g node second) (omega (arith, l, next_slot_above g node second h)))
-  | inr z ↦ no_turn (first_from g node first) (first_from g node second) (round g) (offset g node) (let e : round g ≡ 0 = omega (arith, z) in e)
+  | inr z ↦ no_turn (first_from g node first) (first_from g node second) (round g) (offset g node)
+      (let e : round g ≡ 0 = omega (arith, z) in e)
 ]
 
 -- a send in one scenario with its run, by the values of the trees
-pub record IsSendByTrees (g : Graph) (order : List ℕ) (f : ForestState) (goes : TreeState Bool) (end : TreeState (Option ℕ)) (x : ℕ) (s : Scenario) (t : Times) : Type 0 where
+pub record IsSendByTrees (g : Graph) (order : List ℕ) (f : ForestState) (goes : TreeState Bool)
+    (end : TreeState (Option ℕ)) (x : ℕ) (s : Scenario) (t : Times) : Type 0 where
   pub acts : (c : Path Bool) → IsOnPath goes.paths s c → c.1 ≡ item_active g s.values (item_at g x)
   pub ends : (e : Path (Option ℕ)) → IsOnPath end.paths s e → e.1 ≡ get_or t.ends (producer g x) None
-  pub ended : item_active g s.values (item_at g x) ≡ true → get_or t.ends (producer g x) None ≡ Some (end_in t (producer g x))
+  pub ended : item_active g s.values (item_at g x) ≡ true →
+      get_or t.ends (producer g x) None ≡ Some (end_in t (producer g x))
   pub early : end_in t (producer g x) < 2 ^ 59
   pub value : unfrozen_time g order s t x ≡ greatest (send_bounds g order s t x)
   -- what stands before it was sent at the time of its tree
-  pub sent : (y : ℕ) → Contains (queued_before g order x) y → item_active g s.values (item_at g y) ≡ true → (time : ℕ) × HasValueAt (times_of g f y).paths (Some time) s ×
-      (time_in t y + round g ≡ time_later (round g) (Some time)) × (y < item_count g) × (stands_before g order y x ≡ true)
-  pub came : (y time : ℕ) → y < item_count g → stands_before g order y x ≡ true → HasValueAt (times_of g f y).paths (Some time) s →
+  pub sent : (y : ℕ) → Contains (queued_before g order x) y → item_active g s.values (item_at g y) ≡ true →
+      (time : ℕ) × HasValueAt (times_of g f y).paths (Some time) s ×
+      (time_in t y + round g ≡ time_later (round g) (Some time)) × (y < item_count g) ×
+      (stands_before g order y x ≡ true)
+  pub came : (y time : ℕ) → y < item_count g → stands_before g order y x ≡ true →
+      HasValueAt (times_of g f y).paths (Some time) s →
       time_later (round g) (Some time) ≤ greatest (send_bounds g order s t x)
 
-module _ (g : Graph) (order : List ℕ) (frozen : List (Option ℕ)) (topological : IsTopological g order) (f : ForestState) (goes : TreeState Bool) (of_goes : IsTree g goes) (end : TreeState (Option ℕ))
+module _ (g : Graph) (order : List ℕ) (frozen : List (Option ℕ)) (topological : IsTopological g order) (f : ForestState)
+    (goes : TreeState Bool) (of_goes : IsTree g goes) (end : TreeState (Option ℕ))
     (of_end : IsTree g end) (x : ℕ)
-    (valued : (s : Scenario) → IsScenario g s → (t : Times) → IsRun g order frozen s t → IsSendByTrees g order f goes end x s t) (latest : Option ℕ)
+    (valued : (s : Scenario) → IsScenario g s → (t : Times) → IsRun g order frozen s t →
+    IsSendByTrees g order f goes end x s t) (latest : Option ℕ)
     (top : IsLatestSend g order f (share_of g (home g x)) goes end x latest) where
   -- ---- in one scenario
 
@@ -82,13 +93,16 @@ module _ (g : Graph) (order : List ℕ) (frozen : List (Option ℕ)) (topologica
         record { has = (e.0, e.1, here.ends e.0 e.1 ∙ here.ended on); there = goes_there on }
 
     end_is : (last : ℕ) → HasWhere end goes last s → last ≡ end_in t (producer g x)
-    end_is last h = some_same last (end_in t (producer g x)) (sym h.has.2 ∙ here.ends h.has.0 h.has.1 ∙ here.ended (acts h.there))
+    end_is last h =
+        some_same last (end_in t (producer g x)) (sym h.has.2 ∙ here.ends h.has.0 h.has.1 ∙ here.ended (acts h.there))
 
     slot_in : next_slot g (home g x) (end_in t (producer g x)) ≤ bounds
-    slot_in = greatest_above (send_bounds g order s t x) (next_slot g (home g x) (end_in t (producer g x))) (Contains-first _ _)
+    slot_in = greatest_above (send_bounds g order s t x) (next_slot g (home g x) (end_in t (producer g x)))
+        (Contains-first _ _)
 
     queued_below : (m : ℕ) → HasQueuedOf g order f goes x (item_count g) m s → m ≤ bounds
-    queued_below m h = omega (arith, h.there.there.is, here.came h.item h.there.there.time h.below h.there.before h.there.there.has.has)
+    queued_below m h = omega
+        (arith, h.there.there.is, here.came h.item h.there.there.time h.below h.there.before h.there.there.has.has)
 
     by_bounds : (m : ℕ) → m ≤ bounds → m ≤ unfrozen_time g order s t x
     by_bounds m h = omega (arith, h, here.value)
@@ -99,14 +113,26 @@ module _ (g : Graph) (order : List ℕ) (frozen : List (Option ℕ)) (topologica
     last_early : r.last < 2 ^ 59
     last_early =
         let t = a_run g order frozen r.ends.scenario topological in
-        omega (arith, end_is r.ends.scenario r.ends.lawful t.0 t.1 r.last r.ends.there, (here r.ends.scenario r.ends.lawful t.0 t.1).early)
+        omega (
+          arith,
+          end_is r.ends.scenario r.ends.lawful t.0 t.1 r.last r.ends.there,
+          (here r.ends.scenario r.ends.lawful t.0 t.1).early,
+        )
 
     slot_is : slot_at (share_of g (home g x)) (Some r.last) ≡ next_slot g (home g x) r.last
     slot_is = cond-true _ (next_slot g (home g x) r.last) 0 (lt-ltb r.last (2 ^ 59) last_early)
 
-    slot_above : (s : Scenario) → IsScenario g s → (t : Times) → IsRun g order frozen s t → item_active g s.values (item_at g x) ≡ true → greatest (send_bounds g order s t x) ≤ m
+    slot_above : (s : Scenario) → IsScenario g s → (t : Times) → IsRun g order frozen s t →
+        item_active g s.values (item_at g x) ≡ true →
+        greatest (send_bounds g order s t x) ≤ m
     slot_above s law t run on = send_bounds_le g order s t x m
-        (omega (arith, next_slot_later g (home g x) (end_in t (producer g x)) r.last (r.ends.above (end_in t (producer g x)) s law (end_there s law t run on)), slot_is, r.raised.from))
+        (omega (
+          arith,
+          next_slot_later g (home g x) (end_in t (producer g x)) r.last
+              (r.ends.above (end_in t (producer g x)) s law (end_there s law t run on)),
+          slot_is,
+          r.raised.from,
+        ))
         (λ y c a.
         let k = (here s law t run).sent y c a in
         omega (
@@ -117,36 +143,49 @@ module _ (g : Graph) (order : List ℕ) (frozen : List (Option ℕ)) (topologica
         ))
 
     abbrev Reached : Type 0
-    Reached = (s : Scenario) × IsScenario g s × (item_active g s.values (item_at g x) ≡ true) × ((t : Times) → IsRun g order frozen s t → m ≤ unfrozen_time g order s t x)
+    Reached = (s : Scenario) × IsScenario g s × (item_active g s.values (item_at g x) ≡ true) ×
+        ((t : Times) → IsRun g order frozen s t → m ≤ unfrozen_time g order s t x)
 
-    acts_there : (s : Scenario) → IsScenario g s → HasValueAt goes.paths true s → item_active g s.values (item_at g x) ≡ true
+    acts_there : (s : Scenario) → IsScenario g s → HasValueAt goes.paths true s →
+        item_active g s.values (item_at g x) ≡ true
     acts_there s law h = let t = a_run g order frozen s topological in acts s law t.0 t.1 h
 
     slot_reached : Reached
     slot_reached = elim r.raised.found [
-      | inr h ↦ (h.0, h.1, acts_there h.0 h.1 h.2.there.there.has.there, λ t run. by_bounds h.0 h.1 t run m (queued_below h.0 h.1 t run m h.2))
+      | inr h ↦ (
+        h.0,
+        h.1,
+        acts_there h.0 h.1 h.2.there.there.has.there,
+        λ t run. by_bounds h.0 h.1 t run m (queued_below h.0 h.1 t run m h.2),
+      )
       | inl same ↦ (
         r.ends.scenario,
         r.ends.lawful,
         acts_there r.ends.scenario r.ends.lawful r.ends.there.there,
         λ t run. by_bounds r.ends.scenario r.ends.lawful t run m
-            (by_slot m (slot_at (share_of g (home g x)) (Some r.last)) (next_slot g (home g x) r.last) (next_slot g (home g x) (end_in t (producer g x)))
+            (by_slot m (slot_at (share_of g (home g x)) (Some r.last)) (next_slot g (home g x) r.last)
+            (next_slot g (home g x) (end_in t (producer g x)))
             (greatest (send_bounds g order r.ends.scenario t x))
-            same slot_is (ap (next_slot g (home g x)) (end_is r.ends.scenario r.ends.lawful t run r.last r.ends.there)) (slot_in r.ends.scenario r.ends.lawful t run)),
+            same slot_is (ap (next_slot g (home g x)) (end_is r.ends.scenario r.ends.lawful t run r.last r.ends.there))
+            (slot_in r.ends.scenario r.ends.lawful t run)),
       )
     ]
       where
         by_slot : (m a b c all : ℕ) → m ≡ a → a ≡ b → b ≡ c → c ≤ all → m ≤ all
         by_slot m a b c all e f i h = omega (arith, e, f, i, h)
 
-  pub send_above : (s : Scenario) → IsScenario g s → (t : Times) → IsRun g order frozen s t → item_active g s.values (item_at g x) ≡ true → (m : ℕ) × (latest ≡ Some m) ×
+  pub send_above : (s : Scenario) → IsScenario g s → (t : Times) → IsRun g order frozen s t →
+      item_active g s.values (item_at g x) ≡ true →
+      (m : ℕ) × (latest ≡ Some m) ×
       (unfrozen_time g order s t x ≤ m)
   send_above s law t run on = by latest refl top
     where
-      by : (o : Option ℕ) → latest ≡ o → IsLatestSend g order f (share_of g (home g x)) goes end x o → (m : ℕ) × (latest ≡ Some m) × (unfrozen_time g order s t x ≤ m)
+      by : (o : Option ℕ) → latest ≡ o → IsLatestSend g order f (share_of g (home g x)) goes end x o →
+          (m : ℕ) × (latest ≡ Some m) × (unfrozen_time g order s t x ≤ m)
       by None e none = absurd (none (end_in t (producer g x)) s law (end_there s law t run on))
       by (Some m) e r = (m, e, omega (arith, (here s law t run).value, slot_above m r s law t run on))
 
-  pub send_reached : (m : ℕ) → latest ≡ Some m → (s : Scenario) × IsScenario g s × (item_active g s.values (item_at g x) ≡ true) ×
+  pub send_reached : (m : ℕ) → latest ≡ Some m →
+      (s : Scenario) × IsScenario g s × (item_active g s.values (item_at g x) ≡ true) ×
       ((t : Times) → IsRun g order frozen s t → m ≤ unfrozen_time g order s t x)
   send_reached m e = slot_reached m (subst (IsLatestSend g order f (share_of g (home g x)) goes end x) e top)

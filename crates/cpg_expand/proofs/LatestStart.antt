@@ -1,7 +1,10 @@
--- The latest start of a process, by each thing that it waits for alone, is what it would have at most if it weren't frozen.
-use Rattle.std.proofs.Common.{ℕ, ◌+◌, ◌≤◌, ◌<◌, ◌≡◌, ◌⊎◌, Bool, true, false, List, [], ◌∷◌, ◌++◌, filter, flat_map, get_or, Option, Some, None, Contains, arith, refl, sym, ap, ◌∙◌, subst, inl, inr}
+-- The latest start of a process, by each thing that it waits for alone, is what it would have at most if it weren't
+-- frozen.
+use Rattle.std.proofs.Common.{ℕ, ◌+◌, ◌≤◌, ◌<◌, ◌≡◌, ◌⊎◌, Bool, true, false, List, [], ◌∷◌, ◌++◌, filter, flat_map}
+use Rattle.std.proofs.Common.{get_or, Option, Some, None, Contains, arith, refl, sym, ap, ◌∙◌, subst, inl, inr}
 use Rattle.cpg_base.specs.Numbers.{greatest}
-use Rattle.cpg_base.specs.Graph.{Graph, process_at, process_count, condition_count, node_of, inputs, is_message, message_item}
+use Rattle.cpg_base.specs.Graph.{Graph, process_at, process_count, condition_count, node_of, inputs, is_message}
+use Rattle.cpg_base.specs.Graph.{message_item}
 use Rattle.cpg_base.specs.Activity.{active, live}
 use Rattle.cpg_base.specs.Order.{place, before_on_node}
 use Rattle.cpg_base.specs.Scenario.{Scenario, IsScenario}
@@ -34,7 +37,8 @@ pub record HasEndAt (g : Graph) (order : List ℕ) (f : ForestState) (from p : �
   pub late : n ≤ time_later 0 (Some time)
 
 -- the node hears a condition that one of these or p tests at the time of its tree
-pub record IsHeardAt (g : Graph) (order : List ℕ) (guards : Guards) (f : ForestState) (from p : ℕ) (s : Scenario) (t : Times) (c : ℕ) : Type 0 where
+pub record IsHeardAt (g : Graph) (order : List ℕ) (guards : Guards) (f : ForestState) (from p : ℕ) (s : Scenario)
+    (t : Times) (c : ℕ) : Type 0 where
   pub below : c < condition_count g
   pub asked : IsAskedOf g order guards (node_of g p) from (place order p + 1) c (process_count g) s.values
   pub time : ℕ
@@ -42,30 +46,47 @@ pub record IsHeardAt (g : Graph) (order : List ℕ) (guards : Guards) (f : Fores
   pub is : heard_there g t (node_of g p) c ≡ time_later (heard_delay g (node_of g p) c) (Some time)
 
 -- a start in one scenario with its run, by the values of the trees
-pub record IsStartByTrees (g : Graph) (order : List ℕ) (guards : Guards) (f : ForestState) (chooser : TreeState Bool) (from p : ℕ) (s : Scenario) (t : Times) : Type 0 where
+pub record IsStartByTrees (g : Graph) (order : List ℕ) (guards : Guards) (f : ForestState) (chooser : TreeState Bool)
+    (from p : ℕ) (s : Scenario) (t : Times) : Type 0 where
   pub acts : (x : Path Bool) → IsOnPath chooser.paths s x → x.1 ≡ active g s.values p
   pub value : unfrozen_time g order s t p ≡ greatest (start_bounds g order s t p)
   -- what stands before it on its node has ended once one from the place on has
-  pub ends : (q : ℕ) → Contains (before_on_node g order p) q → active g s.values q ≡ true → HasEndAt g order f from p s (end_in t q)
-  pub ended : (q time : ℕ) → IsBetween g order (node_of g p) from (place order p) q → HasValueAt (ends_of g f q).paths (Some time) s → time_later 0 (Some time) ≤ greatest (start_bounds g order s t p)
+  pub ends : (q : ℕ) → Contains (before_on_node g order p) q → active g s.values q ≡ true →
+      HasEndAt g order f from p s (end_in t q)
+  pub ended : (q time : ℕ) → IsBetween g order (node_of g p) from (place order p) q →
+      HasValueAt (ends_of g f q).paths (Some time) s →
+      time_later 0 (Some time) ≤ greatest (start_bounds g order s t p)
   -- the node has heard what decides them once one from the place on has ended, or at the time of its tree
-  pub hears : (c : ℕ) → Contains (flat_map (deciding g s.values) (before_on_node g order p ++ p ∷ [])) c → HasEndAt g order f from p s (heard_there g t (node_of g p) c) ⊎
+  pub hears : (c : ℕ) → Contains (flat_map (deciding g s.values) (before_on_node g order p ++ p ∷ [])) c →
+      HasEndAt g order f from p s (heard_there g t (node_of g p) c) ⊎
       IsHeardAt g order guards f from p s t c
-  pub heard : (c time : ℕ) → IsAskedOf g order guards (node_of g p) from (place order p + 1) c (process_count g) s.values → HasValueAt (heard_tree g f (node_of g p) c).paths (Some time) s →
+  pub heard : (c time : ℕ) →
+      IsAskedOf g order guards (node_of g p) from (place order p + 1) c (process_count g) s.values →
+      HasValueAt (heard_tree g f (node_of g p) c).paths (Some time) s →
       time_later (heard_delay g (node_of g p) c) (Some time) ≤ greatest (start_bounds g order s t p)
   -- the inputs from other nodes have their times exactly if they are live
-  pub comes : (e : ℕ) → Contains (inputs g p) e → is_message g e ≡ true → live g s.values e ≡ true → (time : ℕ) × (get_or t.times (message_item g e) None ≡ Some time) ×
+  pub comes : (e : ℕ) → Contains (inputs g p) e → is_message g e ≡ true → live g s.values e ≡ true →
+      (time : ℕ) × (get_or t.times (message_item g e) None ≡ Some time) ×
       (input_there g t e ≡ time_later (input_delay g e) (Some time))
-  pub lives : (e time : ℕ) → Contains (inputs g p) e → is_message g e ≡ true → get_or t.times (message_item g e) None ≡ Some time → live g s.values e ≡ true
-  pub has_value : (e : ℕ) → Contains (inputs g p) e → is_message g e ≡ true → (x : Path (Option ℕ)) × IsOnPath (input_tree g f e).paths s x × (x.1 ≡ get_or t.times (message_item g e) None)
-  pub valued : (e : ℕ) → Contains (inputs g p) e → is_message g e ≡ true → (x : Path (Option ℕ)) → IsOnPath (input_tree g f e).paths s x → x.1 ≡ get_or t.times (message_item g e) None
+  pub lives : (e time : ℕ) → Contains (inputs g p) e → is_message g e ≡ true →
+      get_or t.times (message_item g e) None ≡ Some time →
+      live g s.values e ≡ true
+  pub has_value : (e : ℕ) → Contains (inputs g p) e → is_message g e ≡ true →
+      (x : Path (Option ℕ)) × IsOnPath (input_tree g f e).paths s x × (x.1 ≡ get_or t.times (message_item g e) None)
+  pub valued : (e : ℕ) → Contains (inputs g p) e → is_message g e ≡ true → (x : Path (Option ℕ)) →
+      IsOnPath (input_tree g f e).paths s x →
+      x.1 ≡ get_or t.times (message_item g e) None
   -- the others are there once one from the place on has ended
-  pub own : (e : ℕ) → Contains (inputs g p) e → is_message g e ≡ false → live g s.values e ≡ true → HasEndAt g order f from p s (input_there g t e)
+  pub own : (e : ℕ) → Contains (inputs g p) e → is_message g e ≡ false → live g s.values e ≡ true →
+      HasEndAt g order f from p s (input_there g t e)
 
-module _ (g : Graph) (order : List ℕ) (guards : Guards) (frozen : List (Option ℕ)) (f : ForestState) (chooser : TreeState Bool) (of_chooser : IsTree g chooser) (from p : ℕ)
+module _ (g : Graph) (order : List ℕ) (guards : Guards) (frozen : List (Option ℕ)) (f : ForestState)
+    (chooser : TreeState Bool) (of_chooser : IsTree g chooser) (from p : ℕ)
     (topological : IsTopological g order)
-    (valued : (s : Scenario) → IsScenario g s → (t : Times) → IsRun g order frozen s t → IsStartByTrees g order guards f chooser from p s t) (latest : Option ℕ)
-    (top : IsLatestStart g order guards f (node_of g p) from (place order p) (process_at g p).release (inputs g p) chooser latest) where
+    (valued : (s : Scenario) → IsScenario g s → (t : Times) → IsRun g order frozen s t →
+    IsStartByTrees g order guards f chooser from p s t) (latest : Option ℕ)
+    (top : IsLatestStart g order guards f (node_of g p) from (place order p) (process_at g p).release
+    (inputs g p) chooser latest) where
   -- ---- in one scenario
 
   module _ (s : Scenario) (law : IsScenario g s) (t : Times) (run : IsRun g order frozen s t) where
@@ -76,10 +97,12 @@ module _ (g : Graph) (order : List ℕ) (guards : Guards) (frozen : List (Option
     bounds = greatest (start_bounds g order s t p)
 
     ready_value : (x : Path (Option ℕ)) → IsOnPath top.ready.paths s x → x.1 ≡ Some (process_at g p).release
-    ready_value x on = (agrees_constant s (Some (process_at g p).release) g.faults top.ready (λ y. y ≡ Some (process_at g p).release) refl top.at).value x on
+    ready_value x on = (agrees_constant s (Some (process_at g p).release) g.faults top.ready
+        (λ y. y ≡ Some (process_at g p).release) refl top.at).value x on
 
     acts_there : active g s.values p ≡ true → HasValueAt chooser.paths true s
-    acts_there on = let c = the_path g.faults chooser.paths of_chooser.each s (scenario_few g s law) in (c.0, c.1, here.acts c.0 c.1 ∙ on)
+    acts_there on = let c = the_path g.faults chooser.paths of_chooser.each s (scenario_few g s law) in
+        (c.0, c.1, here.acts c.0 c.1 ∙ on)
 
     ready_there : active g s.values p ≡ true → HasWhere top.ready chooser (process_at g p).release s
     ready_there on =
@@ -90,9 +113,11 @@ module _ (g : Graph) (order : List ℕ) (guards : Guards) (frozen : List (Option
     acts h = sym (here.acts h.0 h.1) ∙ h.2
 
     -- nothing ends, is heard or comes later than the latest of all
-    module _ (m : ℕ) (r : IsLatestAt g order guards f (node_of g p) from (place order p) top.ready (inputs g p) chooser m) (on : active g s.values p ≡ true) where
+    module _ (m : ℕ) (r : IsLatestAt g order guards f (node_of g p) from (place order p) top.ready
+        (inputs g p) chooser m) (on : active g s.values p ≡ true) where
       release_under : (process_at g p).release ≤ m
-      release_under = omega (arith, r.top.above (process_at g p).release s law (ready_there on), r.ends.from, r.hears.from, r.raised.from)
+      release_under = omega
+          (arith, r.top.above (process_at g p).release s law (ready_there on), r.ends.from, r.hears.from, r.raised.from)
 
       end_under : (n : ℕ) → HasEndAt g order f from p s n → n ≤ m
       end_under n h = omega (
@@ -103,13 +128,18 @@ module _ (g : Graph) (order : List ℕ) (guards : Guards) (frozen : List (Option
               process = h.process;
               below = h.between.within;
               there =
-                  record { between = h.between; there = record { time = h.time; has = record { has = h.has; there = acts_there on }; is = refl } };
+                  record {
+                    between = h.between;
+                    there = record { time = h.time; has = record { has = h.has; there = acts_there on }; is = refl };
+                  };
             }),
         r.hears.from,
         r.raised.from,
       )
 
-      heard_under : (c : ℕ) → HasEndAt g order f from p s (heard_there g t (node_of g p) c) ⊎ IsHeardAt g order guards f from p s t c → heard_there g t (node_of g p) c ≤ m
+      heard_under : (c : ℕ) →
+          HasEndAt g order f from p s (heard_there g t (node_of g p) c) ⊎ IsHeardAt g order guards f from p s t c →
+          heard_there g t (node_of g p) c ≤ m
       heard_under c (inl h) = end_under (heard_there g t (node_of g p) c) h
       heard_under c (inr h) = omega (
         arith,
@@ -119,7 +149,8 @@ module _ (g : Graph) (order : List ℕ) (guards : Guards) (frozen : List (Option
         r.raised.from,
       )
 
-      input_under : (e : ℕ) → Contains (inputs g p) e → live g s.values e ≡ true → (b : Bool) → is_message g e ≡ b → input_there g t e ≤ m
+      input_under : (e : ℕ) → Contains (inputs g p) e → live g s.values e ≡ true → (b : Bool) → is_message g e ≡ b →
+          input_there g t e ≤ m
       input_under e c lives true is =
           let k = here.comes e c is lives in
           let x = here.has_value e c is in
@@ -132,27 +163,34 @@ module _ (g : Graph) (order : List ℕ) (guards : Guards) (frozen : List (Option
       input_under e c lives false is = end_under (input_there g t e) (here.own e c is lives)
 
       all_under : bounds ≤ m
-      all_under = start_bounds_le g order s t p m release_under (λ e c lives. input_under e c lives (is_message g e) refl) (λ q c a. end_under (end_in t q) (here.ends q c a))
+      all_under = start_bounds_le g order s t p m release_under
+          (λ e c lives. input_under e c lives (is_message g e) refl) (λ q c a. end_under (end_in t q) (here.ends q c a))
           (λ c k. heard_under c (here.hears c k))
 
     -- what some scenario has is no later than the start there
-    ended_below : (m : ℕ) → HasEndedOf g order f chooser (node_of g p) from (place order p) (process_count g) m s → m ≤ bounds
-    ended_below m h = omega (arith, h.there.there.is, here.ended h.process h.there.there.time h.there.between h.there.there.has.has)
+    ended_below : (m : ℕ) → HasEndedOf g order f chooser (node_of g p) from (place order p) (process_count g) m s →
+        m ≤ bounds
+    ended_below m h =
+        omega (arith, h.there.there.is, here.ended h.process h.there.there.time h.there.between h.there.there.has.has)
 
-    hearing_below : (m : ℕ) → HasHeardOf g order guards f chooser (node_of g p) from (place order p + 1) (condition_count g) m s → m ≤ bounds
+    hearing_below : (m : ℕ) →
+        HasHeardOf g order guards f chooser (node_of g p) from (place order p + 1) (condition_count g) m s → m ≤ bounds
     hearing_below m h = omega (arith, h.there.is, here.heard h.condition h.there.time h.there.asked h.there.has)
 
     input_below : (m : ℕ) → HasInputOf g f chooser (inputs g p) m s → m ≤ bounds
     input_below m h =
         let e = h.edge in
         let i = h.there in
-        let is : get_or t.times (message_item g e) None ≡ Some i.time = sym (here.valued e h.of i.message i.has.has.0 i.has.has.1) ∙ i.has.has.2 in
+        let is : get_or t.times (message_item g e) None ≡ Some i.time =
+        sym (here.valued e h.of i.message i.has.has.0 i.has.has.1) ∙ i.has.has.2 in
         let lives = here.lives e i.time h.of i.message is in
         let r = here.comes e h.of i.message lives in
         let same = some_same r.0 i.time (sym r.1 ∙ is) in
         let bound = greatest_above (input_bounds g s t p) (input_there g t e)
-        (Contains-map (input_there g t) (filter (live g s.values) (inputs g p)) e (Contains-filter (live g s.values) (inputs g p) e lives h.of)) in
-        under m (input_there g t e) (time_later (input_delay g e) (Some r.0)) (time_later (input_delay g e) (Some i.time)) (greatest (input_bounds g s t p)) bounds i.is r.2
+        (Contains-map (input_there g t) (filter (live g s.values) (inputs g p)) e
+        (Contains-filter (live g s.values) (inputs g p) e lives h.of)) in
+        under m (input_there g t e) (time_later (input_delay g e) (Some r.0))
+        (time_later (input_delay g e) (Some i.time)) (greatest (input_bounds g s t p)) bounds i.is r.2
         (ap (λ n. time_later (input_delay g e) (Some n)) same) bound (inputs_in g order topological s t p)
       where
         under : (m there a b last all : ℕ) → m ≡ b → there ≡ a → a ≡ b → there ≤ last → last ≤ all → m ≤ all
@@ -163,36 +201,50 @@ module _ (g : Graph) (order : List ℕ) (guards : Guards) (frozen : List (Option
 
   -- ---- in all
 
-  pub latest_above : (s : Scenario) → IsScenario g s → (t : Times) → IsRun g order frozen s t → active g s.values p ≡ true → (m : ℕ) × (latest ≡ Some m) × (unfrozen_time g order s t p ≤ m)
+  pub latest_above : (s : Scenario) → IsScenario g s → (t : Times) → IsRun g order frozen s t →
+      active g s.values p ≡ true →
+      (m : ℕ) × (latest ≡ Some m) × (unfrozen_time g order s t p ≤ m)
   latest_above s law t run on = by latest refl top.is
     where
-      by : (o : Option ℕ) → latest ≡ o → IsLatestOf g order guards f (node_of g p) from (place order p) top.ready (inputs g p) chooser o → (m : ℕ) × (latest ≡ Some m) ×
+      by : (o : Option ℕ) → latest ≡ o →
+          IsLatestOf g order guards f (node_of g p) from (place order p) top.ready (inputs g p) chooser o →
+          (m : ℕ) × (latest ≡ Some m) ×
           (unfrozen_time g order s t p ≤ m)
       by None e none = absurd (none (process_at g p).release s law (ready_there s law t run on))
       by (Some m) e r = (m, e, omega (arith, (here s law t run).value, all_under s law t run m r on))
 
-  pub latest_reached : (m : ℕ) → latest ≡ Some m → (s : Scenario) × IsScenario g s × (active g s.values p ≡ true) × ((t : Times) → IsRun g order frozen s t → m ≤ unfrozen_time g order s t p)
-  latest_reached m e = by (subst (IsLatestOf g order guards f (node_of g p) from (place order p) top.ready (inputs g p) chooser) e top.is)
+  pub latest_reached : (m : ℕ) → latest ≡ Some m →
+      (s : Scenario) × IsScenario g s × (active g s.values p ≡ true) ×
+      ((t : Times) → IsRun g order frozen s t → m ≤ unfrozen_time g order s t p)
+  latest_reached m e = by
+      (subst (IsLatestOf g order guards f (node_of g p) from (place order p) top.ready (inputs g p) chooser) e top.is)
     where
       active_there : (s : Scenario) → IsScenario g s → HasValueAt chooser.paths true s → active g s.values p ≡ true
       active_there s law h = let r = a_run g order frozen s topological in acts s law r.0 r.1 h
 
       -- no later than the start where some scenario has it
-      found : (m n : ℕ) (s : Scenario) → IsScenario g s → HasValueAt chooser.paths true s → m ≡ n → ((t : Times) → IsRun g order frozen s t → n ≤ greatest (start_bounds g order s t p)) →
-          (s : Scenario) × IsScenario g s × (active g s.values p ≡ true) × ((t : Times) → IsRun g order frozen s t → m ≤ unfrozen_time g order s t p)
-      found m n s law on same below = (s, law, active_there s law on, λ t run. by_bounds s law t run m (omega (arith, same, below t run)))
+      found : (m n : ℕ) (s : Scenario) → IsScenario g s → HasValueAt chooser.paths true s → m ≡ n →
+          ((t : Times) → IsRun g order frozen s t → n ≤ greatest (start_bounds g order s t p)) →
+          (s : Scenario) × IsScenario g s × (active g s.values p ≡ true) ×
+          ((t : Times) → IsRun g order frozen s t → m ≤ unfrozen_time g order s t p)
+      found m n s law on same below =
+          (s, law, active_there s law on, λ t run. by_bounds s law t run m (omega (arith, same, below t run)))
 
-      by : IsLatestAt g order guards f (node_of g p) from (place order p) top.ready (inputs g p) chooser m → (s : Scenario) × IsScenario g s × (active g s.values p ≡ true) ×
+      by : IsLatestAt g order guards f (node_of g p) from (place order p) top.ready (inputs g p) chooser m →
+          (s : Scenario) × IsScenario g s × (active g s.values p ≡ true) ×
           ((t : Times) → IsRun g order frozen s t → m ≤ unfrozen_time g order s t p)
       by r = elim r.raised.found [
         | inr h ↦ found m m h.0 h.1 h.2.there.has.there refl (λ t run. input_below h.0 h.1 t run m h.2)
         | inl as_heard ↦ elim r.hears.found [
           | inr h ↦ found m r.heard h.0 h.1 h.2.there.acts as_heard (λ t run. hearing_below h.0 h.1 t run r.heard h.2)
           | inl as_ended ↦ elim r.ends.found [
-            | inr h ↦ found m r.ended h.0 h.1 h.2.there.there.has.there (as_heard ∙ as_ended) (λ t run. ended_below h.0 h.1 t run r.ended h.2)
-            | inl as_first ↦ found m r.first r.top.scenario r.top.lawful r.top.there.there (as_heard ∙ as_ended ∙ as_first)
+            | inr h ↦ found m r.ended h.0 h.1 h.2.there.there.has.there (as_heard ∙ as_ended)
+                (λ t run. ended_below h.0 h.1 t run r.ended h.2)
+            | inl as_first ↦
+                found m r.first r.top.scenario r.top.lawful r.top.there.there (as_heard ∙ as_ended ∙ as_first)
                 (λ t run.
-                let is = some_same r.first (process_at g p).release (sym r.top.there.has.2 ∙ ready_value r.top.scenario r.top.lawful t run r.top.there.has.0 r.top.there.has.1) in
+                let is = some_same r.first (process_at g p).release (sym r.top.there.has.2
+                ∙ ready_value r.top.scenario r.top.lawful t run r.top.there.has.0 r.top.there.has.1) in
                 omega (arith, is, release_in g order topological r.top.scenario t p))
           ]
         ]

@@ -1,5 +1,6 @@
 -- The leaves of a guard are activations of its process, so they lead to inputs of the graph.
-use Rattle.std.proofs.Common.{ℕ, ◌+◌, ◌<◌, ◌≡◌, Bool, true, false, if◌then◌else◌, List, [], ◌∷◌, length, filter, get_or, set, Contains, arith, refl, sym, ap, ◌∙◌, subst, get_or-set_same}
+use Rattle.std.proofs.Common.{ℕ, ◌+◌, ◌<◌, ◌≡◌, Bool, true, false, if◌then◌else◌, List, [], ◌∷◌, length, filter, get_or}
+use Rattle.std.proofs.Common.{set, Contains, arith, refl, sym, ap, ◌∙◌, subst, get_or-set_same}
 use Rattle.std.proofs.Common.{get_or-set_other}
 use Rattle.std.specs.List.{list_all}
 use Rattle.std.proofs.lemmas.List.{length-set, length-replicate}
@@ -25,13 +26,18 @@ all_below : (n : ℕ) (b : Bool) → IsByBelow n (if b then Plain else Inactive)
 all_below n true = tt
 all_below n false = tt
 
-by_below : (n : ℕ) (join : Bool) (es : List ℕ) (live : ℕ → Bool) → ((e : ℕ) → Contains es e → e < n) → IsByBelow n (activation_by join es live)
+by_below : (n : ℕ) (join : Bool) (es : List ℕ) (live : ℕ → Bool) → ((e : ℕ) → Contains es e → e < n) →
+    IsByBelow n (activation_by join es live)
 by_below n join [] live h = tt
-by_below n true (e ∷ es) live h = first_below n (filter live (e ∷ es)) (λ d c. h d (Contains-filter_parts live (e ∷ es) d c).0)
+by_below n true (e ∷ es) live h =
+    first_below n (filter live (e ∷ es)) (λ d c. h d (Contains-filter_parts live (e ∷ es) d c).0)
 by_below n false (e ∷ es) live h = all_below n (list_all live (e ∷ es))
 
-activation_below : (g : Graph) (order : List ℕ) → IsTopological g order → (o : List Bool) (p : ℕ) → p < process_count g → IsByBelow (edge_count g) (activation g o p)
-activation_below g order topological o p l = subst (IsByBelow (edge_count g)) (sym (activation_is g order topological o p (omega (arith, l))))
+activation_below : (g : Graph) (order : List ℕ) → IsTopological g order → (o : List Bool) (p : ℕ) →
+    p < process_count g →
+    IsByBelow (edge_count g) (activation g o p)
+activation_below g order topological o p l =
+    subst (IsByBelow (edge_count g)) (sym (activation_is g order topological o p (omega (arith, l))))
     (by_below (edge_count g) (process_at g p).join (inputs g p) (live g o) (λ e c. (inputs_parts g p e c).0))
 
 -- ---- each leaf is come to
@@ -42,24 +48,35 @@ module _ (g : Graph) (order : List ℕ) (n : ℕ) where
   SameBefore k o other = (d : ℕ) → place order (process_of g d) < k → get_or other d false ≡ get_or o d false
 
   abbrev LeadsFrom : ℕ → Guard → List Bool → Type 0
-  LeadsFrom k guard o = (other : List Bool) → length other ≡ condition_count g → SameBefore k o other → IsByBelow n (outcome_at guard other)
+  LeadsFrom k guard o = (other : List Bool) → length other ≡ condition_count g → SameBefore k o other →
+      IsByBelow n (outcome_at guard other)
 
-  leads_from : (k : ℕ) (guard : Guard) → IsOrderedFrom g order k guard → (o : List Bool) → length o ≡ condition_count g → LeadsFrom k guard o → LeadsBelow n guard
+  leads_from : (k : ℕ) (guard : Guard) → IsOrderedFrom g order k guard → (o : List Bool) →
+      length o ≡ condition_count g → LeadsFrom k guard o →
+      LeadsBelow n guard
   leads_from k (Leaf a) ordered o long h = h o long (λ d l. refl)
   leads_from k (Test c off on) ordered o long h = (
     leads_from (place order (process_of g c) + 1) off ordered.2 (set o c false) (length-set o c false ∙ long)
-        (λ other far same. subst (λ (b : Bool). IsByBelow n (if b then outcome_at on other else outcome_at off other)) (here false other same) (h other far (earlier false other same))),
+        (λ other far same. subst (λ (b : Bool). IsByBelow n (if b then outcome_at on other else outcome_at off other))
+        (here false other same) (h other far (earlier false other same))),
     leads_from (place order (process_of g c) + 1) on ordered.3 (set o c true) (length-set o c true ∙ long)
-        (λ other far same. subst (λ (b : Bool). IsByBelow n (if b then outcome_at on other else outcome_at off other)) (here true other same) (h other far (earlier true other same))),
+        (λ other far same. subst (λ (b : Bool). IsByBelow n (if b then outcome_at on other else outcome_at off other))
+        (here true other same) (h other far (earlier true other same))),
   )
     where
-      here : (b : Bool) (other : List Bool) → SameBefore (place order (process_of g c) + 1) (set o c b) other → get_or other c false ≡ b
+      here : (b : Bool) (other : List Bool) → SameBefore (place order (process_of g c) + 1) (set o c b) other →
+          get_or other c false ≡ b
       here b other same = same c (omega arith) ∙ get_or-set_same o c b false (omega (arith, ordered.0, long))
 
-      earlier : (b : Bool) (other : List Bool) → SameBefore (place order (process_of g c) + 1) (set o c b) other → SameBefore k o other
+      earlier : (b : Bool) (other : List Bool) → SameBefore (place order (process_of g c) + 1) (set o c b) other →
+          SameBefore k o other
       earlier b other same d l = same d (omega (arith, l, ordered.1)) ∙ get_or-set_other o c d b false
           (λ e. absurd (let at = ap (λ q. place order (process_of g q)) e in omega (arith, l, ordered.1, at)))
 
-pub leads_below : (g : Graph) (order : List ℕ) → IsTopological g order → (p : ℕ) → p < process_count g → (guard : Guard) → IsGuardOf g order p guard → LeadsBelow (edge_count g) guard
-leads_below g order topological p l guard is = leads_from g order (edge_count g) 0 guard is.ordered (replicate (condition_count g) false) (length-replicate {A = Bool} (condition_count g) false)
-    (λ other long same. subst (IsByBelow (edge_count g)) (sym (is.is other long)) (activation_below g order topological other p l))
+pub leads_below : (g : Graph) (order : List ℕ) → IsTopological g order → (p : ℕ) → p < process_count g →
+    (guard : Guard) → IsGuardOf g order p guard →
+    LeadsBelow (edge_count g) guard
+leads_below g order topological p l guard is = leads_from g order (edge_count g) 0 guard is.ordered
+    (replicate (condition_count g) false) (length-replicate {A = Bool} (condition_count g) false)
+    (λ other long same.
+    subst (IsByBelow (edge_count g)) (sym (is.is other long)) (activation_below g order topological other p l))

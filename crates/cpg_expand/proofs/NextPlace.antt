@@ -1,5 +1,6 @@
 -- What a node carries on, when it is ready and which frozen times are settled at the next place.
-use Rattle.std.proofs.Common.{ℕ, ◌+◌, ◌<◌, ◌≤◌, ◌≡◌, ◌≢◌, ◌==◌, max, Bool, true, false, if◌then◌else◌, List, ◌++◌, length, filter, take, get_or, flat_map, Option, None, Contains, ◌⊎◌, arith, eq-eqb}
+use Rattle.std.proofs.Common.{ℕ, ◌+◌, ◌<◌, ◌≤◌, ◌≡◌, ◌≢◌, ◌==◌, max, Bool, true, false, if◌then◌else◌, List, ◌++◌}
+use Rattle.std.proofs.Common.{length, filter, take, get_or, flat_map, Option, None, Contains, ◌⊎◌, arith, eq-eqb}
 use Rattle.std.proofs.Common.{refl, sym, ap, ◌∙◌, subst, inl, inr}
 use Rattle.std.proofs.lemmas.Bool.{cases_eq}
 use Rattle.std.proofs.lemmas.List.Elements.{Contains-append_cases}
@@ -31,7 +32,8 @@ use Rattle.cpg_expand.specs.Agreeing.{HasValueFrom}
 use Rattle.cpg_expand.specs.Grown.{IsReadyLine, AreSettledOf}
 use Rattle.cpg_expand.proofs.AgreeingTrees.{agrees_weaker}
 
-module _ (g : Graph) (order : List ℕ) (topological : IsTopological g order) (i p : ℕ) (l : p < process_count g) (at : place order p ≡ i) where
+module _ (g : Graph) (order : List ℕ) (topological : IsTopological g order) (i p : ℕ) (l : p < process_count g)
+    (at : place order p ≡ i) where
   -- ---- what a node carries on
 
   stands : Contains order p
@@ -49,31 +51,38 @@ module _ (g : Graph) (order : List ℕ) (topological : IsTopological g order) (i
       Contains-filter (λ (u : ℕ). node_of g u == node) (take (i + 1) order) q r.1 (in_next order i q inside (inl r.0))
 
   pub here_on : Contains (on_node g order (i + 1) (node_of g p)) p
-  here_on = Contains-filter (λ (u : ℕ). node_of g u == node_of g p) (take (i + 1) order) p (eq-eqb (node_of g p) (node_of g p) refl) (in_next order i p inside (inr here))
+  here_on = Contains-filter (λ (u : ℕ). node_of g u == node_of g p) (take (i + 1) order) p
+      (eq-eqb (node_of g p) (node_of g p) refl) (in_next order i p inside (inr here))
 
   pub same_before : before_on_node g order p ≡ on_node g order i (node_of g p)
   same_before = ap (λ n. filter (λ q. node_of g q == node_of g p) (take n order)) at
 
   module _ (rows : List (List Column)) (s : Scenario) where
-    then_on : (x : Literal) → Contains (flat_map (passed g rows s) (before_on_node g order p) ++ passed g rows s p) x → Contains (flat_map (passed g rows s) (on_node g order (i + 1) (node_of g p))) x
-    then_on x j = elim (Contains-append_cases (flat_map (passed g rows s) (before_on_node g order p)) (passed g rows s p) x j) [
-      | inl k ↦ let r = Contains-flat_map_parts (passed g rows s) (before_on_node g order p) x k in
-          Contains-flat_map (passed g rows s) (on_node g order (i + 1) (node_of g p)) r.0 x (kept_on (node_of g p) r.0 (subst (λ qs. Contains qs r.0) same_before r.1)) r.2
-      | inr k ↦ Contains-flat_map (passed g rows s) (on_node g order (i + 1) (node_of g p)) p x here_on k
-    ]
+    then_on : (x : Literal) → Contains (flat_map (passed g rows s) (before_on_node g order p) ++ passed g rows s p) x →
+        Contains (flat_map (passed g rows s) (on_node g order (i + 1) (node_of g p))) x
+    then_on x j =
+        elim (Contains-append_cases (flat_map (passed g rows s) (before_on_node g order p)) (passed g rows s p) x j) [
+          | inl k ↦ let r = Contains-flat_map_parts (passed g rows s) (before_on_node g order p) x k in
+              Contains-flat_map (passed g rows s) (on_node g order (i + 1) (node_of g p)) r.0 x
+              (kept_on (node_of g p) r.0 (subst (λ qs. Contains qs r.0) same_before r.1)) r.2
+          | inr k ↦ Contains-flat_map (passed g rows s) (on_node g order (i + 1) (node_of g p)) p x here_on k
+        ]
 
     module _ (frozen : List (Option ℕ)) (t : Times) (run : IsRun g order frozen s t) where
       -- ---- when nodes are ready
 
       -- the node of the process, by when it was ready before and when it has heard what decides the process
-      pub ready_next : (r h : ℕ) → IsReady g order s t i (node_of g p) r → IsMost (λ c. (c < condition_count g) × (decides g s.values p c ≡ true)) (heard_there g t (node_of g p)) h →
+      pub ready_next : (r h : ℕ) → IsReady g order s t i (node_of g p) r →
+          IsMost (λ c. (c < condition_count g) × (decides g s.values p c ≡ true)) (heard_there g t (node_of g p)) h →
           (active g s.values p ≡ true → max r h ≤ end_in t p) → (tree : TreeState ℕ) →
-          HasValueFrom s (flat_map (passed g rows s) (before_on_node g order p) ++ passed g rows s p) (if active g s.values p then end_in t p else max r h) tree →
+          HasValueFrom s (flat_map (passed g rows s) (before_on_node g order p) ++ passed g rows s p)
+          (if active g s.values p then end_in t p else max r h) tree →
           IsReadyLine g order rows s t (i + 1) (node_of g p) tree
       ready_next r h ready heard ended tree has_value = record {
         time = v;
         is = by (active g s.values p) refl;
-        has_value = agrees_weaker s tree (flat_map (passed g rows s) (before_on_node g order p) ++ passed g rows s p) (flat_map (passed g rows s) (on_node g order (i + 1) (node_of g p))) (λ z. z ≡ v)
+        has_value = agrees_weaker s tree (flat_map (passed g rows s) (before_on_node g order p) ++ passed g rows s p)
+            (flat_map (passed g rows s) (on_node g order (i + 1) (node_of g p))) (λ z. z ≡ v)
             (λ z. z ≡ v) then_on (λ z e. e) has_value;
       }
         where
@@ -81,16 +90,22 @@ module _ (g : Graph) (order : List ℕ) (topological : IsTopological g order) (i
           v = if active g s.values p then end_in t p else max r h
 
           by : (b : Bool) → active g s.values p ≡ b → IsReady g order s t (i + 1) (node_of g p) v
-          by true e = ready_active g order topological frozen s t run i p l at r h v e (ap (λ (b : Bool). if b then end_in t p else max r h) e)
-              (let is = ap (λ (b : Bool). if b then end_in t p else max r h) e in omega (arith, is, ended e)) ready heard
-          by false e = ready_idle g order topological frozen s t run i p l at r h v e (ap (λ (b : Bool). if b then end_in t p else max r h) e) ready heard
+          by true e = ready_active g order topological frozen s t run i p l at r h v e
+              (ap (λ (b : Bool). if b then end_in t p else max r h) e)
+              (let is = ap (λ (b : Bool). if b then end_in t p else max r h) e in
+              omega (arith, is, ended e)) ready heard
+          by false e = ready_idle g order topological frozen s t run i p l at r h v e
+              (ap (λ (b : Bool). if b then end_in t p else max r h) e) ready heard
 
       -- any other node
-      pub ready_elsewhere : (node : ℕ) → node ≢ node_of g p → (tree : TreeState ℕ) → IsReadyLine g order rows s t i node tree → IsReadyLine g order rows s t (i + 1) node tree
+      pub ready_elsewhere : (node : ℕ) → node ≢ node_of g p → (tree : TreeState ℕ) →
+          IsReadyLine g order rows s t i node tree →
+          IsReadyLine g order rows s t (i + 1) node tree
       ready_elsewhere node other tree line = record {
         time = line.time;
         is = ready_other g order topological frozen s t run i p l at node line.time other line.is;
-        has_value = agrees_weaker s tree (flat_map (passed g rows s) (on_node g order i node)) (flat_map (passed g rows s) (on_node g order (i + 1) node)) (λ z. z ≡ line.time) (λ z. z ≡ line.time)
+        has_value = agrees_weaker s tree (flat_map (passed g rows s) (on_node g order i node))
+            (flat_map (passed g rows s) (on_node g order (i + 1) node)) (λ z. z ≡ line.time) (λ z. z ≡ line.time)
             (λ x j. let r = Contains-flat_map_parts (passed g rows s) (on_node g order i node) x j in
             Contains-flat_map (passed g rows s) (on_node g order (i + 1) node) r.0 x (kept_on node r.0 r.1) r.2)
             (λ z e. e) line.has_value;
@@ -98,14 +113,19 @@ module _ (g : Graph) (order : List ℕ) (topological : IsTopological g order) (i
 
 -- ---- frozen times
 
-module _ (g : Graph) (order : List ℕ) (topological : IsTopological g order) (within : IsWithinLimits g) (Done More : ℕ → Type 0) (frozen : List (Option ℕ))
+module _ (g : Graph) (order : List ℕ) (topological : IsTopological g order) (within : IsWithinLimits g)
+    (Done More : ℕ → Type 0) (frozen : List (Option ℕ))
     (settled : AreSettledOf g order Done frozen) (x : ℕ) (l : x < item_count g)
-    (later : (y : ℕ) → y < item_count g → Done y → moment g order y < moment g order x) (grows : (y : ℕ) → Done y → More y) (one : More x) (only : (y : ℕ) → More y → Done y ⊎ (y ≡ x)) where
+    (later : (y : ℕ) → y < item_count g → Done y → moment g order y < moment g order x)
+    (grows : (y : ℕ) → Done y → More y) (one : More x) (only : (y : ℕ) → More y → Done y ⊎ (y ≡ x)) where
   -- no frozen time is to be set
   pub settled_idle : is_frozen g x ≡ false → AreSettledOf g order More frozen
   settled_idle thawed = record {
     count = settled.count;
-    each = λ y h is done. elim (only y done) [ inl d ↦ settled.each y h is d | inr e ↦ absurd (apart (sym is ∙ ap (is_frozen g) e ∙ thawed)) ];
+    each = λ y h is done. elim (only y done) [
+      | inl d ↦ settled.each y h is d
+      | inr e ↦ absurd (apart (sym is ∙ ap (is_frozen g) e ∙ thawed))
+    ];
     others = λ y no. settled.others y (λ h is done. no h is (grows y done));
     low = settled.low;
   }
@@ -117,24 +137,35 @@ module _ (g : Graph) (order : List ℕ) (topological : IsTopological g order) (w
   not_done done = omega (arith, later x l done)
 
   -- the frozen time of the item is set
-  pub settled_more : is_frozen g x ≡ true → (more : List (Option ℕ)) → IsUnfrozenTime g order frozen x (get_or more x None) → ((y : ℕ) → y ≢ x → get_or more y None ≡ get_or frozen y None) →
+  pub settled_more : is_frozen g x ≡ true → (more : List (Option ℕ)) →
+      IsUnfrozenTime g order frozen x (get_or more x None) →
+      ((y : ℕ) → y ≢ x → get_or more y None ≡ get_or frozen y None) →
       length more ≡ length frozen → AreSettledOf g order More more
   settled_more is_one more is same count = record {
     count = count ∙ settled.count;
     each = λ y h f done. elim (cases_eq y x) [
-      | inl e ↦ subst (IsFrozenTime g order more) (sym e) (frozen_time_set g order topological frozen more x l (λ z w m. sym (same z (λ e. omega (arith, ap (moment g order) e)))) is)
+      | inl e ↦ subst (IsFrozenTime g order more) (sym e) (frozen_time_set g order topological frozen more x l
+          (λ z w m. sym (same z (λ e. omega (arith, ap (moment g order) e)))) is)
       | inr apart ↦ elim (only y done) [
         | inr e ↦ absurd (apart e)
-        | inl d ↦ frozen_time_kept g order topological frozen more y h (λ z w m. sym (same z (λ e. omega (arith, ap (moment g order) e, later y h d)))) (sym (same y apart)) (settled.each y h f d)
+        | inl d ↦ frozen_time_kept g order topological frozen more y h
+            (λ z w m. sym (same z (λ e. omega (arith, ap (moment g order) e, later y h d)))) (sym (same y apart))
+            (settled.each y h f d)
       ]
     ];
-    others = λ y no. same y (λ e. no (subst (λ z. z < item_count g) (sym e) l) (ap (is_frozen g) e ∙ is_one) (subst More (sym e) one)) ∙ settled.others y (λ h f done. no h f (grows y done));
+    others = λ y no. same y
+        (λ e. no (subst (λ z. z < item_count g) (sym e) l) (ap (is_frozen g) e ∙ is_one) (subst More (sym e) one))
+        ∙ settled.others y (λ h f done. no h f (grows y done));
     low = record {
       low = λ y time w e. elim (cases_eq y x) [
         | inl at ↦
             let r = is.reached time (ap (λ z. get_or more z None) (sym at) ∙ e) in
             subst (λ z. time ≤ bound 0 (moment g order z) + 32000000000) (sym at)
-            (omega (arith, r.has, unfrozen_low 0 g order frozen r.scenario r.times within topological r.lawful settled.low r.run x l))
+            (omega (
+              arith,
+              r.has,
+              unfrozen_low 0 g order frozen r.scenario r.times within topological r.lawful settled.low r.run x l,
+            ))
         | inr apart ↦ settled.low.low y time w (sym (same y apart) ∙ e)
       ];
     };

@@ -26,26 +26,37 @@ module _ {T : Type 0} where
   kept_still old next new first second i g at = second i g (first i g at)
 
   pub kept_by : (old new : List (KnownGuard T)) (k : KnownGuard T) → new ≡ old ++ (k ∷ []) → AreKept old new
-  kept_by old new k e i g at = subst (λ (xs : List (KnownGuard T)). IsAt xs i g) (sym e)
-      (omega (arith, at.0, length-append old (k ∷ [])), λ d. ap (λ (x : KnownGuard T). x.guard.now) (get_or_append_left old (k ∷ []) d i at.0) ∙ at.1 d)
+  kept_by old new k e i g at = subst (λ (xs : List (KnownGuard T)). IsAt xs i g) (sym e) (
+    omega (arith, at.0, length-append old (k ∷ [])),
+    λ d. ap (λ (x : KnownGuard T). x.guard.now) (get_or_append_left old (k ∷ []) d i at.0) ∙ at.1 d,
+  )
 
   module _ (made : TreeState T → Type 0) (fits : Guard → TreeState T → Type 0) where
-    pub found_there : (known : List (KnownGuard T)) (g : Guard) (found : Source T) → IsFound made fits known g found → IsThere known found
+    pub found_there : (known : List (KnownGuard T)) (g : Guard) (found : Source T) → IsFound made fits known g found →
+        IsThere known found
     found_there known g (At i) h = h.0
     found_there known g (Alone t) h = tt
 
-    pub found_still : (old new : List (KnownGuard T)) (g : Guard) (found : Source T) → AreKept old new → IsFound made fits old g found → IsFound made fits new g found
+    pub found_still : (old new : List (KnownGuard T)) (g : Guard) (found : Source T) → AreKept old new →
+        IsFound made fits old g found →
+        IsFound made fits new g found
     found_still old new g (At i) kept h = kept i g h
     found_still old new g (Alone t) kept h = h
 
-    known_at : (known : List (KnownGuard T)) (i : ℕ) (g : Guard) (r : TreeState T) → AreKnown made fits known → IsAt known i g → HoldsAt (λ (k : KnownGuard T). r ≡ k.tree) known i →
+    known_at : (known : List (KnownGuard T)) (i : ℕ) (g : Guard) (r : TreeState T) → AreKnown made fits known →
+        IsAt known i g →
+        HoldsAt (λ (k : KnownGuard T). r ≡ k.tree) known i →
         (d : KnownGuard T) → made r × fits g r
     known_at known i g r all at is d =
-        let facts = All-get_or (λ (k : KnownGuard T). made k.tree × fits k.guard.now k.tree) known i d at.0 all in
-        (subst made (sym (is d)) facts.0, subst (λ (h : Guard). fits h r) (at.1 d) (subst (fits (get_or known i d).guard.now) (sym (is d)) facts.1))
+        let facts = All-get_or (λ (k : KnownGuard T). made k.tree × fits k.guard.now k.tree) known i d at.0 all in (
+          subst made (sym (is d)) facts.0,
+          subst (λ (h : Guard). fits h r) (at.1 d) (subst (fits (get_or known i d).guard.now) (sym (is d)) facts.1),
+        )
 
     -- the tree that is found tells of the guard
-    pub found_has_value : (known : List (KnownGuard T)) (g : Guard) (found : Source T) (r : TreeState T) → AreKnown made fits known → IsFound made fits known g found → IsTreeOf known found r
+    pub found_has_value : (known : List (KnownGuard T)) (g : Guard) (found : Source T) (r : TreeState T) →
+        AreKnown made fits known → IsFound made fits known g found →
+        IsTreeOf known found r
         → made r ×
         fits g r
     found_has_value [] g (At i) r all h is = absurd (omega (arith, h.0))
@@ -55,27 +66,40 @@ module _ {T : Type 0} where
     one_known : (k : KnownGuard T) → made k.tree → fits k.guard.now k.tree → AreKnown made fits (k ∷ [])
     one_known k m t = search rules
 
-    pub added_known : (old new : List (KnownGuard T)) (g : Guard) (tree : TreeState T) (found : Source T) → AreKnown made fits old → made tree → fits g tree → IsAdded old new g tree found →
+    pub added_known : (old new : List (KnownGuard T)) (g : Guard) (tree : TreeState T) (found : Source T) →
+        AreKnown made fits old → made tree → fits g tree →
+        IsAdded old new g tree found →
         AreKnown made fits new
     added_known old new g tree (At i) all m t h =
-        subst (AreKnown made fits) (sym h.2) (All-append (λ (x : KnownGuard T). made x.tree × fits x.guard.now x.tree) old (h.1 ∷ []) all
-        (one_known h.1 (subst made (sym h.4) m) (subst (fits h.1.guard.now) (sym h.4) (subst (λ (x : Guard). fits x tree) (sym h.3) t))))
+        subst (AreKnown made fits) (sym h.2)
+        (All-append (λ (x : KnownGuard T). made x.tree × fits x.guard.now x.tree) old (h.1 ∷ []) all
+        (one_known h.1 (subst made (sym h.4) m)
+        (subst (fits h.1.guard.now) (sym h.4) (subst (λ (x : Guard). fits x tree) (sym h.3) t))))
     added_known old new g tree (Alone t) all m is h = subst (AreKnown made fits) (sym h.0) all
 
-    pub added_kept : (old new : List (KnownGuard T)) (g : Guard) (tree : TreeState T) (found : Source T) → IsAdded old new g tree found → AreKept old new
+    pub added_kept : (old new : List (KnownGuard T)) (g : Guard) (tree : TreeState T) (found : Source T) →
+        IsAdded old new g tree found → AreKept old new
     added_kept old new g tree (At i) h = kept_by old new h.1 h.2
-    added_kept old new g tree (Alone t) h = subst (λ (xs : List (KnownGuard T)). AreKept old xs) (sym h.0) (λ i g at. at)
+    added_kept old new g tree (Alone t) h =
+        subst (λ (xs : List (KnownGuard T)). AreKept old xs) (sym h.0) (λ i g at. at)
 
-    pub added_found : (old new : List (KnownGuard T)) (g : Guard) (tree : TreeState T) (found : Source T) → made tree → fits g tree → IsAdded old new g tree found → IsFound made fits new g found
+    pub added_found : (old new : List (KnownGuard T)) (g : Guard) (tree : TreeState T) (found : Source T) → made tree →
+        fits g tree → IsAdded old new g tree found →
+        IsFound made fits new g found
     added_found old new g tree (At i) m t h =
-        subst (λ (xs : List (KnownGuard T)). IsAt xs i g) (sym h.2) (subst (λ (n : ℕ). IsAt (old ++ (h.1 ∷ [])) n g) (sym h.0)
-        (omega (arith, length-append old (h.1 ∷ [])), λ d. ap (λ (x : KnownGuard T). x.guard.now) (get_or-append_seam old h.1 [] d) ∙ h.3))
+        subst (λ (xs : List (KnownGuard T)). IsAt xs i g) (sym h.2)
+        (subst (λ (n : ℕ). IsAt (old ++ (h.1 ∷ [])) n g) (sym h.0) (
+          omega (arith, length-append old (h.1 ∷ [])),
+          λ d. ap (λ (x : KnownGuard T). x.guard.now) (get_or-append_seam old h.1 [] d) ∙ h.3,
+        ))
     added_found old new g tree (Alone t) m is h = (subst made (sym h.1) m, subst (fits g) (sym h.1) is)
 
     -- the tree that was found before more were added
-    module _ (first second slice : List (KnownGuard T)) (kept : AreKept first second) (is : slice ≡ second) (g : Guard) (found : Source T) (h : IsFound made fits first g found) where
+    module _ (first second slice : List (KnownGuard T)) (kept : AreKept first second) (is : slice ≡ second) (g : Guard)
+        (found : Source T) (h : IsFound made fits first g found) where
       still : IsFound made fits slice g found
-      still = subst (λ (xs : List (KnownGuard T)). IsFound made fits xs g found) (sym is) (found_still first second g found kept h)
+      still = subst (λ (xs : List (KnownGuard T)). IsFound made fits xs g found) (sym is)
+          (found_still first second g found kept h)
 
       pub still_there : IsThere slice found
       still_there = found_there slice g found still

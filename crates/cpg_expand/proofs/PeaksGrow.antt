@@ -1,8 +1,10 @@
 -- A peak of the first n processes, with one process more.
-use Rattle.std.proofs.Common.{ℕ, ◌+◌, ◌≤◌, ◌<◌, ◌≡◌, ◌==◌, ◌⊎◌, Bool, true, false, nat_lt, if◌then◌else◌, List, Option, Some, None, All, arith, eq-eqb, refl, sym, ap, ◌∙◌, subst, inl, inr, le-leb}
+use Rattle.std.proofs.Common.{ℕ, ◌+◌, ◌≤◌, ◌<◌, ◌≡◌, ◌==◌, ◌⊎◌, Bool, true, false, nat_lt, if◌then◌else◌, List, Option}
+use Rattle.std.proofs.Common.{Some, None, All, arith, eq-eqb, refl, sym, ap, ◌∙◌, subst, inl, inr, le-leb}
 use Rattle.std.proofs.Common.{lt-ltb}
 use Rattle.std.specs.Prelude.{nat_le}
-use Rattle.std.proofs.lemmas.Bool.{cases_Bool, cases_lt, cases_eq, cond-true, cond-false, both_ways, false≢true, leb-true, ne_eqb, ltb-true}
+use Rattle.std.proofs.lemmas.Bool.{cases_Bool, cases_lt, cases_eq, cond-true, cond-false, both_ways, false≢true}
+use Rattle.std.proofs.lemmas.Bool.{leb-true, ne_eqb, ltb-true}
 use Rattle.std.proofs.lemmas.List.Elements.{All-contains}
 use Rattle.std.proofs.lemmas.Option.{none-some}
 use Rattle.cpg_base.specs.Graph.{Graph, process_count}
@@ -14,17 +16,23 @@ use Rattle.cpg_tree.specs.Tree.{Path, TreeState, IsOnPath}
 use Rattle.cpg_expand.specs.Agreeing.{IsTree}
 use Rattle.cpg_expand.specs.Tops.{IsTop, HasFrom, reaches}
 use Rattle.cpg_expand.specs.Values.{time_past}
-use Rattle.cpg_expand.specs.Peaks.{tree_at, EndsAt, EndsPast, IsPeakOf, IsPeakBy, IsPeak, goes_before_by, goes_before, or_time, IsNextPeak, IsNextExcess}
+use Rattle.cpg_expand.specs.Peaks.{tree_at, EndsAt, EndsPast, IsPeakOf, IsPeakBy, IsPeak, goes_before_by, goes_before}
+use Rattle.cpg_expand.specs.Peaks.{or_time, IsNextPeak, IsNextExcess}
 use Rattle.cpg_expand.specs.declared.measuring.Peak.{Peak}
 use Rattle.cpg_tree.proofs.OnePath.{scenario_few, the_path}
 use Rattle.cpg_expand.proofs.GuardTrees.{few_of}
 
 -- no process, and so no peak
-pub no_peak : (g : Graph) (urgency : List ℕ) (has : ℕ → ℕ → Scenario → Type 0) (peak : Peak) → peak ≡ record { time = 0; scenario = zero_scenario g; process = None } → IsPeak g urgency 0 has peak
-no_peak g urgency has peak is = subst (IsPeak g urgency 0 has) (sym is) (record { time = refl; scenario = refl; none = λ q time s l law h. absurd (omega arith) })
+pub no_peak : (g : Graph) (urgency : List ℕ) (has : ℕ → ℕ → Scenario → Type 0) (peak : Peak) →
+    peak ≡ record { time = 0; scenario = zero_scenario g; process = None } →
+    IsPeak g urgency 0 has peak
+no_peak g urgency has peak is = subst (IsPeak g urgency 0 has) (sym is)
+    (record { time = refl; scenario = refl; none = λ q time s l law h. absurd (omega arith) })
 
 -- if all have been gone through
-pub all_processes : (g : Graph) (urgency : List ℕ) (has : ℕ → ℕ → Scenario → Type 0) (n : ℕ) (peak : Peak) → n ≡ process_count g → IsPeak g urgency n has peak →
+pub all_processes : (g : Graph) (urgency : List ℕ) (has : ℕ → ℕ → Scenario → Type 0) (n : ℕ) (peak : Peak) →
+    n ≡ process_count g →
+    IsPeak g urgency n has peak →
     IsPeak g urgency (process_count g) has peak
 all_processes g urgency has n peak e a = subst (λ i. IsPeak g urgency i has peak) e a
 
@@ -35,11 +43,13 @@ later_or_first a b c h = elim (cases_eq a b) [
   | inr n ↦ inl (ltb-true a b (sym (cond-false (a == b) c (nat_lt a b) (ne_eqb a b n)) ∙ h))
 ]
 
-sooner_or_not_first : (a b : ℕ) (c : Bool) → (if a == b then c else nat_lt a b) ≡ false → (b < a) ⊎ ((a ≡ b) × (c ≡ false))
+sooner_or_not_first : (a b : ℕ) (c : Bool) → (if a == b then c else nat_lt a b) ≡ false →
+    (b < a) ⊎ ((a ≡ b) × (c ≡ false))
 sooner_or_not_first a b c h = elim (cases_eq a b) [
   | inl e ↦ inr (e, sym (cond-true (a == b) c (nat_lt a b) (eq-eqb a b e)) ∙ h)
   | inr n ↦ elim (cases_lt a b) [
-    | inl l ↦ absurd (both_ways (nat_lt a b) (sym (cond-false (a == b) c (nat_lt a b) (ne_eqb a b n)) ∙ h) (lt-ltb a b l))
+    | inl l ↦
+        absurd (both_ways (nat_lt a b) (sym (cond-false (a == b) c (nat_lt a b) (ne_eqb a b n)) ∙ h) (lt-ltb a b l))
     | inr l ↦ inl (less a b l n)
   ]
 ]
@@ -57,35 +67,47 @@ module _ (g : Graph) (urgency : List ℕ) (n : ℕ) (has : ℕ → ℕ → Scena
 
   -- ---- the peak stays
 
-  stays : (peak : Peak) (o : Option ℕ) → IsPeakBy g urgency n has peak o → (o ≡ None → (time : ℕ) (s : Scenario) → IsScenario g s → has n time s → ⊥) →
-      ((p : ℕ) → o ≡ Some p → (time : ℕ) (s : Scenario) → IsScenario g s → has n time s → (time ≤ peak.time) × (time ≡ peak.time → is_before g urgency s peak.scenario ≡ false)) →
+  stays : (peak : Peak) (o : Option ℕ) → IsPeakBy g urgency n has peak o →
+      (o ≡ None → (time : ℕ) (s : Scenario) → IsScenario g s → has n time s → ⊥) →
+      ((p : ℕ) → o ≡ Some p → (time : ℕ) (s : Scenario) → IsScenario g s → has n time s →
+      (time ≤ peak.time) × (time ≡ peak.time → is_before g urgency s peak.scenario ≡ false)) →
       IsPeakBy g urgency (n + 1) has peak o
   stays peak None a none some = record {
     time = a.time;
     scenario = a.scenario;
-    none = λ q time s l law h. elim (of_next q time s l h) [ inl m ↦ a.none q time s m law h | inr k ↦ none refl time s law k ];
+    none = λ q time s l law h.
+        elim (of_next q time s l h) [ inl m ↦ a.none q time s m law h | inr k ↦ none refl time s law k ];
   }
   stays peak (Some p) a none some = record {
-    most = λ q time s l law h. elim (of_next q time s l h) [ inl m ↦ a.most q time s m law h | inr k ↦ (some p refl time s law k).0 ];
+    most = λ q time s l law h.
+        elim (of_next q time s l h) [ inl m ↦ a.most q time s m law h | inr k ↦ (some p refl time s law k).0 ];
     least = record {
       lawful = a.least.lawful;
       holds = (a.least.holds.0, omega (arith, a.least.holds.1), a.least.holds.2);
-      least = λ t law h. elim (of_next h.0 peak.time t h.1 h.2) [ inl m ↦ a.least.least t law (h.0, m, h.2) | inr k ↦ (some p refl peak.time t law k).1 refl ];
+      least = λ t law h. elim (of_next h.0 peak.time t h.1 h.2) [
+        | inl m ↦ a.least.least t law (h.0, m, h.2)
+        | inr k ↦ (some p refl peak.time t law k).1 refl
+      ];
     };
     there = omega (arith, a.there);
     is = a.is;
     first = a.first;
   }
 
-  pub next_none : (peak : Peak) → IsPeak g urgency n has peak → ((time : ℕ) (s : Scenario) → IsScenario g s → has n time s → ⊥) → IsPeak g urgency (n + 1) has peak
+  pub next_none : (peak : Peak) → IsPeak g urgency n has peak →
+      ((time : ℕ) (s : Scenario) → IsScenario g s → has n time s → ⊥) →
+      IsPeak g urgency (n + 1) has peak
   next_none peak a none = stays peak peak.process a (λ e. none) (λ p e time s law h. absurd (none time s law h))
 
-  module _ (paths : List (Path (Option ℕ))) (into : (time : ℕ) (s : Scenario) → IsScenario g s → has n time s → HasValueAt paths (Some time) s)
+  module _ (paths : List (Path (Option ℕ)))
+      (into : (time : ℕ) (s : Scenario) → IsScenario g s → has n time s → HasValueAt paths (Some time) s)
       (there : (time : ℕ) (s : Scenario) → IsGreatestOf g urgency paths time s → has n time s) where
     -- ---- the next process has no time
 
-    none_of_paths : All (λ (p : Path (Option ℕ)). p.1 ≡ None) paths → (time : ℕ) (s : Scenario) → IsScenario g s → has n time s → ⊥
-    none_of_paths none time s law h = let v = into time s law h in none-some time (sym (All-contains (λ (p : Path (Option ℕ)). p.1 ≡ None) paths v.0 none v.1.stands) ∙ v.2)
+    none_of_paths : All (λ (p : Path (Option ℕ)). p.1 ≡ None) paths → (time : ℕ) (s : Scenario) → IsScenario g s →
+        has n time s → ⊥
+    none_of_paths none time s law h = let v = into time s law h in
+        none-some time (sym (All-contains (λ (p : Path (Option ℕ)). p.1 ≡ None) paths v.0 none v.1.stands) ∙ v.2)
 
     -- ---- the next process has the greatest time
 
@@ -103,20 +125,25 @@ module _ (g : Graph) (urgency : List ℕ) (n : ℕ) (has : ℕ → ℕ → Scena
       here = there time scenario greatest
 
       comes : ((q other : ℕ) (s : Scenario) → q < n → IsScenario g s → has q other s → other ≤ time) →
-          ((q : ℕ) (s : Scenario) → q < n → IsScenario g s → has q time s → is_before g urgency s scenario ≡ false) → ((q : ℕ) → q < n → has q time scenario → ⊥) → IsPeakOf g urgency (n + 1) has new n
+          ((q : ℕ) (s : Scenario) → q < n → IsScenario g s → has q time s → is_before g urgency s scenario ≡ false) →
+          ((q : ℕ) → q < n → has q time scenario → ⊥) → IsPeakOf g urgency (n + 1) has new n
       comes most least first = record {
-        most = λ q other s l law h. elim (of_next q other s l h) [ inl m ↦ most q other s m law h | inr k ↦ at_most other s law k ];
+        most = λ q other s l law h.
+            elim (of_next q other s l h) [ inl m ↦ most q other s m law h | inr k ↦ at_most other s law k ];
         least = record {
           lawful = greatest.least.lawful;
           holds = (n, omega arith, here);
-          least = λ t law h. elim (of_next h.0 time t h.1 h.2) [ inl m ↦ least h.0 t m law h.2 | inr k ↦ not_earlier t law k ];
+          least = λ t law h.
+              elim (of_next h.0 time t h.1 h.2) [ inl m ↦ least h.0 t m law h.2 | inr k ↦ not_earlier t law k ];
         };
         there = omega arith;
         is = here;
         first = first;
       }
 
-      goes : (peak : Peak) (o : Option ℕ) → IsPeakBy g urgency n has peak o → goes_before_by g urgency peak time scenario o ≡ true → IsPeakOf g urgency (n + 1) has new n
+      goes : (peak : Peak) (o : Option ℕ) → IsPeakBy g urgency n has peak o →
+          goes_before_by g urgency peak time scenario o ≡ true →
+          IsPeakOf g urgency (n + 1) has new n
       goes peak None a t = comes
           (λ q other s l law h. absurd (a.none q other s l law h))
           (λ q s l law h. absurd (a.none q time s l law h))
@@ -128,58 +155,83 @@ module _ (g : Graph) (urgency : List ℕ) (n : ℕ) (has : ℕ → ℕ → Scena
             (λ q l h. absurd (omega (arith, less, a.most q time scenario l greatest.least.lawful h)))
         | inr same ↦ comes
             (λ q other s l law h. omega (arith, same.0, a.most q other s l law h))
-            (λ q s l law h. not_before_transitive g urgency scenario peak.scenario s (before_one_way g urgency scenario peak.scenario same.1)
+            (λ q s l law h. not_before_transitive g urgency scenario peak.scenario s
+            (before_one_way g urgency scenario peak.scenario same.1)
             (a.least.least s law (q, l, subst (λ i. has q i s) (sym same.0) h)))
-            (λ q l h. both_ways (is_before g urgency scenario peak.scenario) (a.least.least scenario greatest.least.lawful (q, l, subst (λ i. has q i scenario) (sym same.0) h)) same.1)
+            (λ q l h. both_ways (is_before g urgency scenario peak.scenario) (a.least.least scenario
+            greatest.least.lawful (q, l, subst (λ i. has q i scenario) (sym same.0) h)) same.1)
       ]
 
-      keeps : (peak : Peak) (o : Option ℕ) → IsPeakBy g urgency n has peak o → goes_before_by g urgency peak time scenario o ≡ false → IsPeakBy g urgency (n + 1) has peak o
+      keeps : (peak : Peak) (o : Option ℕ) → IsPeakBy g urgency n has peak o →
+          goes_before_by g urgency peak time scenario o ≡ false →
+          IsPeakBy g urgency (n + 1) has peak o
       keeps peak None a f = absurd (both_ways (goes_before_by g urgency peak time scenario None) f refl)
-      keeps peak (Some p) a f = elim (sooner_or_not_first peak.time time (is_before g urgency scenario peak.scenario) f) [
-        | inl less ↦ stays peak (Some p) a (λ e. absurd (none-some p (sym e)))
-            (λ q e other s law h. (omega (arith, less, at_most other s law h), λ i. absurd (omega (arith, less, at_most other s law h, i))))
-        | inr same ↦ stays peak (Some p) a (λ e. absurd (none-some p (sym e)))
-            (λ q e other s law h. (
-              omega (arith, same.0, at_most other s law h),
-              λ i. not_before_transitive g urgency peak.scenario scenario s same.1 (not_earlier s law (subst (λ j. has n j s) (i ∙ same.0) h)),
-            ))
-      ]
+      keeps peak (Some p) a f =
+          elim (sooner_or_not_first peak.time time (is_before g urgency scenario peak.scenario) f) [
+            | inl less ↦ stays peak (Some p) a (λ e. absurd (none-some p (sym e)))
+                (λ q e other s law h. (
+                  omega (arith, less, at_most other s law h),
+                  λ i. absurd (omega (arith, less, at_most other s law h, i)),
+                ))
+            | inr same ↦ stays peak (Some p) a (λ e. absurd (none-some p (sym e)))
+                (λ q e other s law h. (
+                  omega (arith, same.0, at_most other s law h),
+                  λ i. not_before_transitive g urgency peak.scenario scenario s same.1
+                      (not_earlier s law (subst (λ j. has n j s) (i ∙ same.0) h)),
+                ))
+          ]
 
-      pub or_keeps : (peak : Peak) → IsPeak g urgency n has peak → IsPeak g urgency (n + 1) has (or_time g urgency peak time scenario n)
+      pub or_keeps : (peak : Peak) → IsPeak g urgency n has peak →
+          IsPeak g urgency (n + 1) has (or_time g urgency peak time scenario n)
       or_keeps peak a = elim (cases_Bool (goes_before g urgency peak time scenario)) [
-        | inl t ↦ subst (IsPeak g urgency (n + 1) has) (sym (cond-true (goes_before g urgency peak time scenario) new peak t)) (goes peak peak.process a t)
-        | inr f ↦ subst (IsPeak g urgency (n + 1) has) (sym (cond-false (goes_before g urgency peak time scenario) new peak f)) (keeps peak peak.process a f)
+        | inl t ↦ subst (IsPeak g urgency (n + 1) has)
+            (sym (cond-true (goes_before g urgency peak time scenario) new peak t)) (goes peak peak.process a t)
+        | inr f ↦ subst (IsPeak g urgency (n + 1) has)
+            (sym (cond-false (goes_before g urgency peak time scenario) new peak f)) (keeps peak peak.process a f)
       ]
 
-    pub next_peak : (old next : Peak) → IsPeak g urgency n has old → IsNextPeak g urgency paths n old next → IsPeak g urgency (n + 1) has next
+    pub next_peak : (old next : Peak) → IsPeak g urgency n has old → IsNextPeak g urgency paths n old next →
+        IsPeak g urgency (n + 1) has next
     next_peak old next a (inl same) = subst (IsPeak g urgency (n + 1) has) (sym same.same)
         (next_none old a (none_of_paths same.none))
-    next_peak old next a (inr later) = subst (IsPeak g urgency (n + 1) has) (sym later.is) (or_keeps later.time later.scenario later.greatest old a)
+    next_peak old next a (inr later) =
+        subst (IsPeak g urgency (n + 1) has) (sym later.is) (or_keeps later.time later.scenario later.greatest old a)
 
 -- ---- above a bar
 
-module _ (g : Graph) (urgency : List ℕ) (n : ℕ) (has : ℕ → ℕ → Scenario → Type 0) (bar : ℕ) (top : Option ℕ) (is_top : IsTop g (has n) top) where
+module _ (g : Graph) (urgency : List ℕ) (n : ℕ) (has : ℕ → ℕ → Scenario → Type 0) (bar : ℕ) (top : Option ℕ)
+    (is_top : IsTop g (has n) top) where
   -- a process whose greatest time is under the bar has none from it on
-  none_from : (o : Option ℕ) → IsTop g (has n) o → reaches bar o ≡ false → (time : ℕ) (s : Scenario) → IsScenario g s → HasFrom bar has n time s → ⊥
+  none_from : (o : Option ℕ) → IsTop g (has n) o → reaches bar o ≡ false → (time : ℕ) (s : Scenario) → IsScenario g s →
+      HasFrom bar has n time s → ⊥
   none_from None is f time s law h = is time s law h.is
-  none_from (Some t) is f time s law h = both_ways (nat_le bar t) f (le-leb bar t (omega (arith, h.from, is.above time s law h.is)))
+  none_from (Some t) is f time s law h =
+      both_ways (nat_le bar t) f (le-leb bar t (omega (arith, h.from, is.above time s law h.is)))
 
-  pub next_under : reaches bar top ≡ false → (peak : Peak) → IsPeak g urgency n (HasFrom bar has) peak → IsPeak g urgency (n + 1) (HasFrom bar has) peak
+  pub next_under : reaches bar top ≡ false → (peak : Peak) → IsPeak g urgency n (HasFrom bar has) peak →
+      IsPeak g urgency (n + 1) (HasFrom bar has) peak
   next_under f peak a = next_none g urgency n (HasFrom bar has) peak a (none_from top is_top f)
 
-  module _ (reached : reaches bar top ≡ true) (paths : List (Path (Option ℕ))) (into : (time : ℕ) (s : Scenario) → IsScenario g s → has n time s → HasValueAt paths (Some time) s)
+  module _ (reached : reaches bar top ≡ true) (paths : List (Path (Option ℕ)))
+      (into : (time : ℕ) (s : Scenario) → IsScenario g s → has n time s → HasValueAt paths (Some time) s)
       (from : (time : ℕ) (s : Scenario) → IsScenario g s → HasValueAt paths (Some time) s → has n time s) where
     -- the greatest time of one that reaches the bar isn't under it
-    not_under : (o : Option ℕ) → IsTop g (has n) o → reaches bar o ≡ true → (time : ℕ) (s : Scenario) → IsGreatestOf g urgency paths time s → bar ≤ time
+    not_under : (o : Option ℕ) → IsTop g (has n) o → reaches bar o ≡ true → (time : ℕ) (s : Scenario) →
+        IsGreatestOf g urgency paths time s → bar ≤ time
     not_under None is t time s greatest = absurd (false≢true t)
     not_under (Some m) is t time s greatest =
         let v = into m is.scenario is.lawful is.there in
         omega (arith, leb-true bar m t, greatest.most v.0 m v.1.stands v.2)
 
-    pub next_from : (old next : Peak) → IsPeak g urgency n (HasFrom bar has) old → IsNextPeak g urgency paths n old next → IsPeak g urgency (n + 1) (HasFrom bar has) next
+    pub next_from : (old next : Peak) → IsPeak g urgency n (HasFrom bar has) old →
+        IsNextPeak g urgency paths n old next →
+        IsPeak g urgency (n + 1) (HasFrom bar has) next
     next_from old next a is = next_peak g urgency n (HasFrom bar has) paths
         (λ time s law h. into time s law h.is)
-        (λ time s greatest. record { from = not_under top is_top reached time s greatest; is = from time s greatest.least.lawful greatest.least.holds })
+        (λ time s greatest. record {
+          from = not_under top is_top reached time s greatest;
+          is = from time s greatest.least.lawful greatest.least.holds;
+        })
         old next a is
 
 -- ---- of trees
@@ -189,9 +241,11 @@ pub past_end : (o : Option ℕ) (due x : ℕ) → time_past due o ≡ Some x →
 past_end None due x e = absurd (none-some x e)
 past_end (Some end) due x e = (end, refl)
 
-module _ (g : Graph) (urgency : List ℕ) (trees : List (TreeState (Option ℕ))) (n : ℕ) (end : TreeState (Option ℕ)) (same : end ≡ tree_at g trees n) (old next : Peak) where
+module _ (g : Graph) (urgency : List ℕ) (trees : List (TreeState (Option ℕ))) (n : ℕ) (end : TreeState (Option ℕ))
+    (same : end ≡ tree_at g trees n) (old next : Peak) where
   module _ (bar : ℕ) (top : Option ℕ) (reached : reaches bar top ≡ true) where
-    pub next_end : IsTop g (EndsAt g trees n) top → IsPeak g urgency n (HasFrom bar (EndsAt g trees)) old → IsNextPeak g urgency end.paths n old next →
+    pub next_end : IsTop g (EndsAt g trees n) top → IsPeak g urgency n (HasFrom bar (EndsAt g trees)) old →
+        IsNextPeak g urgency end.paths n old next →
         IsPeak g urgency (n + 1) (HasFrom bar (EndsAt g trees)) next
     next_end is_top a is = next_from g urgency n (EndsAt g trees) bar top is_top reached end.paths
         (λ time s law h. subst (λ (t : TreeState (Option ℕ)). HasValueAt t.paths (Some time) s) (sym same) h)
@@ -200,16 +254,22 @@ module _ (g : Graph) (urgency : List ℕ) (trees : List (TreeState (Option ℕ))
 
   module _ (of_end : IsTree g end) (is : IsNextExcess g urgency end n old next) where
     -- what the tree of the excesses has is what the ends are past the due
-    excess_value : (s : Scenario) → IsScenario g s → (x z : Path (Option ℕ)) → IsOnPath end.paths s x → IsOnPath is.tree.paths s z → z.1 ≡ time_past (due g n) x.1
-    excess_value s law x z on_x on_z = is.made.value s x z (few_of g.faults end.faults s of_end.faults (scenario_few g s law)) on_x on_z
+    excess_value : (s : Scenario) → IsScenario g s → (x z : Path (Option ℕ)) → IsOnPath end.paths s x →
+        IsOnPath is.tree.paths s z →
+        z.1 ≡ time_past (due g n) x.1
+    excess_value s law x z on_x on_z =
+        is.made.value s x z (few_of g.faults end.faults s of_end.faults (scenario_few g s law)) on_x on_z
 
-    excess_into : (time : ℕ) (s : Scenario) → IsScenario g s → EndsPast g trees n time s → HasValueAt is.tree.paths (Some time) s
+    excess_into : (time : ℕ) (s : Scenario) → IsScenario g s → EndsPast g trees n time s →
+        HasValueAt is.tree.paths (Some time) s
     excess_into time s law h =
-        let v : HasValueAt end.paths (Some h.0) s = subst (λ (t : TreeState (Option ℕ)). HasValueAt t.paths (Some h.0) s) (sym same) h.1 in
+        let v : HasValueAt end.paths (Some h.0) s =
+        subst (λ (t : TreeState (Option ℕ)). HasValueAt t.paths (Some h.0) s) (sym same) h.1 in
         let z = the_path g.faults is.tree.paths is.of.each s (scenario_few g s law) in
         (z.0, z.1, excess_value s law v.0 z.0 v.1 z.1 ∙ ap (time_past (due g n)) v.2 ∙ h.2)
 
-    excess_from : (time : ℕ) (s : Scenario) → IsScenario g s → HasValueAt is.tree.paths (Some time) s → EndsPast g trees n time s
+    excess_from : (time : ℕ) (s : Scenario) → IsScenario g s → HasValueAt is.tree.paths (Some time) s →
+        EndsPast g trees n time s
     excess_from time s law v =
         let x = the_path g.faults end.paths of_end.each s (scenario_few g s law) in
         let past : time_past (due g n) x.0.1 ≡ Some time = sym (excess_value s law x.0 v.0 x.1 v.1) ∙ v.2 in
@@ -220,5 +280,7 @@ module _ (g : Graph) (urgency : List ℕ) (trees : List (TreeState (Option ℕ))
         )
 
     module _ (bar : ℕ) (top : Option ℕ) (reached : reaches bar top ≡ true) where
-      pub next_past : IsTop g (EndsPast g trees n) top → IsPeak g urgency n (HasFrom bar (EndsPast g trees)) old → IsPeak g urgency (n + 1) (HasFrom bar (EndsPast g trees)) next
-      next_past is_top a = next_from g urgency n (EndsPast g trees) bar top is_top reached is.tree.paths excess_into excess_from old next a is.next
+      pub next_past : IsTop g (EndsPast g trees n) top → IsPeak g urgency n (HasFrom bar (EndsPast g trees)) old →
+          IsPeak g urgency (n + 1) (HasFrom bar (EndsPast g trees)) next
+      next_past is_top a = next_from g urgency n
+          (EndsPast g trees) bar top is_top reached is.tree.paths excess_into excess_from old next a is.next

@@ -1,12 +1,14 @@
 -- The peaks of trees that tell the ends of the runs are the greatest finish and the greatest excess.
-use Rattle.std.proofs.Common.{◌≡◌, ◌∙◌, ℕ, ◌-◌, ◌<◌, ◌≤◌, ◌⊎◌, false, nat_lt, List, map, length, get_or, All, Option, Some, None, unwrap_or, arith, sym, ap, subst, inl, inr, lt-ltb, le-ltb}
+use Rattle.std.proofs.Common.{◌≡◌, ◌∙◌, ℕ, ◌-◌, ◌<◌, ◌≤◌, ◌⊎◌, false, nat_lt, List, map, length, get_or, All, Option}
+use Rattle.std.proofs.Common.{Some, None, unwrap_or, arith, sym, ap, subst, inl, inr, lt-ltb, le-ltb}
 use Rattle.std.proofs.lemmas.Option.{none-some, same_Some}
 use Rattle.std.proofs.lemmas.Bool.{cases_lt, cond-true, cond-false}
 use Rattle.std.proofs.lemmas.List.Elements.{All-get_or}
 use Rattle.cpg_base.specs.Numbers.{numbers_below}
 use Rattle.cpg_base.specs.Graph.{Graph, process_count}
 use Rattle.cpg_base.specs.Duration.{due}
-use Rattle.cpg_base.proofs.Lists.{numbers-Contains, Contains-numbers, Contains-map, Contains-map_parts, greatest_above, greatest_cases}
+use Rattle.cpg_base.proofs.Lists.{numbers-Contains, Contains-numbers, Contains-map, Contains-map_parts, greatest_above}
+use Rattle.cpg_base.proofs.Lists.{greatest_cases}
 use Rattle.cpg_order.specs.Urgency.{IsTopological}
 use Rattle.cpg_base.specs.Scenario.{Scenario, IsScenario, IsLeast, is_before}
 use Rattle.cpg_run.specs.Run.{Times, IsRun}
@@ -28,34 +30,47 @@ use Rattle.cpg_expand.proofs.PeaksGrow.{past_end}
 past_is : (o : Option ℕ) (due x : ℕ) → time_past due o ≡ Some x → (0 < x) × (unwrap_or o 0 - due ≡ x)
 past_is None due x e = absurd (none-some x e)
 past_is (Some end) due x e = elim (cases_lt due end) [
-  | inl l ↦ let h : end - due ≡ x = same_Some _ _ (sym (cond-true (nat_lt due end) (Some (end - due)) None (lt-ltb due end l)) ∙ e) in (omega (arith, l, h), h)
+  | inl l ↦ let h : end - due ≡ x =
+      same_Some _ _ (sym (cond-true (nat_lt due end) (Some (end - due)) None (lt-ltb due end l)) ∙ e) in
+      (omega (arith, l, h), h)
   | inr l ↦ absurd (none-some x (sym (cond-false (nat_lt due end) (Some (end - due)) None (le-ltb due end l)) ∙ e))
 ]
 
 past_from : (o : Option ℕ) (due x : ℕ) → 0 < x → unwrap_or o 0 - due ≡ x → time_past due o ≡ Some x
 past_from None due x pos e = absurd (omega (arith, pos, e))
-past_from (Some end) due x pos e = cond-true (nat_lt due end) (Some (end - due)) None (lt-ltb due end (omega (arith, pos, e))) ∙ ap (λ n. Some n) e
+past_from (Some end) due x pos e =
+    cond-true (nat_lt due end) (Some (end - due)) None (lt-ltb due end (omega (arith, pos, e))) ∙ ap (λ n. Some n) e
 
 -- ---- a number of each run that is the greatest of numbers of its processes
 
 module _ (g : Graph) (order : List ℕ) (top : IsTopological g order) (frozen : List (Option ℕ)) where
   -- the greatest if some process has one, and 0 at least
   record IsMost (value : Times → ℕ → Option ℕ) (most : Times → ℕ) : Type 0 where
-    pub above : (s : Scenario) (t : Times) → IsRun g order frozen s t → (q x : ℕ) → q < process_count g → value t q ≡ Some x → x ≤ most t
-    pub either : (s : Scenario) (t : Times) → IsRun g order frozen s t → (most t ≡ 0) ⊎ ((q : ℕ) × (q < process_count g) × (value t q ≡ Some (most t)))
-    pub reached : (s : Scenario) (t u : Times) → IsRun g order frozen s t → (p : ℕ) → p < process_count g → value u p ≡ Some (most t) → (q : ℕ) × (q < process_count g) × (value t q ≡ Some (most t))
+    pub above : (s : Scenario) (t : Times) → IsRun g order frozen s t → (q x : ℕ) → q < process_count g →
+        value t q ≡ Some x → x ≤ most t
+    pub either : (s : Scenario) (t : Times) → IsRun g order frozen s t →
+        (most t ≡ 0) ⊎ ((q : ℕ) × (q < process_count g) × (value t q ≡ Some (most t)))
+    pub reached : (s : Scenario) (t u : Times) → IsRun g order frozen s t → (p : ℕ) → p < process_count g →
+        value u p ≡ Some (most t) →
+        (q : ℕ) × (q < process_count g) × (value t q ≡ Some (most t))
 
   -- what the processes have in scenarios is what they have in the runs
   record AreValues (value : Times → ℕ → Option ℕ) (has : ℕ → ℕ → Scenario → Type 0) : Type 0 where
-    pub into : (s : Scenario) (t : Times) → IsScenario g s → IsRun g order frozen s t → (q x : ℕ) → q < process_count g → has q x s → value t q ≡ Some x
-    pub from : (s : Scenario) (t : Times) → IsScenario g s → IsRun g order frozen s t → (q x : ℕ) → q < process_count g → value t q ≡ Some x → has q x s
+    pub into : (s : Scenario) (t : Times) → IsScenario g s → IsRun g order frozen s t → (q x : ℕ) →
+        q < process_count g → has q x s →
+        value t q ≡ Some x
+    pub from : (s : Scenario) (t : Times) → IsScenario g s → IsRun g order frozen s t → (q x : ℕ) →
+        q < process_count g → value t q ≡ Some x → has q x s
 
   -- the run of some scenario has the number
   abbrev RunHas : (Times → ℕ) → ℕ → Scenario → Type 0
   RunHas most n s = (t : Times) × IsRun g order frozen s t × (most t ≡ n)
 
-  module _ (value : Times → ℕ → Option ℕ) (most : Times → ℕ) (m : IsMost value most) (has : ℕ → ℕ → Scenario → Type 0) (are : AreValues value has) (urgency : List ℕ) (peak : Peak) where
-    run_below : (o : Option ℕ) → IsPeakBy g urgency (process_count g) has peak o → (s : Scenario) (t : Times) → IsScenario g s → IsRun g order frozen s t → most t ≤ peak.time
+  module _ (value : Times → ℕ → Option ℕ) (most : Times → ℕ) (m : IsMost value most) (has : ℕ → ℕ → Scenario → Type 0)
+      (are : AreValues value has) (urgency : List ℕ) (peak : Peak) where
+    run_below : (o : Option ℕ) → IsPeakBy g urgency (process_count g) has peak o → (s : Scenario) (t : Times) →
+        IsScenario g s → IsRun g order frozen s t →
+        most t ≤ peak.time
     run_below None a s t law run = elim (m.either s t run) [
       | inl e ↦ omega (arith, e)
       | inr r ↦ absurd (a.none r.0 (most t) s r.1 law (are.from s t law run r.0 (most t) r.1 r.2))
@@ -65,7 +80,8 @@ module _ (g : Graph) (order : List ℕ) (top : IsTopological g order) (frozen : 
       | inr r ↦ a.most r.0 (most t) s r.1 law (are.from s t law run r.0 (most t) r.1 r.2)
     ]
 
-    run_least : (o : Option ℕ) → IsPeakBy g urgency (process_count g) has peak o → IsLeast g urgency (RunHas most peak.time) peak.scenario
+    run_least : (o : Option ℕ) → IsPeakBy g urgency (process_count g) has peak o →
+        IsLeast g urgency (RunHas most peak.time) peak.scenario
     run_least None a =
         let law : IsScenario g peak.scenario = subst (IsScenario g) (sym a.scenario) (zero_lawful g) in
         let r = a_run g order frozen peak.scenario top in
@@ -80,10 +96,19 @@ module _ (g : Graph) (order : List ℕ) (top : IsTopological g order) (frozen : 
         let there = are.into peak.scenario r.0 law r.1 p peak.time a.there a.is in
         record {
           lawful = law;
-          holds = (r.0, r.1, omega (arith, run_below (Some p) a peak.scenario r.0 law r.1, m.above peak.scenario r.0 r.1 p peak.time a.there there));
+          holds = (
+            r.0,
+            r.1,
+            omega (
+              arith,
+              run_below (Some p) a peak.scenario r.0 law r.1,
+              m.above peak.scenario r.0 r.1 p peak.time a.there there,
+            ),
+          );
           least = λ u lawful h.
               let q = m.reached u h.0 r.0 h.1 p a.there (there ∙ ap (λ n. Some n) (sym h.2)) in
-              a.least.least u lawful (q.0, q.1, subst (λ n. has q.0 n u) h.2 (are.from u h.0 lawful h.1 q.0 (most h.0) q.1 q.2));
+              a.least.least u lawful
+              (q.0, q.1, subst (λ n. has q.0 n u) h.2 (are.from u h.0 lawful h.1 q.0 (most h.0) q.1 q.2));
         }
 
   -- ---- ends
@@ -103,22 +128,32 @@ module _ (g : Graph) (order : List ℕ) (top : IsTopological g order) (frozen : 
   abbrev past_of : Times → ℕ → Option ℕ
   past_of t q = time_past (due g q) (get_or t.ends q None)
 
-  past_either : (t : Times) → (excess_in_run g t ≡ 0) ⊎ ((q : ℕ) × (q < process_count g) × (past_of t q ≡ Some (excess_in_run g t)))
+  past_either : (t : Times) →
+      (excess_in_run g t ≡ 0) ⊎ ((q : ℕ) × (q < process_count g) × (past_of t q ≡ Some (excess_in_run g t)))
   past_either t = elim (cases_lt 0 (excess_in_run g t)) [
     | inr z ↦ inl (omega (arith, z))
     | inl pos ↦ elim (greatest_cases (map (excess_of g t) (numbers_below (process_count g)))) [
       | inl z ↦ inl z
       | inr c ↦
           let r = Contains-map_parts (excess_of g t) (numbers_below (process_count g)) (excess_in_run g t) c in
-          inr (r.0, numbers-Contains (process_count g) r.0 r.1, past_from (get_or t.ends r.0 None) (due g r.0) (excess_in_run g t) pos r.2)
+          inr (
+            r.0,
+            numbers-Contains (process_count g) r.0 r.1,
+            past_from (get_or t.ends r.0 None) (due g r.0) (excess_in_run g t) pos r.2,
+          )
     ]
   ]
 
   past_most : IsMost past_of (excess_in_run g)
   past_most = record {
     above = λ s t run q x l e.
-        let there = Contains-map (excess_of g t) (numbers_below (process_count g)) q (Contains-numbers (process_count g) q l) in
-        omega (arith, greatest_above (map (excess_of g t) (numbers_below (process_count g))) (excess_of g t q) there, (past_is (get_or t.ends q None) (due g q) x e).1);
+        let there =
+        Contains-map (excess_of g t) (numbers_below (process_count g)) q (Contains-numbers (process_count g) q l) in
+        omega (
+          arith,
+          greatest_above (map (excess_of g t) (numbers_below (process_count g))) (excess_of g t q) there,
+          (past_is (get_or t.ends q None) (due g q) x e).1,
+        );
     either = λ s t run. past_either t;
     reached = λ s t u run p l e. elim (past_either t) [
       | inl z ↦ absurd (omega (arith, z, (past_is (get_or u.ends p None) (due g p) (excess_in_run g t) e).0))
@@ -128,7 +163,8 @@ module _ (g : Graph) (order : List ℕ) (top : IsTopological g order) (frozen : 
 
   -- ---- of trees
 
-  module _ (trees : List (TreeState (Option ℕ))) (all : All (IsTree g) trees) (count : length trees ≡ process_count g) (support : GiveEnds g order frozen trees) where
+  module _ (trees : List (TreeState (Option ℕ))) (all : All (IsTree g) trees) (count : length trees ≡ process_count g)
+      (support : GiveEnds g order frozen trees) where
     tree_of : (q : ℕ) → q < process_count g → IsTree g (tree_at g trees q)
     tree_of q l = All-get_or (IsTree g) trees q (no_tree g.faults) (omega (arith, l, count)) all
 
@@ -149,12 +185,15 @@ module _ (g : Graph) (order : List ℕ) (top : IsTopological g order) (frozen : 
     }
 
     module _ (urgency : List ℕ) (peak : Peak) where
-      ends_by : (o : Option ℕ) → IsPeakBy g urgency (process_count g) (EndsAt g trees) peak o → (t : Times) → IsRun g order frozen peak.scenario t → IsLeastEnding g t peak.time o
+      ends_by : (o : Option ℕ) → IsPeakBy g urgency (process_count g) (EndsAt g trees) peak o → (t : Times) →
+          IsRun g order frozen peak.scenario t →
+          IsLeastEnding g t peak.time o
       ends_by None a t run = elim (cases_lt 0 (process_count g)) [
         | inl pos ↦
             let law : IsScenario g peak.scenario = subst (IsScenario g) (sym a.scenario) (zero_lawful g) in
             let e = finish_is_end g order top frozen peak.scenario t run pos in
-            absurd (a.none e.0 t.finish peak.scenario e.1 law (ends_values.from peak.scenario t law run e.0 t.finish e.1 e.2))
+            absurd (a.none e.0 t.finish peak.scenario e.1 law
+            (ends_values.from peak.scenario t law run e.0 t.finish e.1 e.2))
         | inr z ↦ omega (arith, z)
       ]
       ends_by (Some p) a t run =
@@ -163,28 +202,38 @@ module _ (g : Graph) (order : List ℕ) (top : IsTopological g order) (frozen : 
             λ q l e. a.first q l (ends_values.from peak.scenario t law run q peak.time (omega (arith, l, a.there)) e),
           )
 
-      past_by : (o : Option ℕ) → IsPeakBy g urgency (process_count g) (EndsPast g trees) peak o → (t : Times) → IsRun g order frozen peak.scenario t → IsLeastExceeding g t peak.time o
+      past_by : (o : Option ℕ) → IsPeakBy g urgency (process_count g) (EndsPast g trees) peak o → (t : Times) →
+          IsRun g order frozen peak.scenario t →
+          IsLeastExceeding g t peak.time o
       past_by None a t run = a.time
       past_by (Some p) a t run =
           let law = a.least.lawful in
-          let h = past_is (get_or t.ends p None) (due g p) peak.time (past_values.into peak.scenario t law run p peak.time a.there a.is) in (
+          let h = past_is (get_or t.ends p None) (due g p) peak.time
+          (past_values.into peak.scenario t law run p peak.time a.there a.is) in (
             h.0,
             h.1,
-            λ q l e. a.first q l (past_values.from peak.scenario t law run q peak.time (omega (arith, l, a.there)) (past_from (get_or t.ends q None) (due g q) peak.time h.0 e)),
+            λ q l e. a.first q l (past_values.from peak.scenario t law run q peak.time (omega (arith, l, a.there))
+                (past_from (get_or t.ends q None) (due g q) peak.time h.0 e)),
           )
 
       -- the greatest finish
-      pub peak_is_worst : IsPeak g urgency (process_count g) (EndsAt g trees) peak → IsWorst g urgency order frozen peak.time peak.scenario peak.process
+      pub peak_is_worst : IsPeak g urgency (process_count g) (EndsAt g trees) peak →
+          IsWorst g urgency order frozen peak.time peak.scenario peak.process
       peak_is_worst a = record {
-        greatest = run_below (λ t q. get_or t.ends q None) (λ t. t.finish) ends_most (EndsAt g trees) ends_values urgency peak peak.process a;
-        least = run_least (λ t q. get_or t.ends q None) (λ t. t.finish) ends_most (EndsAt g trees) ends_values urgency peak peak.process a;
+        greatest = run_below (λ t q. get_or t.ends q None) (λ t. t.finish) ends_most
+            (EndsAt g trees) ends_values urgency peak peak.process a;
+        least = run_least (λ t q. get_or t.ends q None) (λ t. t.finish) ends_most
+            (EndsAt g trees) ends_values urgency peak peak.process a;
         by = ends_by peak.process a;
       }
 
       -- the greatest excess
-      pub peak_is_excess : IsPeak g urgency (process_count g) (EndsPast g trees) peak → IsExcess g urgency order frozen peak.time peak.scenario peak.process
+      pub peak_is_excess : IsPeak g urgency (process_count g) (EndsPast g trees) peak →
+          IsExcess g urgency order frozen peak.time peak.scenario peak.process
       peak_is_excess a = record {
-        greatest = run_below past_of (excess_in_run g) past_most (EndsPast g trees) past_values urgency peak peak.process a;
-        least = run_least past_of (excess_in_run g) past_most (EndsPast g trees) past_values urgency peak peak.process a;
+        greatest =
+            run_below past_of (excess_in_run g) past_most (EndsPast g trees) past_values urgency peak peak.process a;
+        least =
+            run_least past_of (excess_in_run g) past_most (EndsPast g trees) past_values urgency peak peak.process a;
         by = past_by peak.process a;
       }

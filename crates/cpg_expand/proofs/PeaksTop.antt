@@ -1,5 +1,6 @@
 -- The peak of times that aren't under the greatest of the tops is the peak of all.
-use Rattle.std.proofs.Common.{ℕ, ◌+◌, ◌-◌, ◌<◌, ◌≤◌, ◌≡◌, ◌⊎◌, nat_lt, List, [], ◌∷◌, ◌++◌, map, length, get_or, Option, Some, None, unwrap_or, All, Contains, arith, sym, ap, ◌∙◌, subst, inl, inr}
+use Rattle.std.proofs.Common.{ℕ, ◌+◌, ◌-◌, ◌<◌, ◌≤◌, ◌≡◌, ◌⊎◌, nat_lt, List, [], ◌∷◌, ◌++◌, map, length, get_or, Option}
+use Rattle.std.proofs.Common.{Some, None, unwrap_or, All, Contains, arith, sym, ap, ◌∙◌, subst, inl, inr}
 use Rattle.std.proofs.Common.{lt-ltb, le-ltb}
 use Rattle.std.specs.Option.{IfNone, IfSome}
 use Rattle.std.proofs.lemmas.Bool.{cases_lt, cond-true, cond-false}
@@ -24,18 +25,22 @@ use Rattle.cpg_expand.specs.declared.measuring.Peak.{Peak}
 
 -- ---- the bar is 0 or some process's
 
-bar_cases : (tops : List (Option ℕ)) → (bar_of tops ≡ 0) ⊎ ((q : ℕ) × (q < length tops) × (get_or tops q None ≡ Some (bar_of tops)))
+bar_cases : (tops : List (Option ℕ)) →
+    (bar_of tops ≡ 0) ⊎ ((q : ℕ) × (q < length tops) × (get_or tops q None ≡ Some (bar_of tops)))
 bar_cases tops = elim (greatest_cases (map (λ o. unwrap_or o 0) tops)) [
   | inl z ↦ inl z
   | inr c ↦ let r = Contains-map_parts (λ (o : Option ℕ). unwrap_or o 0) tops (bar_of tops) c in at r.0 r.1 r.2
 ]
   where
-    at : (o : Option ℕ) → Contains tops o → unwrap_or o 0 ≡ bar_of tops → (bar_of tops ≡ 0) ⊎ ((q : ℕ) × (q < length tops) × (get_or tops q None ≡ Some (bar_of tops)))
+    at : (o : Option ℕ) → Contains tops o → unwrap_or o 0 ≡ bar_of tops →
+        (bar_of tops ≡ 0) ⊎ ((q : ℕ) × (q < length tops) × (get_or tops q None ≡ Some (bar_of tops)))
     at None m e = inl (sym e)
     at (Some t) m e = inr (m.0, m.1, get_or_default tops m.0 None (Some t) m.1 ∙ m.2 ∙ ap Some e)
 
-module _ (g : Graph) (urgency : List ℕ) (n : ℕ) (has : ℕ → ℕ → Scenario → Type 0) (tops : List (Option ℕ)) (count : length tops ≡ n) (are : HasTops g n has tops) (peak : Peak) where
-  none_at_all : (q time : ℕ) (s : Scenario) → q < n → IsScenario g s → has q time s → ((r : ℕ) (other : ℕ) (u : Scenario) → r < n → IsScenario g u → HasFrom (bar_of tops) has r other u → ⊥) → ⊥
+module _ (g : Graph) (urgency : List ℕ) (n : ℕ) (has : ℕ → ℕ → Scenario → Type 0) (tops : List (Option ℕ))
+    (count : length tops ≡ n) (are : HasTops g n has tops) (peak : Peak) where
+  none_at_all : (q time : ℕ) (s : Scenario) → q < n → IsScenario g s → has q time s →
+      ((r : ℕ) (other : ℕ) (u : Scenario) → r < n → IsScenario g u → HasFrom (bar_of tops) has r other u → ⊥) → ⊥
   none_at_all q time s l law h none = elim (bar_cases tops) [
     | inl z ↦ none q time s l law (record { from = omega (arith, z); is = h })
     | inr r ↦
@@ -70,14 +75,18 @@ module _ (g : Graph) (urgency : List ℕ) (n : ℕ) (has : ℕ → ℕ → Scena
 
 -- ---- the tops of trees
 
-pub top_from : (t : TreeState (Option ℕ)) (o : Option ℕ) → IfNone o (All (λ p. p.1 ≡ None) t.paths) → IfSome o (IsGreatestNumber t) → IsTopOf t o
+pub top_from : (t : TreeState (Option ℕ)) (o : Option ℕ) → IfNone o (All (λ p. p.1 ≡ None) t.paths) →
+    IfSome o (IsGreatestNumber t) → IsTopOf t o
 top_from t None none some = none
 top_from t (Some m) none some = some
 
-module _ (g : Graph) (processes : process_count g ≤ 128) (trees : List (TreeState (Option ℕ))) (all : All (IsTree g) trees) (tops : List (Option ℕ)) (are : AreTops trees (length trees) tops)
+module _ (g : Graph) (processes : process_count g ≤ 128) (trees : List (TreeState (Option ℕ)))
+    (all : All (IsTree g) trees) (tops : List (Option ℕ)) (are : AreTops trees (length trees) tops)
     (count : length trees ≡ process_count g) where
-  top_of : (q : ℕ) → IsTree g (tree_at g trees q) → (o : Option ℕ) → IsTopOf (tree_at g trees q) o → IsTop g (EndsAt g trees q) o
-  top_of q tree None none = λ time s law h. none-some time (sym (All-contains (λ (p : Path (Option ℕ)). p.1 ≡ None) (tree_at g trees q).paths h.0 none h.1.stands) ∙ h.2)
+  top_of : (q : ℕ) → IsTree g (tree_at g trees q) → (o : Option ℕ) → IsTopOf (tree_at g trees q) o →
+      IsTop g (EndsAt g trees q) o
+  top_of q tree None none = λ time s law h. none-some time
+      (sym (All-contains (λ (p : Path (Option ℕ)). p.1 ≡ None) (tree_at g trees q).paths h.0 none h.1.stands) ∙ h.2)
   top_of q tree (Some m) most =
       let r = most.reached g processes tree.faults (known_from g (tree_at g trees q).paths tree.known) in
       record {
@@ -90,23 +99,30 @@ module _ (g : Graph) (processes : process_count g ≤ 128) (trees : List (TreeSt
   pub ends_tops : HasTops g (process_count g) (EndsAt g trees) tops
   ends_tops q l =
       let within : q < length trees = omega (arith, l, count) in
-      top_of q (All-get_or (IsTree g) trees q (no_tree g.faults) within all) (get_or tops q None) (are.each q (no_tree g.faults) within)
+      top_of q (All-get_or (IsTree g) trees q (no_tree g.faults) within all) (get_or tops q None)
+      (are.each q (no_tree g.faults) within)
 
-pub tops_more : (trees : List (TreeState (Option ℕ))) (n : ℕ) (tops new : List (Option ℕ)) (tree : TreeState (Option ℕ)) (o : Option ℕ) → AreTops trees n tops → n < length trees →
-    ((d : TreeState (Option ℕ)) → get_or trees n d ≡ tree) → IsTopOf tree o → new ≡ tops ++ o ∷ [] → AreTops trees (n + 1) new
+pub tops_more : (trees : List (TreeState (Option ℕ))) (n : ℕ) (tops new : List (Option ℕ)) (tree : TreeState (Option ℕ))
+    (o : Option ℕ) → AreTops trees n tops →
+    n < length trees →
+    ((d : TreeState (Option ℕ)) → get_or trees n d ≡ tree) → IsTopOf tree o → new ≡ tops ++ o ∷ [] →
+    AreTops trees (n + 1) new
 tops_more trees n tops new tree o are within is top more = subst (AreTops trees (n + 1)) (sym more) (record {
   count = length-append tops (o ∷ []) ∙ ap (λ m. m + 1) are.count;
   each = λ q d l. elim (cases_lt q n) [
-    | inl m ↦ subst (IsTopOf (get_or trees q d)) (sym (get_or_append_left tops (o ∷ []) None q (omega (arith, m, are.count)))) (are.each q d m)
+    | inl m ↦ subst (IsTopOf (get_or trees q d))
+        (sym (get_or_append_left tops (o ∷ []) None q (omega (arith, m, are.count)))) (are.each q d m)
     | inr m ↦
         let e : n ≡ q = omega (arith, l, m) in
         subst (λ i. IsTopOf (get_or trees i d) (get_or (tops ++ o ∷ []) i None)) e
-        (subst (λ (t : TreeState (Option ℕ)). IsTopOf t (get_or (tops ++ o ∷ []) n None)) (sym (is d)) (subst (IsTopOf tree) (sym last) top))
+        (subst (λ (t : TreeState (Option ℕ)). IsTopOf t (get_or (tops ++ o ∷ []) n None)) (sym (is d))
+        (subst (IsTopOf tree) (sym last) top))
   ];
 })
   where
     last : get_or (tops ++ o ∷ []) n None ≡ o
-    last = get_or-append_right tops (o ∷ []) n n None are.count (omega arith) ∙ ap (λ i. get_or (o ∷ []) i None) (let e : n - n ≡ 0 = omega arith in e)
+    last = get_or-append_right tops (o ∷ []) n n None are.count (omega arith)
+        ∙ ap (λ i. get_or (o ∷ []) i None) (let e : n - n ≡ 0 = omega arith in e)
 
 -- ---- how far they are past their dues
 
@@ -117,24 +133,32 @@ past_later due time x e = elim (cases_lt due time) [
 ]
 
 module _ (g : Graph) (trees : List (TreeState (Option ℕ))) where
-  past_top : (q : ℕ) (o : Option ℕ) → IsTop g (EndsAt g trees q) o → IsTop g (EndsPast g trees q) (time_past (due g q) o)
+  past_top : (q : ℕ) (o : Option ℕ) → IsTop g (EndsAt g trees q) o →
+      IsTop g (EndsPast g trees q) (time_past (due g q) o)
   past_top q None is = λ time s law h. is h.0 s law h.1
   past_top q (Some top) is = elim (cases_lt (due g q) top) [
     | inl l ↦
-        let later : time_past (due g q) (Some top) ≡ Some (top - due g q) = cond-true (nat_lt (due g q) top) (Some (top - due g q)) None (lt-ltb (due g q) top l) in
+        let later : time_past (due g q) (Some top) ≡ Some (top - due g q) =
+        cond-true (nat_lt (due g q) top) (Some (top - due g q)) None (lt-ltb (due g q) top l) in
         subst (IsTop g (EndsPast g trees q)) (sym later) (record {
-          above = λ time s law h. let past = past_later (due g q) h.0 time h.2 in omega (arith, past.1, is.above h.0 s law h.1);
+          above = λ time s law h. let past = past_later (due g q) h.0 time h.2 in
+              omega (arith, past.1, is.above h.0 s law h.1);
           scenario = is.scenario;
           lawful = is.lawful;
           there = (top, is.there, later);
         })
-    | inr l ↦ subst (IsTop g (EndsPast g trees q)) (sym (cond-false (nat_lt (due g q) top) (Some (top - due g q)) None (le-ltb (due g q) top l)))
-        (λ time s law h. let past = past_later (due g q) h.0 time h.2 in absurd (omega (arith, past.0, l, is.above h.0 s law h.1)))
+    | inr l ↦ subst (IsTop g (EndsPast g trees q))
+        (sym (cond-false (nat_lt (due g q) top) (Some (top - due g q)) None (le-ltb (due g q) top l)))
+        (λ time s law h. let past = past_later (due g q) h.0 time h.2 in
+        absurd (omega (arith, past.0, l, is.above h.0 s law h.1)))
   ]
 
-  pub past_tops_are : (tops : List (Option ℕ)) → HasTops g (process_count g) (EndsAt g trees) tops → HasTops g (process_count g) (EndsPast g trees) (past_tops g tops)
-  past_tops_are tops are q l = subst (IsTop g (EndsPast g trees q)) (sym (get_or-map-below (λ p. time_past (due g p) (get_or tops p None)) (process_count g) q None l))
+  pub past_tops_are : (tops : List (Option ℕ)) → HasTops g (process_count g) (EndsAt g trees) tops →
+      HasTops g (process_count g) (EndsPast g trees) (past_tops g tops)
+  past_tops_are tops are q l = subst (IsTop g (EndsPast g trees q))
+      (sym (get_or-map-below (λ p. time_past (due g p) (get_or tops p None)) (process_count g) q None l))
       (past_top q (get_or tops q None) (are q l))
 
 pub past_count : (g : Graph) (tops : List (Option ℕ)) → length (past_tops g tops) ≡ process_count g
-past_count g tops = length-map (numbers_below (process_count g)) (λ q. time_past (due g q) (get_or tops q None)) ∙ length-range_with_len 0 (process_count g)
+past_count g tops = length-map (numbers_below (process_count g)) (λ q. time_past (due g q) (get_or tops q None))
+    ∙ length-range_with_len 0 (process_count g)

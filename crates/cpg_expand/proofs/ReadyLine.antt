@@ -1,5 +1,6 @@
 -- The tree of when a node goes on after a process agrees with what the node carries on.
-use Rattle.std.proofs.Common.{ℕ, ◌≡◌, Bool, true, false, if◌then◌else◌, List, ◌++◌, flat_map, get_or, Option, None, Contains, arith, refl, sym, ap, ◌∙◌, subst, inl, inr}
+use Rattle.std.proofs.Common.{ℕ, ◌≡◌, Bool, true, false, if◌then◌else◌, List, ◌++◌, flat_map, get_or, Option, None}
+use Rattle.std.proofs.Common.{Contains, arith, refl, sym, ap, ◌∙◌, subst, inl, inr}
 use Rattle.std.proofs.lemmas.List.Elements.{Contains-append_cases, Contains-append_left, Contains-append_right}
 use Rattle.cpg_base.specs.Graph.{Graph}
 use Rattle.cpg_base.specs.Activity.{active, activation, is_active}
@@ -25,9 +26,11 @@ use Rattle.cpg_expand.proofs.AgreeingTrees.{agrees_weaker}
 use Rattle.cpg_expand.proofs.CarriedOn.{end_parts, ready_carried}
 use Rattle.cpg_expand.proofs.StartTimes.{later_exact}
 
-module _ (g : Graph) (order : List ℕ) (topological : IsTopological g order) (rows : List (List Column)) (s : Scenario) (few : HasAtMostFaults g.faults s) (t : Times) (small : AreSmall t) (p : ℕ)
+module _ (g : Graph) (order : List ℕ) (topological : IsTopological g order) (rows : List (List Column)) (s : Scenario)
+    (few : HasAtMostFaults g.faults s) (t : Times) (small : AreSmall t) (p : ℕ)
     (guard : Guard)
-    (leads : outcome_at guard s.values ≡ activation g s.values p) (on_way : (c : ℕ) → Contains (way guard s.values) c → Contains (deciding g s.values p) c) where
+    (leads : outcome_at guard s.values ≡ activation g s.values p)
+    (on_way : (c : ℕ) → Contains (way guard s.values) c → Contains (deciding g s.values p) c) where
   abbrev wait_says : List Literal
   wait_says = flat_map (passed g rows s) (before_on_node g order p) ++ decided g s p ++ heard g rows s p
 
@@ -35,11 +38,15 @@ module _ (g : Graph) (order : List ℕ) (topological : IsTopological g order) (r
   then_says = flat_map (passed g rows s) (before_on_node g order p) ++ passed g rows s p
 
   -- the line of the time from which a node goes on after a process
-  pub ready_line : (chooser : TreeState Bool) (end : TreeState (Option ℕ)) (wait tree : TreeState ℕ) (waited : ℕ) → IsActiveTree g.faults guard chooser → IsReadyTree g.faults chooser end wait tree →
+  pub ready_line : (chooser : TreeState Bool) (end : TreeState (Option ℕ)) (wait tree : TreeState ℕ) (waited : ℕ) →
+      IsActiveTree g.faults guard chooser →
+      IsReadyTree g.faults chooser end wait tree →
       HasValueFrom s (carried_at_end g order rows s p) (get_or t.ends p None) end → HasValueFrom s wait_says waited wait
       → HasValueFrom s then_says (if active g s.values p then end_in t p else waited) tree
-  ready_line chooser end wait tree waited actives readies ends waits = agrees_weaker s tree (values_known s (way guard s.values) ++ second) then_says (λ z. z ≡ v) (λ z. z ≡ v) within (λ z e. e)
-      (readies s few (active g s.values p) (values_known s (way guard s.values)) second (get_or t.ends p None) waited v chosen by_end by_wait)
+  ready_line chooser end wait tree waited actives readies ends waits = agrees_weaker s tree
+      (values_known s (way guard s.values) ++ second) then_says (λ z. z ≡ v) (λ z. z ≡ v) within (λ z e. e)
+      (readies s few (active g s.values p) (values_known s (way guard s.values)) second
+      (get_or t.ends p None) waited v chosen by_end by_wait)
     where
       second : List Literal
       second = if active g s.values p then carried_at_end g order rows s p else wait_says
@@ -48,18 +55,28 @@ module _ (g : Graph) (order : List ℕ) (topological : IsTopological g order) (r
       v = if active g s.values p then end_in t p else waited
 
       chosen : HasValueFrom s (values_known s (way guard s.values)) (active g s.values p) chooser
-      chosen = subst (λ (a : Activation). HasValueFrom s (values_known s (way guard s.values)) (is_active a) chooser) leads (actives s few)
+      chosen = subst (λ (a : Activation). HasValueFrom s (values_known s (way guard s.values)) (is_active a) chooser)
+          leads (actives s few)
 
-      by_end : active g s.values p ≡ true → HasValueFrom s second (get_or t.ends p None) end × (v ≡ time_later 0 (get_or t.ends p None))
+      by_end : active g s.values p ≡ true →
+          HasValueFrom s second (get_or t.ends p None) end × (v ≡ time_later 0 (get_or t.ends p None))
       by_end e = (
-        subst (λ (b : Bool). HasValueFrom s (if b then carried_at_end g order rows s p else wait_says) (get_or t.ends p None) end) (sym e) ends,
-        ap (λ (b : Bool). if b then end_in t p else waited) e ∙ (let exact = later_exact (get_or t.ends p None) 0 (small.ends p) (omega arith) in omega (arith, exact)),
+        subst (λ (b : Bool). HasValueFrom s (if b then carried_at_end g order rows s p else wait_says)
+            (get_or t.ends p None) end) (sym e) ends,
+        ap (λ (b : Bool). if b then end_in t p else waited) e
+            ∙ (let exact = later_exact (get_or t.ends p None) 0 (small.ends p) (omega arith) in omega (arith, exact)),
       )
 
       by_wait : active g s.values p ≡ false → HasValueFrom s second waited wait × (v ≡ waited)
-      by_wait e = (subst (λ (b : Bool). HasValueFrom s (if b then carried_at_end g order rows s p else wait_says) waited wait) (sym e) waits, ap (λ (b : Bool). if b then end_in t p else waited) e)
+      by_wait e = (
+        subst (λ (b : Bool). HasValueFrom s (if b then carried_at_end g order rows s p else wait_says) waited wait)
+            (sym e) waits,
+        ap (λ (b : Bool). if b then end_in t p else waited) e,
+      )
 
-      of_second : (b : Bool) → active g s.values p ≡ b → (x : Literal) → Contains (if b then carried_at_end g order rows s p else wait_says) x → Contains then_says x
+      of_second : (b : Bool) → active g s.values p ≡ b → (x : Literal) →
+          Contains (if b then carried_at_end g order rows s p else wait_says) x →
+          Contains then_says x
       of_second true e x j = elim (end_parts g order topological rows s p e x j) [
         | inl i ↦ Contains-append_left (flat_map (passed g rows s) (before_on_node g order p)) (passed g rows s p) x i
         | inr i ↦ Contains-append_right (flat_map (passed g rows s) (before_on_node g order p)) (passed g rows s p) x i
@@ -69,6 +86,7 @@ module _ (g : Graph) (order : List ℕ) (topological : IsTopological g order) (r
       within : (x : Literal) → Contains (values_known s (way guard s.values) ++ second) x → Contains then_says x
       within x j = elim (Contains-append_cases (values_known s (way guard s.values)) second x j) [
         | inl i ↦ let r = Contains-map_parts (value_known s) (way guard s.values) x i in
-            ready_carried g order topological rows s p x (inl (subst (Contains (decided g s p)) r.2 (Contains-map (value_known s) (deciding g s.values p) r.0 (on_way r.0 r.1))))
+            ready_carried g order topological rows s p x (inl (subst (Contains (decided g s p)) r.2
+            (Contains-map (value_known s) (deciding g s.values p) r.0 (on_way r.0 r.1))))
         | inr i ↦ of_second (active g s.values p) refl x i
       ]

@@ -1,5 +1,6 @@
 -- When a node goes on after a frozen process, as the code finds it.
-use Rattle.std.proofs.Common.{ℕ, ◌+◌, ◌<◌, ◌≡◌, ◌==◌, ◌&&◌, ◌≤◌, nat_le, nat_lt, not, Bool, true, false, List, Option, arith, eq-eqb, lt-ltb, inl, inr, sym, ap, ◌∙◌, subst}
+use Rattle.std.proofs.Common.{ℕ, ◌+◌, ◌<◌, ◌≡◌, ◌==◌, ◌&&◌, ◌≤◌, nat_le, nat_lt, not, Bool, true, false, List, Option}
+use Rattle.std.proofs.Common.{arith, eq-eqb, lt-ltb, inl, inr, sym, ap, ◌∙◌, subst}
 use Rattle.std.proofs.lemmas.Bool.{and_from, and_parts, cases_lt, eqb-true, le-leb, leb-true, not-true}
 use Rattle.cpg_base.specs.Graph.{Graph, item_count, node_of, home, producer, is_frozen, is_sent}
 use Rattle.cpg_base.specs.Order.{place}
@@ -14,11 +15,15 @@ use Rattle.cpg_expand.specs.Waited.{IsQueuedFor, IsReadyOnce}
 use Rattle.cpg_expand.proofs.GuardTrees.{ready_always}
 
 -- a tree without paths tells anything
-none_has_value : {T : Type 0} (k : ℕ) (s : Scenario) (literals : List Literal) (fact : T → Type 0) → Agrees s literals fact (no_tree k)
-none_has_value k s literals fact = record { value = λ x on. absurd (Contains-nil x on.stands); says = λ x on. absurd (Contains-nil x on.stands) }
+none_has_value : {T : Type 0} (k : ℕ) (s : Scenario) (literals : List Literal) (fact : T → Type 0) →
+    Agrees s literals fact (no_tree k)
+none_has_value k s literals fact =
+    record { value = λ x on. absurd (Contains-nil x on.stands); says = λ x on. absurd (Contains-nil x on.stands) }
 
 -- if the process is active everywhere, nothing is asked of what it waited for
-pub ready_everywhere : (g : Graph) (f : ForestState) (node : ℕ) (guard : Guard) (active : TreeState Bool) (end : TreeState (Option ℕ)) → IsConstant true active.faults active →
+pub ready_everywhere : (g : Graph) (f : ForestState) (node : ℕ) (guard : Guard) (active : TreeState Bool)
+    (end : TreeState (Option ℕ)) →
+    IsConstant true active.faults active →
     IsReadyOnce g f node guard active end (later_tree end)
 ready_everywhere g f node guard active end always = record {
   wait = no_tree g.faults;
@@ -29,8 +34,10 @@ ready_everywhere g f node guard active end always = record {
 -- ---- what waits
 
 -- one more process is no such one
-pub none_waits : (g : Graph) (order : List ℕ) (node at k : ℕ) (b : Bool) → ((q : ℕ) → q < k → node_of g q ≡ node → at < place order q → is_frozen g q ≡ false → ⊥) →
-    b ≡ (node_of g k == node && (nat_lt at (place order k) && not (is_frozen g k))) → b ≡ false → (q : ℕ) → q < k + 1 → node_of g q ≡ node → at < place order q → is_frozen g q ≡ false → ⊥
+pub none_waits : (g : Graph) (order : List ℕ) (node at k : ℕ) (b : Bool) →
+    ((q : ℕ) → q < k → node_of g q ≡ node → at < place order q → is_frozen g q ≡ false → ⊥) →
+    b ≡ (node_of g k == node && (nat_lt at (place order k) && not (is_frozen g k))) → b ≡ false → (q : ℕ) → q < k + 1 →
+    node_of g q ≡ node → at < place order q → is_frozen g q ≡ false → ⊥
 none_waits g order node at k b before is off q below there behind thawed = elim (cases_lt q k) [
   | inl less ↦ before q less there behind thawed
   | inr more ↦ by (let e : q ≡ k = omega (arith, below, more) in e)
@@ -40,13 +47,18 @@ none_waits g order node at k b before is off q below there behind thawed = elim 
     apart e = cc
 
     by : q ≡ k → ⊥
-    by e = apart (sym (and_from (node_of g k == node) (nat_lt at (place order k) && not (is_frozen g k)) (eq-eqb (node_of g k) node (ap (node_of g) (sym e) ∙ there))
-        (and_from (nat_lt at (place order k)) (not (is_frozen g k)) (lt-ltb at (place order k) (subst (λ n. at < place order n) e behind)) (ap not (ap (is_frozen g) (sym e) ∙ thawed)))) ∙ sym is ∙
+    by e = apart (sym (and_from (node_of g k == node) (nat_lt at (place order k) && not (is_frozen g k))
+        (eq-eqb (node_of g k) node (ap (node_of g) (sym e) ∙ there))
+        (and_from (nat_lt at (place order k)) (not (is_frozen g k)) (lt-ltb at (place order k)
+        (subst (λ n. at < place order n) e behind)) (ap not (ap (is_frozen g) (sym e) ∙ thawed)))) ∙ sym is ∙
         off)
 
 -- one more item is none that goes by when slots are free
-pub none_goes_by : (g : Graph) (order : List ℕ) (node at k : ℕ) (b : Bool) → ((y : ℕ) → y < k → is_sent g y ≡ true → home g y ≡ node → at ≤ place order (producer g y) → is_frozen g y ≡ false → ⊥) →
-    b ≡ ((is_sent g k && not (is_frozen g k)) && ((home g k == node) && nat_le at (place order (producer g k)))) → b ≡ false → (y : ℕ) → y < k + 1 → is_sent g y ≡ true → home g y ≡ node →
+pub none_goes_by : (g : Graph) (order : List ℕ) (node at k : ℕ) (b : Bool) →
+    ((y : ℕ) → y < k → is_sent g y ≡ true → home g y ≡ node → at ≤ place order (producer g y) →
+    is_frozen g y ≡ false → ⊥) →
+    b ≡ ((is_sent g k && not (is_frozen g k)) && ((home g k == node) && nat_le at (place order (producer g k)))) →
+    b ≡ false → (y : ℕ) → y < k + 1 → is_sent g y ≡ true → home g y ≡ node →
     at ≤ place order (producer g y) → is_frozen g y ≡ false → ⊥
 none_goes_by g order node at k b before is off y below sent there behind thawed = elim (cases_lt y k) [
   | inl less ↦ before y less sent there behind thawed
@@ -57,16 +69,22 @@ none_goes_by g order node at k b before is off y below sent there behind thawed 
     apart e = cc
 
     by : y ≡ k → ⊥
-    by e = apart (sym (and_from (is_sent g k && not (is_frozen g k)) ((home g k == node) && nat_le at (place order (producer g k)))
-        (and_from (is_sent g k) (not (is_frozen g k)) (ap (is_sent g) (sym e) ∙ sent) (ap not (ap (is_frozen g) (sym e) ∙ thawed)))
-        (and_from (home g k == node) (nat_le at (place order (producer g k))) (eq-eqb (home g k) node (ap (home g) (sym e) ∙ there))
-        (le-leb at (place order (producer g k)) (subst (λ n. at ≤ place order (producer g n)) e behind)))) ∙ sym is ∙ off)
+    by e = apart (sym
+        (and_from (is_sent g k && not (is_frozen g k)) ((home g k == node) && nat_le at (place order (producer g k)))
+        (and_from (is_sent g k) (not (is_frozen g k)) (ap (is_sent g) (sym e) ∙ sent)
+        (ap not (ap (is_frozen g) (sym e) ∙ thawed)))
+        (and_from (home g k == node) (nat_le at (place order (producer g k)))
+        (eq-eqb (home g k) node (ap (home g) (sym e) ∙ there))
+        (le-leb at (place order (producer g k)) (subst (λ n. at ≤ place order (producer g n)) e behind)))) ∙ sym is
+        ∙ off)
 
 -- one that does
 pub one_goes_by : (g : Graph) (order : List ℕ) (node at y : ℕ) (b : Bool) → y < item_count g →
-    b ≡ ((is_sent g y && not (is_frozen g y)) && ((home g y == node) && nat_le at (place order (producer g y)))) → b ≡ true → IsQueuedFor g order at node
+    b ≡ ((is_sent g y && not (is_frozen g y)) && ((home g y == node) && nat_le at (place order (producer g y)))) →
+    b ≡ true → IsQueuedFor g order at node
 one_goes_by g order node at y b within is on =
-    let both = and_parts (is_sent g y && not (is_frozen g y)) ((home g y == node) && nat_le at (place order (producer g y))) (sym is ∙ on) in
+    let both = and_parts (is_sent g y && not (is_frozen g y))
+    ((home g y == node) && nat_le at (place order (producer g y))) (sym is ∙ on) in
     let goes = and_parts (is_sent g y) (not (is_frozen g y)) both.0 in
     let behind = and_parts (home g y == node) (nat_le at (place order (producer g y))) both.1 in
     record {

@@ -19,7 +19,8 @@ use Rattle.cpg_expand.specs.WideRows.{DoTablesFit}
 use Rattle.cpg_expand.specs.declared.built_rows.BuiltRows.{BuiltRows}
 use Rattle.cpg_expand.proofs.WideRowsMade.{tables_fit}
 
-module _ (g : Graph) (urgency : List ℕ) (guards : Guards) (a : IsAdmitted g urgency guards) (order : List ℕ) (topological : IsTopological g order) (r : BuiltRows)
+module _ (g : Graph) (urgency : List ℕ) (guards : Guards) (a : IsAdmitted g urgency guards) (order : List ℕ)
+    (topological : IsTopological g order) (r : BuiltRows)
     (are : AreBuiltRows g urgency order r) where
   admitted : Admitted g urgency order
   admitted = admitted_under g urgency order guards a topological
@@ -28,7 +29,8 @@ module _ (g : Graph) (urgency : List ℕ) (guards : Guards) (a : IsAdmitted g ur
   built_writable = found_rows_are_writable g urgency order r.frozen r.rows.items a.limits admitted are.found are.fit
 
   count : length r.rows.items ≡ item_count g
-  count = sym (length-map r.rows.items (λ (row : Row). row.item)) ∙ ap length are.found.items ∙ length-range_with_len 0 (item_count g)
+  count = sym (length-map r.rows.items (λ (row : Row). row.item)) ∙ ap length are.found.items
+      ∙ length-range_with_len 0 (item_count g)
 
   module _ (t : Tables) (written : AreTablesWith g r.rows.items t) where
     pub built_tables : IsBuiltFor g urgency order (built_of r t)

@@ -1,5 +1,6 @@
 -- The trees of a send and of when the slots are free then agree with what is carried beside them.
-use Rattle.std.proofs.Common.{ℕ, ◌≡◌, ◌&&◌, not, Bool, true, false, if◌then◌else◌, List, [], ◌∷◌, ◌++◌, flat_map, Option, None, Contains, ◌⊎◌, refl, sym, ap, ap₂, subst, inl, inr}
+use Rattle.std.proofs.Common.{ℕ, ◌≡◌, ◌&&◌, not, Bool, true, false, if◌then◌else◌, List, [], ◌∷◌, ◌++◌, flat_map}
+use Rattle.std.proofs.Common.{Option, None, Contains, ◌⊎◌, refl, sym, ap, ap₂, subst, inl, inr}
 use Rattle.std.proofs.lemmas.List.Elements.{Contains-append_cases, Contains-append_left, Contains-append_right}
 use Rattle.cpg_base.specs.Graph.{Graph, process_at, item_at, is_frozen, producer}
 use Rattle.cpg_base.specs.Activity.{active, item_active}
@@ -10,7 +11,8 @@ use Rattle.cpg_base.specs.Order.{before_on_node}
 use Rattle.cpg_base.specs.Scenario.{Scenario}
 use Rattle.cpg_cube.specs.declared.literal.Literal.{Literal}
 use Rattle.cpg_cube.specs.Column.{Column}
-use Rattle.cpg_run.specs.Carried.{number_known, decided, heard, received, passed, carried_at_start, carried_at_end, carried_at_send, sent_by_value, queued}
+use Rattle.cpg_run.specs.Carried.{number_known, decided, heard, received, passed, carried_at_start, carried_at_end}
+use Rattle.cpg_run.specs.Carried.{carried_at_send, sent_by_value, queued}
 use Rattle.cpg_tree.specs.Space.{HasAtMostFaults}
 use Rattle.cpg_tree.specs.Tree.{TreeState}
 use Rattle.cpg_expand.specs.Agreeing.{HasValueFrom}
@@ -18,71 +20,99 @@ use Rattle.cpg_expand.specs.Sending.{IsSentTree, IsFreeTree}
 use Rattle.cpg_expand.specs.Values.{slot_from, time_later}
 use Rattle.cpg_expand.proofs.AgreeingTrees.{agrees_weaker}
 
-module _ (g : Graph) (order : List ℕ) (rows : List (List Column)) (s : Scenario) (few : HasAtMostFaults g.faults s) where
+module _ (g : Graph) (order : List ℕ) (rows : List (List Column)) (s : Scenario)
+    (few : HasAtMostFaults g.faults s) where
   -- what decides a process is carried beside its end
   decided_at_end : (p : ℕ) (l : Literal) → Contains (decided g s p) l → Contains (carried_at_end g order rows s p) l
-  decided_at_end p l j = Contains-append_left (carried_at_start g order rows s p) (number_known s p ∷ []) l (by (process_at g p).frozen)
+  decided_at_end p l j =
+      Contains-append_left (carried_at_start g order rows s p) (number_known s p ∷ []) l (by (process_at g p).frozen)
     where
       all : List Literal
-      all = flat_map (passed g rows s) (before_on_node g order p) ++ decided g s p ++ heard g rows s p ++ received g rows s p
+      all = flat_map (passed g rows s) (before_on_node g order p) ++ decided g s p ++ heard g rows s p
+          ++ received g rows s p
 
       by : (f : Bool) → Contains (if f then decided g s p else all) l
       by true = j
-      by false = Contains-append_left (flat_map (passed g rows s) (before_on_node g order p) ++ decided g s p ++ heard g rows s p) (received g rows s p) l
-          (Contains-append_left (flat_map (passed g rows s) (before_on_node g order p) ++ decided g s p) (heard g rows s p) l
+      by false = Contains-append_left (flat_map (passed g rows s) (before_on_node g order p) ++ decided g s p
+          ++ heard g rows s p) (received g rows s p) l
+          (Contains-append_left (flat_map (passed g rows s) (before_on_node g order p) ++ decided g s p)
+          (heard g rows s p) l
           (Contains-append_right (flat_map (passed g rows s) (before_on_node g order p)) (decided g s p) l j))
 
   module _ (x : ℕ) (acts : item_active g s.values (item_at g x) ≡ true → active g s.values (producer g x) ≡ true)
-      (says : List Literal) (goes : TreeState Bool) (of_goes : HasValueFrom s says (item_active g s.values (item_at g x)) goes)
-      (at_most : (l : Literal) → Contains says l → Contains (decided g s (producer g x)) l ⊎ ((active g s.values (producer g x) ≡ true) × Contains (sent_by_value g s x) l)) where
+      (says : List Literal) (goes : TreeState Bool)
+      (of_goes : HasValueFrom s says (item_active g s.values (item_at g x)) goes)
+      (at_most : (l : Literal) → Contains says l → Contains (decided g s (producer g x)) l ⊎
+      ((active g s.values (producer g x) ≡ true) × Contains (sent_by_value g s x) l)) where
     abbrev before_it : List Literal
     before_it = flat_map (queued g order rows s) (queued_before g order x)
 
     abbrev unfrozen_says : List Literal
     unfrozen_says = before_it ++ carried_at_end g order rows s (producer g x)
 
-    thawed_says : is_frozen g x ≡ false → (l : Literal) → Contains (unfrozen_says ++ sent_by_value g s x) l → Contains (carried_at_send g order rows s x) l
-    thawed_says e l j = subst (λ (f : Bool). Contains ((if f then decided g s (producer g x) else unfrozen_says) ++ sent_by_value g s x) l) (sym e) j
+    thawed_says : is_frozen g x ≡ false → (l : Literal) → Contains (unfrozen_says ++ sent_by_value g s x) l →
+        Contains (carried_at_send g order rows s x) l
+    thawed_says e l j = subst (λ (f : Bool).
+        Contains ((if f then decided g s (producer g x) else unfrozen_says) ++ sent_by_value g s x) l) (sym e) j
 
     -- the line of a send that isn't frozen
-    pub send_line : is_frozen g x ≡ false → (share : ShareState) (end : TreeState (Option ℕ)) (free : TreeState ℕ) (tree : TreeState (Option ℕ)) (ended : Option ℕ) (y : ℕ) →
+    pub send_line : is_frozen g x ≡ false →
+        (share : ShareState) (end : TreeState (Option ℕ)) (free : TreeState ℕ) (tree : TreeState (Option ℕ))
+        (ended : Option ℕ) (y : ℕ) →
         IsSentTree g.faults share goes end free tree →
-        (item_active g s.values (item_at g x) ≡ true → HasValueFrom s (carried_at_end g order rows s (producer g x)) ended end) → HasValueFrom s before_it y free →
-        HasValueFrom s (carried_at_send g order rows s x) (if item_active g s.values (item_at g x) then slot_from share y ended else None) tree
+        (item_active g s.values (item_at g x) ≡ true →
+        HasValueFrom s (carried_at_end g order rows s (producer g x)) ended end) → HasValueFrom s before_it y free →
+        HasValueFrom s (carried_at_send g order rows s x)
+        (if item_active g s.values (item_at g x) then slot_from share y ended else None) tree
     send_line thawed share end free tree ended y sends ends frees =
-        agrees_weaker s tree (says ++ (if item_active g s.values (item_at g x) then carried_at_end g order rows s (producer g x) ++ before_it else [])) (carried_at_send g order rows s x)
-        (λ z. z ≡ (if item_active g s.values (item_at g x) then slot_from share y ended else None)) (λ z. z ≡ (if item_active g s.values (item_at g x) then slot_from share y ended else None)) within
+        agrees_weaker s tree (says ++ (if item_active g s.values (item_at g x)
+        then carried_at_end g order rows s (producer g x) ++ before_it else [])) (carried_at_send g order rows s x)
+        (λ z. z ≡ (if item_active g s.values (item_at g x) then slot_from share y ended else None))
+        (λ z. z ≡ (if item_active g s.values (item_at g x) then slot_from share y ended else None)) within
         (λ z e. e)
-        (sends s few (item_active g s.values (item_at g x)) says (carried_at_end g order rows s (producer g x)) before_it ended y of_goes (λ on. (ends on, frees)))
+        (sends s few (item_active g s.values (item_at g x)) says
+        (carried_at_end g order rows s (producer g x)) before_it ended y of_goes (λ on. (ends on, frees)))
       where
-        of_says : (l : Literal) → Contains (decided g s (producer g x)) l ⊎ ((active g s.values (producer g x) ≡ true) × Contains (sent_by_value g s x) l) →
+        of_says : (l : Literal) →
+            Contains (decided g s (producer g x)) l ⊎
+            ((active g s.values (producer g x) ≡ true) × Contains (sent_by_value g s x) l) →
             Contains (carried_at_send g order rows s x) l
         of_says l (inl j) = thawed_says thawed l (Contains-append_left unfrozen_says (sent_by_value g s x) l
-            (Contains-append_right before_it (carried_at_end g order rows s (producer g x)) l (decided_at_end (producer g x) l j)))
+            (Contains-append_right before_it (carried_at_end g order rows s (producer g x)) l
+            (decided_at_end (producer g x) l j)))
         of_says l (inr j) = thawed_says thawed l (Contains-append_right unfrozen_says (sent_by_value g s x) l j.1)
 
-        of_time : (b : Bool) (l : Literal) → Contains (if b then carried_at_end g order rows s (producer g x) ++ before_it else []) l → Contains (carried_at_send g order rows s x) l
+        of_time : (b : Bool) (l : Literal) →
+            Contains (if b then carried_at_end g order rows s (producer g x) ++ before_it else []) l →
+            Contains (carried_at_send g order rows s x) l
         of_time false l j = absurd (Contains-nil l j)
         of_time true l j = thawed_says thawed l (Contains-append_left unfrozen_says (sent_by_value g s x) l
             (swapped l (Contains-append_cases (carried_at_end g order rows s (producer g x)) before_it l j)))
           where
-            swapped : (l : Literal) → Contains (carried_at_end g order rows s (producer g x)) l ⊎ Contains before_it l → Contains unfrozen_says l
+            swapped : (l : Literal) → Contains (carried_at_end g order rows s (producer g x)) l ⊎ Contains before_it l →
+                Contains unfrozen_says l
             swapped l (inl i) = Contains-append_right before_it (carried_at_end g order rows s (producer g x)) l i
             swapped l (inr i) = Contains-append_left before_it (carried_at_end g order rows s (producer g x)) l i
 
-        within : (l : Literal) → Contains (says ++ (if item_active g s.values (item_at g x) then carried_at_end g order rows s (producer g x) ++ before_it else [])) l →
+        within : (l : Literal) →
+            Contains (says ++ (if item_active g s.values (item_at g x)
+            then carried_at_end g order rows s (producer g x) ++ before_it else [])) l →
             Contains (carried_at_send g order rows s x) l
-        within l j = elim (Contains-append_cases says (if item_active g s.values (item_at g x) then carried_at_end g order rows s (producer g x) ++ before_it else []) l j) [
-          | inl i ↦ of_says l (at_most l i)
-          | inr i ↦ of_time (item_active g s.values (item_at g x)) l i
-        ]
+        within l j = elim (Contains-append_cases says (if item_active g s.values (item_at g x)
+            then carried_at_end g order rows s (producer g x) ++ before_it else []) l j) [
+              | inl i ↦ of_says l (at_most l i)
+              | inr i ↦ of_time (item_active g s.values (item_at g x)) l i
+            ]
 
     -- the line of the time from which the slots are free then
-    pub free_line : (turn : ℕ) (sent : TreeState (Option ℕ)) (free tree : TreeState ℕ) (time : Option ℕ) (y : ℕ) → IsFreeTree g.faults turn goes sent free tree →
+    pub free_line : (turn : ℕ) (sent : TreeState (Option ℕ)) (free tree : TreeState ℕ) (time : Option ℕ) (y : ℕ) →
+        IsFreeTree g.faults turn goes sent free tree →
         HasValueFrom s (carried_at_send g order rows s x) time sent → HasValueFrom s before_it y free →
-        HasValueFrom s (before_it ++ queued g order rows s x) (if item_active g s.values (item_at g x) then time_later turn time else y) tree
+        HasValueFrom s (before_it ++ queued g order rows s x)
+        (if item_active g s.values (item_at g x) then time_later turn time else y) tree
     free_line turn sent free tree time y frees sends waits =
-        agrees_weaker s tree (says ++ second) (before_it ++ queued g order rows s x) (λ z. z ≡ v) (λ z. z ≡ v) within (λ z e. e)
+        agrees_weaker s tree (says ++ second) (before_it ++ queued g order rows s x) (λ z. z ≡ v)
+        (λ z. z ≡ v) within (λ z e. e)
         (frees s few (item_active g s.values (item_at g x)) says second time y v of_goes by_send by_wait)
       where
         second : List Literal
@@ -91,37 +121,53 @@ module _ (g : Graph) (order : List ℕ) (rows : List (List Column)) (s : Scenari
         v : ℕ
         v = if item_active g s.values (item_at g x) then time_later turn time else y
 
-        by_send : item_active g s.values (item_at g x) ≡ true → HasValueFrom s second time sent × (v ≡ time_later turn time)
+        by_send : item_active g s.values (item_at g x) ≡ true →
+            HasValueFrom s second time sent × (v ≡ time_later turn time)
         by_send e = (
-          subst (λ (b : Bool). HasValueFrom s (if b then carried_at_send g order rows s x else before_it) time sent) (sym e) sends,
+          subst (λ (b : Bool). HasValueFrom s (if b then carried_at_send g order rows s x else before_it) time sent)
+              (sym e) sends,
           ap
               (λ (b : Bool). if b then time_later turn time else y) e,
         )
 
         by_wait : item_active g s.values (item_at g x) ≡ false → HasValueFrom s second y free × (v ≡ y)
-        by_wait e = (subst (λ (b : Bool). HasValueFrom s (if b then carried_at_send g order rows s x else before_it) y free) (sym e) waits, ap (λ (b : Bool). if b then time_later turn time else y) e)
+        by_wait e = (
+          subst (λ (b : Bool). HasValueFrom s (if b then carried_at_send g order rows s x else before_it) y free)
+              (sym e) waits,
+          ap (λ (b : Bool). if b then time_later turn time else y) e,
+        )
 
         value_part : List Literal
         value_part = if active g s.values (producer g x) then sent_by_value g s x else []
 
         end_part : List Literal
-        end_part = if item_active g s.values (item_at g x) && not (is_frozen g x) then carried_at_end g order rows s (producer g x) else []
+        end_part = if item_active g s.values (item_at g x) && not (is_frozen g x)
+            then carried_at_end g order rows s (producer g x) else []
 
-        by_decided : (l : Literal) → Contains (decided g s (producer g x)) l → Contains (before_it ++ queued g order rows s x) l
-        by_decided l j = Contains-append_right before_it (queued g order rows s x) l
-            (Contains-append_left (decided g s (producer g x) ++ value_part) end_part l (Contains-append_left (decided g s (producer g x)) value_part l j))
-
-        by_value : active g s.values (producer g x) ≡ true → (l : Literal) → Contains (sent_by_value g s x) l → Contains (before_it ++ queued g order rows s x) l
-        by_value on l j = Contains-append_right before_it (queued g order rows s x) l (Contains-append_left (decided g s (producer g x) ++ value_part) end_part l
-            (Contains-append_right (decided g s (producer g x)) value_part l (subst (λ (b : Bool). Contains (if b then sent_by_value g s x else []) l) (sym on) j)))
-
-        by_end : item_active g s.values (item_at g x) ≡ true → is_frozen g x ≡ false → (l : Literal) → Contains (carried_at_end g order rows s (producer g x)) l →
+        by_decided : (l : Literal) → Contains (decided g s (producer g x)) l →
             Contains (before_it ++ queued g order rows s x) l
-        by_end on thawed l j = Contains-append_right before_it (queued g order rows s x) l (Contains-append_right (decided g s (producer g x) ++ value_part) end_part l
-            (subst (λ (b : Bool). Contains (if b then carried_at_end g order rows s (producer g x) else []) l) (sym (ap₂ (λ b c. b && not c) on thawed)) j))
+        by_decided l j = Contains-append_right before_it (queued g order rows s x) l
+            (Contains-append_left (decided g s (producer g x) ++ value_part) end_part l
+            (Contains-append_left (decided g s (producer g x)) value_part l j))
+
+        by_value : active g s.values (producer g x) ≡ true → (l : Literal) → Contains (sent_by_value g s x) l →
+            Contains (before_it ++ queued g order rows s x) l
+        by_value on l j = Contains-append_right before_it (queued g order rows s x) l
+            (Contains-append_left (decided g s (producer g x) ++ value_part) end_part l
+            (Contains-append_right (decided g s (producer g x)) value_part l
+            (subst (λ (b : Bool). Contains (if b then sent_by_value g s x else []) l) (sym on) j)))
+
+        by_end : item_active g s.values (item_at g x) ≡ true → is_frozen g x ≡ false → (l : Literal) →
+            Contains (carried_at_end g order rows s (producer g x)) l →
+            Contains (before_it ++ queued g order rows s x) l
+        by_end on thawed l j = Contains-append_right before_it (queued g order rows s x) l
+            (Contains-append_right (decided g s (producer g x) ++ value_part) end_part l
+            (subst (λ (b : Bool). Contains (if b then carried_at_end g order rows s (producer g x) else []) l)
+            (sym (ap₂ (λ b c. b && not c) on thawed)) j))
 
         of_sent : item_active g s.values (item_at g x) ≡ true → (f : Bool) → is_frozen g x ≡ f → (l : Literal) →
-            Contains ((if f then decided g s (producer g x) else unfrozen_says) ++ sent_by_value g s x) l → Contains (before_it ++ queued g order rows s x) l
+            Contains ((if f then decided g s (producer g x) else unfrozen_says) ++ sent_by_value g s x) l →
+            Contains (before_it ++ queued g order rows s x) l
         of_sent on true e l j = elim (Contains-append_cases (decided g s (producer g x)) (sent_by_value g s x) l j) [
           | inl i ↦ by_decided l i
           | inr i ↦ by_value (acts on) l i
@@ -134,12 +180,15 @@ module _ (g : Graph) (order : List ℕ) (rows : List (List Column)) (s : Scenari
           ]
         ]
 
-        of_second : (b : Bool) → item_active g s.values (item_at g x) ≡ b → (l : Literal) → Contains (if b then carried_at_send g order rows s x else before_it) l →
+        of_second : (b : Bool) → item_active g s.values (item_at g x) ≡ b → (l : Literal) →
+            Contains (if b then carried_at_send g order rows s x else before_it) l →
             Contains (before_it ++ queued g order rows s x) l
         of_second true e l j = of_sent e (is_frozen g x) refl l j
         of_second false e l j = Contains-append_left before_it (queued g order rows s x) l j
 
-        of_says : (l : Literal) → Contains (decided g s (producer g x)) l ⊎ ((active g s.values (producer g x) ≡ true) × Contains (sent_by_value g s x) l) →
+        of_says : (l : Literal) →
+            Contains (decided g s (producer g x)) l ⊎
+            ((active g s.values (producer g x) ≡ true) × Contains (sent_by_value g s x) l) →
             Contains (before_it ++ queued g order rows s x) l
         of_says l (inl j) = by_decided l j
         of_says l (inr j) = by_value j.0 l j.1

@@ -1,5 +1,6 @@
 -- The time of what a process sends, if it isn't frozen, is the run's.
-use Rattle.std.proofs.Common.{ℕ, ◌^◌, ◌<◌, ◌≡◌, max, Bool, true, false, if◌then◌else◌, List, length, get_or, Option, Some, None, unwrap_or, arith, lt-ltb, refl, sym, ap, ◌∙◌}
+use Rattle.std.proofs.Common.{ℕ, ◌^◌, ◌<◌, ◌≡◌, max, Bool, true, false, if◌then◌else◌, List, length, get_or, Option}
+use Rattle.std.proofs.Common.{Some, None, unwrap_or, arith, lt-ltb, refl, sym, ap, ◌∙◌}
 use Rattle.std.proofs.lemmas.Bool.{cond-true, cond-false}
 use Rattle.cpg_base.specs.Graph.{Graph, process_count, item_count, item_at, node_of}
 use Rattle.cpg_base.specs.Activity.{active, item_active}
@@ -18,16 +19,21 @@ use Rattle.cpg_run.proofs.Sends.{send_is, here_sent}
 use Rattle.cpg_expand.specs.Values.{slot_from}
 
 -- the slot after an end
-slot_after : (share : ShareState) (free end : ℕ) (o : Option ℕ) → o ≡ Some end → end < 2 ^ 59 → slot_from share free o ≡ Some (max (next_of share end) free)
-slot_after share free end o is early = ap (slot_from share free) is ∙ cond-true _ (Some (max (next_of share end) free)) None (lt-ltb end (2 ^ 59) early)
+slot_after : (share : ShareState) (free end : ℕ) (o : Option ℕ) → o ≡ Some end → end < 2 ^ 59 →
+    slot_from share free o ≡ Some (max (next_of share end) free)
+slot_after share free end o is early =
+    ap (slot_from share free) is ∙ cond-true _ (Some (max (next_of share end) free)) None (lt-ltb end (2 ^ 59) early)
 
-module _ (g : Graph) (order : List ℕ) (topological : IsTopological g order) (s : Scenario) (p : ℕ) (l : p < process_count g) (frozen : List (Option ℕ)) (t : Times) (run : IsRun g order frozen s t)
-    (k : ℕ) (inside : k < length (queue_of g p)) (free : ℕ) (is_free : IsMost (IsSentBy g order s p k) (free_after g t) free) (thawed : get_or frozen (get_or (queue_of g p) k 0) None ≡ None) where
+module _ (g : Graph) (order : List ℕ) (topological : IsTopological g order) (s : Scenario) (p : ℕ)
+    (l : p < process_count g) (frozen : List (Option ℕ)) (t : Times) (run : IsRun g order frozen s t)
+    (k : ℕ) (inside : k < length (queue_of g p)) (free : ℕ) (is_free : IsMost (IsSentBy g order s p k)
+    (free_after g t) free) (thawed : get_or frozen (get_or (queue_of g p) k 0) None ≡ None) where
   abbrev here : ℕ
   here = get_or (queue_of g p) k 0
 
   -- a slot after the producer's end, and a later one than what the node has sent before
-  slot_is : item_active g s.values (item_at g here) ≡ true → max (next_slot g (node_of g p) (end_in t p)) free ≡ time_in t here
+  slot_is : item_active g s.values (item_at g here) ≡ true →
+      max (next_slot g (node_of g p) (end_in t p)) free ≡ time_in t here
   slot_is acts =
       let is = send_is g order topological s p l k inside frozen t run free is_free acts in
       let none : frozen_in frozen here ≡ 0 = ap (λ o. unwrap_or o 0) thawed in
@@ -35,7 +41,8 @@ module _ (g : Graph) (order : List ℕ) (topological : IsTopological g order) (s
 
   -- the time that the trees tell is the run's
   pub send_value : AreSmall t → (item_active g s.values (item_at g here) ≡ true → active g s.values p ≡ true) →
-      (if item_active g s.values (item_at g here) then slot_from (share_of g (node_of g p)) free (get_or t.ends p None) else None) ≡ get_or t.times here None
+      (if item_active g s.values (item_at g here) then slot_from (share_of g (node_of g p)) free (get_or t.ends p None)
+      else None) ≡ get_or t.times here None
   send_value small acts_by = go (item_active g s.values (item_at g here)) refl
     where
       within : here < item_count g
@@ -46,7 +53,10 @@ module _ (g : Graph) (order : List ℕ) (topological : IsTopological g order) (s
           let is = has_end g order frozen s t run p l acts in
           is ∙ ap (λ n. Some n) (sym (ap (λ o. unwrap_or o 0) is))
 
-      go : (b : Bool) → item_active g s.values (item_at g here) ≡ b → (if b then slot_from (share_of g (node_of g p)) free (get_or t.ends p None) else None) ≡ get_or t.times here None
-      go true on = slot_after (share_of g (node_of g p)) free (end_in t p) (get_or t.ends p None) (has_its_end (acts_by on)) (small.ends p)
+      go : (b : Bool) → item_active g s.values (item_at g here) ≡ b →
+          (if b then slot_from (share_of g (node_of g p)) free (get_or t.ends p None) else None)
+          ≡ get_or t.times here None
+      go true on = slot_after (share_of g (node_of g p)) free (end_in t p) (get_or t.ends p None)
+          (has_its_end (acts_by on)) (small.ends p)
           ∙ ap (λ n. Some n) (slot_is on) ∙ sym (has_time g order frozen s t run here within on)
       go false off = sym (time_is g order frozen s t run here within ∙ cond-false _ _ _ off)

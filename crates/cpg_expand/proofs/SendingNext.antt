@@ -1,9 +1,11 @@
 -- One item after another is sent, until the process has sent all that it sends.
-use Rattle.std.proofs.Common.{ℕ, ◌+◌, suc, ◌<◌, ◌≡◌, ◌≢◌, ◌&&◌, ◌==◌, nat_lt, Bool, true, false, List, [], ◌∷◌, ◌++◌, length, filter, take, get_or, Option, Some, None, unwrap_or, Contains, ◌⊎◌, arith}
+use Rattle.std.proofs.Common.{ℕ, ◌+◌, suc, ◌<◌, ◌≡◌, ◌≢◌, ◌&&◌, ◌==◌, nat_lt, Bool, true, false, List, [], ◌∷◌, ◌++◌}
+use Rattle.std.proofs.Common.{length, filter, take, get_or, Option, Some, None, unwrap_or, Contains, ◌⊎◌, arith}
 use Rattle.std.proofs.Common.{⊎_elim, lt-ltb, ltb-true, refl, sym, ap, ◌∙◌, subst, inl, inr}
 use Rattle.std.proofs.Math.Seq.{take-suc}
 use Rattle.std.proofs.lemmas.List.Elements.{Contains-append_cases}
-use Rattle.cpg_base.specs.Graph.{Graph, process_count, item_count, item_at, node_of, home, producer, is_sent, is_sent_item}
+use Rattle.cpg_base.specs.Graph.{Graph, process_count, item_count, item_at, node_of, home, producer, is_sent}
+use Rattle.cpg_base.specs.Graph.{is_sent_item}
 use Rattle.std.proofs.lemmas.Bool.{and_from, and_parts, or_cases, or_left, or_right}
 use Rattle.cpg_base.specs.Bus.{round}
 use Rattle.cpg_base.specs.Numbers.{numbers_below}
@@ -16,7 +18,8 @@ use Rattle.cpg_base.specs.declared.activation.Activation.{Activation}
 use Rattle.cpg_base.specs.declared.item.Item.{Item}
 use Rattle.cpg_base.specs.declared.item.Item.TheVariants.{Start, Message, Broadcast}
 use Rattle.cpg_base.specs.Limits.{IsWithinLimits}
-use Rattle.cpg_base.proofs.Lists.{greatest_above, numbers-Contains, Contains-cases, Contains-rest, Contains-nil, Contains-filter, Contains-filter_parts, Contains-flat_map_parts, Contains-numbers}
+use Rattle.cpg_base.proofs.Lists.{greatest_above, numbers-Contains, Contains-cases, Contains-rest, Contains-nil}
+use Rattle.cpg_base.proofs.Lists.{Contains-filter, Contains-filter_parts, Contains-flat_map_parts, Contains-numbers}
 use Rattle.cpg_base.proofs.Lists.{Contains-map, Contains-map_parts}
 use Rattle.cpg_bus.specs.Plan.{queue_of}
 use Rattle.cpg_bus.proofs.Queued.{in_queue}
@@ -43,7 +46,8 @@ use Rattle.cpg_run.proofs.Small.{run_small}
 use Rattle.cpg_tree.specs.Tree.{TreeState, IsConstant}
 use Rattle.cpg_expand.specs.Agreeing.{IsTree, HasValueFrom}
 use Rattle.cpg_expand.specs.Forest.{ForestState, HasTrees, times_of, ends_of}
-use Rattle.cpg_expand.specs.Grown.{RowsHold, IsReadyLine, IsFreeLine, SendLines, LeavesUnsent, IsDone, AreSettledOf, IsSending}
+use Rattle.cpg_expand.specs.Grown.{RowsHold, IsReadyLine, IsFreeLine, SendLines, LeavesUnsent, IsDone, AreSettledOf}
+use Rattle.cpg_expand.specs.Grown.{IsSending}
 use Rattle.cpg_expand.specs.Guarded.{IsActiveTree, value_known, values_known}
 use Rattle.cpg_expand.specs.Sent.{IsFrozenSend, IsItemAdded, IsSentFor, AreItemsAdded, IsFreeOnce, sent_before}
 use Rattle.cpg_expand.specs.Waited.{IsQueuedFor, stands_before}
@@ -62,30 +66,40 @@ use Rattle.cpg_expand.proofs.SentOne.{item_valued, free_once}
 use Rattle.cpg_expand.proofs.GuardTrees.{ends_tree, times_tree}
 
 -- the tree of a guard tells where its process is active, and no more than what decides it
-pub chosen_valued : (g : Graph) (urgency : List ℕ) → IsUrgencyOrder g urgency → IsTopological g urgency → (p : ℕ) (guard : Guard) → IsGuardOf g urgency p guard → (chooser : TreeState Bool) →
+pub chosen_valued : (g : Graph) (urgency : List ℕ) → IsUrgencyOrder g urgency → IsTopological g urgency →
+    (p : ℕ) (guard : Guard) → IsGuardOf g urgency p guard →
+    (chooser : TreeState Bool) →
     IsActiveTree g.faults guard chooser →
     (s : Scenario) → IsScenario g s → HasValueFrom s (decided g s p) (active g s.values p) chooser
 chosen_valued g urgency is_urgency urgent p guard is_guard chooser actives s law =
-    agrees_weaker s chooser (values_known s (way guard s.values)) (decided g s p) (λ z. z ≡ is_active (outcome_at guard s.values)) (λ z. z ≡ active g s.values p)
-    (λ x j. let m = Contains-map_parts (value_known s) (way guard s.values) x j in subst (Contains (decided g s p)) m.2 (Contains-map (value_known s) (deciding g s.values p) m.0 (decides_it m.0 m.1)))
-    (λ z e. e ∙ ap (λ (a : Activation). is_active a) (is_guard.is s.values law.values)) (actives s (scenario_few g s law))
+    agrees_weaker s chooser (values_known s (way guard s.values)) (decided g s p)
+    (λ z. z ≡ is_active (outcome_at guard s.values)) (λ z. z ≡ active g s.values p)
+    (λ x j. let m = Contains-map_parts (value_known s) (way guard s.values) x j in
+    subst (Contains (decided g s p)) m.2
+    (Contains-map (value_known s) (deciding g s.values p) m.0 (decides_it m.0 m.1)))
+    (λ z e. e ∙ ap (λ (a : Activation). is_active a) (is_guard.is s.values law.values))
+    (actives s (scenario_few g s law))
   where
     decides_it : (c : ℕ) → Contains (way guard s.values) c → Contains (deciding g s.values p) c
     decides_it c j =
         let r = Contains-filter_parts (decides g s.values p) (conditions_along g urgency) c
-        (subst (λ cs. Contains cs c) (ways_are_deciding g urgency p guard s.values is_urgency urgent is_guard law.values) j) in
+        (subst (λ cs. Contains cs c)
+        (ways_are_deciding g urgency p guard s.values is_urgency urgent is_guard law.values) j) in
         Contains-filter (decides g s.values p) _ c r.1 (Contains-numbers _ c (from_along g urgency c r.0).0)
 
-carried_sent : (g : Graph) (order : List ℕ) (rows : List (List Column)) (s : Scenario) (x : ℕ) (i : Item) → is_sent_item g i ≡ true →
+carried_sent : (g : Graph) (order : List ℕ) (rows : List (List Column)) (s : Scenario) (x : ℕ) (i : Item) →
+    is_sent_item g i ≡ true →
     carried_by_item g order rows s x i ≡ carried_at_send g order rows s x
 carried_sent g order rows s x (Start p) is = cc
 carried_sent g order rows s x (Message e) is = refl
 carried_sent g order rows s x (Broadcast c) is = refl
 
-module _ (g : Graph) (limits : IsWithinLimits g) (order : List ℕ) (topological : IsTopological g order) (p : ℕ) (l : p < process_count g) (on_node : node_of g p < length g.nodes)
+module _ (g : Graph) (limits : IsWithinLimits g) (order : List ℕ) (topological : IsTopological g order) (p : ℕ)
+    (l : p < process_count g) (on_node : node_of g p < length g.nodes)
     (chooser : TreeState Bool)
     (chosen : (s : Scenario) → IsScenario g s → HasValueFrom s (decided g s p) (active g s.values p) chooser) where
-  module _ (k : ℕ) (inside : k < length (queue_of g p)) (old new : ForestState) (before after : List (Option ℕ)) (sending : IsSending g order p k before old)
+  module _ (k : ℕ) (inside : k < length (queue_of g p)) (old new : ForestState) (before after : List (Option ℕ))
+      (sending : IsSending g order p k before old)
       (added : IsItemAdded g order chooser (get_or (queue_of g p) k 0) old new before after) where
     abbrev here : ℕ
     here = get_or (queue_of g p) k 0
@@ -103,7 +117,8 @@ module _ (g : Graph) (limits : IsWithinLimits g) (order : List ℕ) (topological
     goes_over = (in_queue g p here in_here).sent
 
     trees : HasTrees g new
-    trees = has_put g old new here (home g here) added.sent added.freed sending.trees added.sent_tree added.freed_tree added.is
+    trees = has_put g old new here
+        (home g here) added.sent added.freed sending.trees added.sent_tree added.freed_tree added.is
 
     later : (y : ℕ) → y < item_count g → IsDone g order p k y → moment g order y < moment g order here
     later = done_sooner g order topological p l k inside
@@ -124,7 +139,9 @@ module _ (g : Graph) (limits : IsWithinLimits g) (order : List ℕ) (topological
 
     last_of : (y : ℕ) → Contains (take (k + 1) (queue_of g p)) y → Contains (take k (queue_of g p)) y ⊎ (y ≡ here)
     last_of y c =
-        let is : take (k + 1) (queue_of g p) ≡ take k (queue_of g p) ++ here ∷ [] = ap (λ n. take n (queue_of g p)) (let e : k + 1 ≡ suc k = omega arith in e) ∙ take-suc (queue_of g p) k 0 inside in
+        let is : take (k + 1) (queue_of g p) ≡ take k (queue_of g p) ++ here ∷ [] =
+        ap (λ n. take n (queue_of g p)) (let e : k + 1 ≡ suc k = omega arith in e)
+        ∙ take-suc (queue_of g p) k 0 inside in
         elim (Contains-append_cases (take k (queue_of g p)) (here ∷ []) y (subst (λ ys. Contains ys y) is c)) [
           | inl i ↦ inl i
           | inr i ↦ elim (Contains-cases here [] y i) [ inl e ↦ inr (sym e) | inr j ↦ absurd (Contains-nil y j) ]
@@ -146,7 +163,8 @@ module _ (g : Graph) (limits : IsWithinLimits g) (order : List ℕ) (topological
 
     -- what stands before it is done
     done_before : (y : ℕ) → Contains (queued_before g order here) y → IsDone g order p k y
-    done_before y c = elim (Contains-append_cases (sent_before g order (place order p) (node_of g p)) (take k (queue_of g p)) y
+    done_before y c =
+        elim (Contains-append_cases (sent_before g order (place order p) (node_of g p)) (take k (queue_of g p)) y
         (queued_so_far g order topological (record { faults = []; values = [] }) p l k inside y c)) [
           | inl i ↦
               let r = Contains-flat_map_parts (queue_of g) (before_on_node g order p) y i in
@@ -156,40 +174,50 @@ module _ (g : Graph) (limits : IsWithinLimits g) (order : List ℕ) (topological
         ]
 
     within_before : (y : ℕ) → Contains (queued_before g order here) y → y < item_count g
-    within_before y c = numbers-Contains (item_count g) y (Contains-filter_parts (λ y. is_queued_before g order y here) (numbers_below (item_count g)) y c).0
+    within_before y c = numbers-Contains (item_count g) y
+        (Contains-filter_parts (λ y. is_queued_before g order y here) (numbers_below (item_count g)) y c).0
 
     by_places : (y : ℕ) → Contains (queued_before g order here) y → stands_before g order y here ≡ true
     by_places y c =
-        let b = and_parts (is_sent g y && (home g y == home g here)) _ (Contains-filter_parts (λ y. is_queued_before g order y here) (numbers_below (item_count g)) y c).1 in
+        let b = and_parts (is_sent g y && (home g y == home g here)) _
+        (Contains-filter_parts (λ y. is_queued_before g order y here) (numbers_below (item_count g)) y c).1 in
         and_from (is_sent g y && (home g y == home g here)) _ b.0 (⊎_elim
-        (λ (e : comes_before order (producer g y) (producer g here) ≡ true). or_left _ _ (lt-ltb _ _ (places_from_comes_before order (producer g y) (producer g here) e)))
+        (λ (e : comes_before order (producer g y) (producer g here) ≡ true).
+        or_left _ _ (lt-ltb _ _ (places_from_comes_before order (producer g y) (producer g here) e)))
         (λ e. or_right _ _ e)
         (or_cases _ _ b.1))
 
-    from_places : (y : ℕ) → y < item_count g → stands_before g order y here ≡ true → Contains (queued_before g order here) y
+    from_places : (y : ℕ) → y < item_count g → stands_before g order y here ≡ true →
+        Contains (queued_before g order here) y
     from_places y h is =
         let b = and_parts (is_sent g y && (home g y == home g here)) _ is in
         queued_from g order topological here y h (and_from (is_sent g y && (home g y == home g here)) _ b.0 (⊎_elim
         (λ (e : nat_lt (place order (producer g y)) (place order (producer g here)) ≡ true). or_left _ _
-        (comes_before_from_places order (producer g y) (producer g here) (Contains-order (process_count g) order topological.all (producer g y) (producer_in_range g order topological y h))
+        (comes_before_from_places order (producer g y) (producer g here) (Contains-order (process_count g) order
+        topological.all (producer g y) (producer_in_range g order topological y h))
         (ltb-true _ _ e)))
         (λ e. or_right _ _ e)
         (or_cases _ _ b.1)))
 
     -- what the trees tell of it
-    valued_send : (s : Scenario) → IsScenario g s → (t : Times) → IsRun g order before s t → IsSendByTrees g order old added.goes (ends_of g old (producer g here)) here s t
+    valued_send : (s : Scenario) → IsScenario g s → (t : Times) → IsRun g order before s t →
+        IsSendByTrees g order old added.goes (ends_of g old (producer g here)) here s t
     valued_send s law t run =
         let rows : List (List Column) = own_rows old in
         let few = scenario_few g s law in
         let lines = sending.lines rows (own_rows_hold g order (place order p) old sending.trees) s law t run in
         let small = run_small g order before s t limits topological law early_before run in
-        let goes = added.goes_where s few (decided g s (producer g here)) (subst (λ q. HasValueFrom s (decided g s q) (active g s.values q) chooser) (sym by_p) (chosen s law)) in
-        let ends = subst (λ q. HasValueFrom s (carried_at_end g order rows s q) (get_or t.ends q None) (ends_of g old q)) (sym by_p) (lines.ends p l p_ends) in
+        let goes = added.goes_where s few (decided g s (producer g here))
+        (subst (λ q. HasValueFrom s (decided g s q) (active g s.values q) chooser) (sym by_p) (chosen s law)) in
+        let ends =
+        subst (λ q. HasValueFrom s (carried_at_end g order rows s q) (get_or t.ends q None) (ends_of g old q))
+        (sym by_p) (lines.ends p l p_ends) in
         record {
           acts = λ c on. goes.value c on;
           ends = λ e on. ends.value e on;
           ended = λ on. subst (λ q. get_or t.ends q None ≡ Some (end_in t q)) (sym by_p)
-              (let is = has_end g order before s t run p l (acts s on) in is ∙ ap (λ n. Some n) (sym (ap (λ o. unwrap_or o 0) is)));
+              (let is = has_end g order before s t run p l (acts s on) in
+              is ∙ ap (λ n. Some n) (sym (ap (λ o. unwrap_or o 0) is)));
           early = small.ends (producer g here);
           value = unfrozen_sent g order before s t run here goes_over;
           sent = λ y c a.
@@ -203,9 +231,11 @@ module _ (g : Graph) (limits : IsWithinLimits g) (order : List ℕ) (topological
               );
           came = λ y time h is v.
               let c = from_places y h is in
-              let r = time_parts g order before s t run y time (sym ((lines.times y h (done_before y c)).value v.0 v.1) ∙ v.2) in
+              let r = time_parts g order before s t run y time
+              (sym ((lines.times y h (done_before y c)).value v.0 v.1) ∙ v.2) in
               let bound = greatest_above (send_bounds g order s t here) (time_in t y + round g)
-              (Contains-rest _ _ _ (Contains-map (λ z. time_in t z + round g) (filter (λ z. item_active g s.values (item_at g z)) (queued_before g order here)) y
+              (Contains-rest _ _ _ (Contains-map (λ z. time_in t z + round g)
+              (filter (λ z. item_active g s.values (item_at g z)) (queued_before g order here)) y
               (Contains-filter (λ z. item_active g s.values (item_at g z)) (queued_before g order here) y r.1 c))) in
               omega (arith, r.2, bound);
         }
@@ -215,20 +245,25 @@ module _ (g : Graph) (limits : IsWithinLimits g) (order : List ℕ) (topological
 
     found : IsFrozenSend g order added.goes here old before after added.sent → IsFound g order before here after
     found f = frozen_found g order topological before here (omega (arith, within, sending.settled.count)) unset f.latest
-        (send_above g order before topological old added.goes added.goes_tree (ends_of g old (producer g here)) of_ends here valued_send f.latest f.top)
-        (send_reached g order before topological old added.goes added.goes_tree (ends_of g old (producer g here)) of_ends here valued_send f.latest f.top) after f.frozen.set
+        (send_above g order before topological old added.goes added.goes_tree
+        (ends_of g old (producer g here)) of_ends here valued_send f.latest f.top)
+        (send_reached g order before topological old added.goes added.goes_tree
+        (ends_of g old (producer g here)) of_ends here valued_send f.latest f.top) after f.frozen.set
 
     -- ---- the frozen times
 
     settled_then : AreSettledOf g order (IsDone g order p (k + 1)) after
     settled_then = by added.sends
       where
-        by : IsSentFor g order added.goes here old before after added.sent → AreSettledOf g order (IsDone g order p (k + 1)) after
+        by : IsSentFor g order added.goes here old before after added.sent →
+            AreSettledOf g order (IsDone g order p (k + 1)) after
         by (inl th) = subst (AreSettledOf g order (IsDone g order p (k + 1))) (sym th.1)
-            (settled_idle g order topological limits (IsDone g order p k) (IsDone g order p (k + 1)) before sending.settled here within later grows one_more only th.0)
+            (settled_idle g order topological limits (IsDone g order p k)
+            (IsDone g order p (k + 1)) before sending.settled here within later grows one_more only th.0)
         by (inr f) =
             let r = found f.1 in
-            settled_more g order topological limits (IsDone g order p k) (IsDone g order p (k + 1)) before sending.settled here within later grows one_more only f.0 after r.is r.same r.long
+            settled_more g order topological limits (IsDone g order p k) (IsDone g order p (k + 1)) before
+            sending.settled here within later grows one_more only f.0 after r.is r.same r.long
 
     same_others : (x : ℕ) → x ≢ here → get_or before x None ≡ get_or after x None
     same_others x other = by added.sends
@@ -242,75 +277,104 @@ module _ (g : Graph) (limits : IsWithinLimits g) (order : List ℕ) (topological
 
     -- ---- the lines
 
-    hold_old : (rows : List (List Column)) → RowsHold g order (place order p) new rows → RowsHold g order (place order p) old rows
+    hold_old : (rows : List (List Column)) → RowsHold g order (place order p) new rows →
+        RowsHold g order (place order p) old rows
     hold_old rows hold = record {
       sends = λ x h sent sooner path time j is. hold.sends x h sent sooner path time
-          (subst (λ (tree : TreeState (Option ℕ)). Contains tree.paths path) (sym (other_times g order chooser here old new before after added x (apart x h (inl sooner)))) j) is;
+          (subst (λ (tree : TreeState (Option ℕ)). Contains tree.paths path)
+          (sym (other_times g order chooser here old new before after added x (apart x h (inl sooner)))) j) is;
     }
 
-    module _ (rows : List (List Column)) (hold : RowsHold g order (place order p) new rows) (s : Scenario) (law : IsScenario g s) (t : Times) (run : IsRun g order after s t) where
+    module _ (rows : List (List Column)) (hold : RowsHold g order (place order p) new rows) (s : Scenario)
+        (law : IsScenario g s) (t : Times) (run : IsRun g order after s t) where
       old_lines : SendLines g order rows s t p k old
       old_lines =
           let r = a_run g order before s topological in
           send_lines_over g order topological p l k inside s r.0 t
-          (agree_before g order topological s r.0 t before after r.1 run (moment g order here) (λ x h m. same_others x (λ e. let same = ap (moment g order) e in absurd (omega (arith, m, same)))))
+          (agree_before g order topological s r.0 t before after r.1 run (moment g order here)
+          (λ x h m. same_others x (λ e. let same = ap (moment g order) e in absurd (omega (arith, m, same)))))
           rows old (sending.lines rows (hold_old rows hold) s law r.0 r.1)
 
       small : AreSmall t
       small = run_small g order after s t limits topological law early_after run
 
       valued_here : HasValueFrom s (carried g order rows s here) (get_or t.times here None) (times_of g new here)
-      valued_here = subst (λ ls. HasValueFrom s ls (get_or t.times here None) (times_of g new here)) (sym (carried_sent g order rows s here (item_at g here) goes_over))
-          (item_valued g limits order topological rows s law (scenario_few g s law) after t run small p l k inside chooser old new before after sending.trees added on_node (chosen s law)
-          (λ on. old_lines.ends p l p_ends) old_lines.here refl (omega (arith, within, sending.settled.count)) unset (λ is. settled_then.each here within is one_more))
+      valued_here = subst (λ ls. HasValueFrom s ls (get_or t.times here None) (times_of g new here))
+          (sym (carried_sent g order rows s here (item_at g here) goes_over))
+          (item_valued g limits order topological rows s law (scenario_few g s law) after t run small p l k inside
+          chooser old new before after sending.trees added on_node (chosen s law)
+          (λ on. old_lines.ends p l p_ends) old_lines.here refl (omega (arith, within, sending.settled.count)) unset
+          (λ is. settled_then.each here within is one_more))
 
       freed : IsQueuedFor g order (place order p) (node_of g p) → IsFreeOnce g order rows s t p (k + 1) new
-      freed q = free_once g limits order topological rows s law (scenario_few g s law) after t run small p l k inside chooser old new before after sending.trees added on_node (chosen s law)
-          (λ on. old_lines.ends p l p_ends) old_lines.here refl (omega (arith, within, sending.settled.count)) unset (λ is. settled_then.each here within is one_more) q
+      freed q = free_once g limits order topological rows s law (scenario_few g s law) after t run small p l k inside
+          chooser old new before after sending.trees added on_node (chosen s law)
+          (λ on. old_lines.ends p l p_ends) old_lines.here refl (omega (arith, within, sending.settled.count)) unset
+          (λ is. settled_then.each here within is one_more) q
 
       send_lines : SendLines g order rows s t p (k + 1) new
       send_lines = record {
         times = λ x h done. elim (only x done) [
-          | inl d ↦ subst (λ (tree : TreeState (Option ℕ)). HasValueFrom s (carried g order rows s x) (get_or t.times x None) tree)
-              (sym (other_times g order chooser here old new before after added x (apart x h d))) (old_lines.times x h d)
-          | inr e ↦ subst (λ z. HasValueFrom s (carried g order rows s z) (get_or t.times z None) (times_of g new z)) (sym e) valued_here
+          | inl d ↦ subst
+              (λ (tree : TreeState (Option ℕ)). HasValueFrom s (carried g order rows s x) (get_or t.times x None) tree)
+              (sym (other_times g order chooser here old new before after added x (apart x h d)))
+              (old_lines.times x h d)
+          | inr e ↦ subst (λ z. HasValueFrom s (carried g order rows s z) (get_or t.times z None) (times_of g new z))
+              (sym e) valued_here
         ];
-        ends = λ q h less. subst (λ (tree : TreeState (Option ℕ)). HasValueFrom s (carried_at_end g order rows s q) (get_or t.ends q None) tree)
+        ends = λ q h less. subst (λ (tree : TreeState (Option ℕ)).
+            HasValueFrom s (carried_at_end g order rows s q) (get_or t.ends q None) tree)
             (sym (same_ends g order chooser here old new before after added q)) (old_lines.ends q h less);
-        ready = λ node h w. subst (λ (tree : TreeState ℕ). IsReadyLine g order rows s t (place order p + 1) node tree) (sym (same_ready g order chooser here old new before after added node))
+        ready = λ node h w. subst (λ (tree : TreeState ℕ). IsReadyLine g order rows s t (place order p + 1) node tree)
+            (sym (same_ready g order chooser here old new before after added node))
             (old_lines.ready node h w);
         here = freed;
         free = λ node h other q. subst (λ (tree : TreeState ℕ). IsFreeLine g order rows s t (place order p) node tree)
-            (sym (other_free g order chooser here old new before after added node (λ e. other (e ∙ ap (node_of g) by_p)))) (old_lines.free node h other q);
+            (sym (other_free g order chooser here old new before after added node
+            (λ e. other (e ∙ ap (node_of g) by_p)))) (old_lines.free node h other q);
       }
 
     unsent_then : LeavesUnsent g new
     unsent_then x big h is =
         subst (λ (tree : TreeState (Option ℕ)). IsConstant None g.faults tree)
-        (sym (other_times g order chooser here old new before after added x (λ e. absurd (not_both (sym (ap (is_sent g) e ∙ goes_over) ∙ is))))) (sending.unsent x big h is)
+        (sym (other_times g order chooser here old new before after added x
+        (λ e. absurd (not_both (sym (ap (is_sent g) e ∙ goes_over) ∙ is))))) (sending.unsent x big h is)
       where
         not_both : true ≡ false → ⊥
         not_both e = cc
 
     -- one more item is sent
     pub next_sent : IsSending g order p (k + 1) after new
-    next_sent = record { trees = trees; unsent = unsent_then; settled = settled_then; lines = λ rows hold s law t run. send_lines rows hold s law t run }
+    next_sent = record {
+      trees = trees;
+      unsent = unsent_then;
+      settled = settled_then;
+      lines = λ rows hold s law t run. send_lines rows hold s law t run;
+    }
 
   -- all items that are left are sent
-  rest_sent : (xs : List ℕ) (k : ℕ) → k + length xs ≡ length (queue_of g p) → ((i : ℕ) → i < length xs → get_or xs i 0 ≡ get_or (queue_of g p) (k + i) 0) →
+  rest_sent : (xs : List ℕ) (k : ℕ) → k + length xs ≡ length (queue_of g p) →
+      ((i : ℕ) → i < length xs → get_or xs i 0 ≡ get_or (queue_of g p) (k + i) 0) →
       (old new : ForestState) (before after : List (Option ℕ)) →
-      IsSending g order p k before old → AreItemsAdded g order chooser xs old new before after → IsSending g order p (length (queue_of g p)) after new
+      IsSending g order p k before old → AreItemsAdded g order chooser xs old new before after →
+      IsSending g order p (length (queue_of g p)) after new
   rest_sent [] k count is old new before after sending none =
       let all : k ≡ length (queue_of g p) = omega (arith, count) in
-      subst (λ n. IsSending g order p n after new) all (subst (λ f. IsSending g order p k after f) (sym none.0) (subst (λ h. IsSending g order p k h old) (sym none.1) sending))
+      subst (λ n. IsSending g order p n after new) all (subst (λ f. IsSending g order p k after f) (sym none.0)
+      (subst (λ h. IsSending g order p k h old) (sym none.1) sending))
   rest_sent (x ∷ xs) k count is old new before after sending more =
       let inside : k < length (queue_of g p) = omega (arith, count) in
-      let first : x ≡ get_or (queue_of g p) k 0 = is 0 (omega arith) ∙ ap (λ n. get_or (queue_of g p) n 0) (let e : k + 0 ≡ k = omega arith in e) in
-      rest_sent xs (k + 1) (omega (arith, count)) (λ i h. is (suc i) (omega (arith, h)) ∙ ap (λ n. get_or (queue_of g p) n 0) (let e : k + suc i ≡ k + 1 + i = omega arith in e)) more.0 new more.1
+      let first : x ≡ get_or (queue_of g p) k 0 =
+      is 0 (omega arith) ∙ ap (λ n. get_or (queue_of g p) n 0) (let e : k + 0 ≡ k = omega arith in e) in
+      rest_sent xs (k + 1) (omega (arith, count)) (λ i h. is (suc i) (omega (arith, h))
+      ∙ ap (λ n. get_or (queue_of g p) n 0) (let e : k + suc i ≡ k + 1 + i = omega arith in e)) more.0 new more.1
       after
-      (next_sent k inside old more.0 before more.1 sending (subst (λ y. IsItemAdded g order chooser y old more.0 before more.1) first more.2)) more.3
+      (next_sent k inside old more.0 before more.1 sending
+      (subst (λ y. IsItemAdded g order chooser y old more.0 before more.1) first more.2)) more.3
 
-  pub all_sent : (old new : ForestState) (before after : List (Option ℕ)) → IsSending g order p 0 before old → AreItemsAdded g order chooser (queue_of g p) old new before after →
+  pub all_sent : (old new : ForestState) (before after : List (Option ℕ)) → IsSending g order p 0 before old →
+      AreItemsAdded g order chooser (queue_of g p) old new before after →
       IsSending g order p (length (queue_of g p)) after new
-  all_sent old new before after sending added = rest_sent (queue_of g p) 0 (omega arith) (λ i h. let first : ℕ = 0 in ap (λ n. get_or (queue_of g p) n 0) (let e : i ≡ first + i = omega arith in e))
+  all_sent old new before after sending added = rest_sent (queue_of g p) 0 (omega arith)
+      (λ i h. let first : ℕ = 0 in ap (λ n. get_or (queue_of g p) n 0) (let e : i ≡ first + i = omega arith in e))
       old new before after sending added

@@ -1,9 +1,11 @@
 -- What is done when a process sends an item rests only on the frozen times of what is done.
-use Rattle.std.proofs.Common.{ℕ, ◌+◌, ◌*◌, ◌<◌, ◌≤◌, ◌≡◌, ◌==◌, true, if◌then◌else◌, List, length, take, get_or, Contains, Option, unwrap_or, ◌⊎◌, arith, sym, ap, ap₂, ◌∙◌, subst, inl, inr}
+use Rattle.std.proofs.Common.{ℕ, ◌+◌, ◌*◌, ◌<◌, ◌≤◌, ◌≡◌, ◌==◌, true, if◌then◌else◌, List, length, take, get_or}
+use Rattle.std.proofs.Common.{Contains, Option, unwrap_or, ◌⊎◌, arith, sym, ap, ap₂, ◌∙◌, subst, inl, inr}
 use Rattle.std.proofs.lemmas.Bool.{cases_lt}
 use Rattle.std.proofs.lemmas.List.Elements.{Contains-get_or}
 use Rattle.cpg_base.specs.Bus.{round, slot_length}
-use Rattle.cpg_base.specs.Graph.{Graph, process_count, condition_count, item_count, item_at, broadcast_item, producer, process_of, node_of, home}
+use Rattle.cpg_base.specs.Graph.{Graph, process_count, condition_count, item_count, item_at, broadcast_item, producer}
+use Rattle.cpg_base.specs.Graph.{process_of, node_of, home}
 use Rattle.cpg_base.proofs.Items.{process_of_below}
 use Rattle.cpg_bus.specs.Plan.{queue_of}
 use Rattle.cpg_bus.proofs.Queued.{in_queue, below_first, rank_at, queue_rises}
@@ -13,7 +15,8 @@ use Rattle.cpg_base.specs.Scenario.{Scenario}
 use Rattle.cpg_order.specs.Urgency.{IsTopological}
 use Rattle.cpg_base.specs.Order.{place}
 use Rattle.cpg_order.proofs.DecidingLaws.{decides_earlier}
-use Rattle.cpg_order.proofs.Moments.{phase, phases, phase_below, phase_is_rank, moment, moment_of_end, moment_of_start, sooner, broadcast_sooner, end_sooner}
+use Rattle.cpg_order.proofs.Moments.{phase, phases, phase_below, phase_is_rank, moment, moment_of_end, moment_of_start}
+use Rattle.cpg_order.proofs.Moments.{sooner, broadcast_sooner, end_sooner}
 use Rattle.cpg_cube.specs.Column.{Column}
 use Rattle.cpg_run.specs.Run.{Times, end_in, heard_there}
 use Rattle.cpg_run.specs.Carried.{carried, carried_at_end}
@@ -26,7 +29,8 @@ use Rattle.cpg_expand.specs.Agreeing.{HasValueFrom}
 use Rattle.cpg_expand.specs.Forest.{ForestState, times_of, ends_of}
 use Rattle.cpg_expand.specs.Grown.{SendLines, IsDone}
 
-module _ (g : Graph) (order : List ℕ) (topological : IsTopological g order) (p : ℕ) (l : p < process_count g) (k : ℕ) (inside : k < length (queue_of g p)) where
+module _ (g : Graph) (order : List ℕ) (topological : IsTopological g order) (p : ℕ) (l : p < process_count g) (k : ℕ)
+    (inside : k < length (queue_of g p)) where
   abbrev here : ℕ
   here = get_or (queue_of g p) k 0
 
@@ -34,14 +38,17 @@ module _ (g : Graph) (order : List ℕ) (topological : IsTopological g order) (p
   in_here = Contains-get_or (queue_of g p) k 0 inside
 
   -- what is sent comes after the end of its process, by rank
-  moment_of_sent : (x : ℕ) → Contains (queue_of g p) x → moment g order x ≡ place order p * phases g + (rank_of_item (item_at g x) + 2)
-  moment_of_sent x c = let q = in_queue g p x c in ap₂ (λ r f. place order r * phases g + f) q.by (phase_is_rank g (item_at g x) q.sent)
+  moment_of_sent : (x : ℕ) → Contains (queue_of g p) x →
+      moment g order x ≡ place order p * phases g + (rank_of_item (item_at g x) + 2)
+  moment_of_sent x c = let q = in_queue g p x c in
+      ap₂ (λ r f. place order r * phases g + f) q.by (phase_is_rank g (item_at g x) q.sent)
 
   -- what is done comes before the item
   pub done_sooner : (x : ℕ) → x < item_count g → IsDone g order p k x → moment g order x < moment g order here
   done_sooner x h (inl e) =
       let at = moment_of_sent here in_here in
-      let less : moment g order x < place order p * phases g = sooner (place order (producer g x)) (place order p) (phase (item_at g x)) (phases g) e (phase_below g x h) in
+      let less : moment g order x < place order p * phases g =
+      sooner (place order (producer g x)) (place order p) (phase (item_at g x)) (phases g) e (phase_below g x h) in
       omega (arith, at, less)
   done_sooner x h (inr (inl e)) =
       let at = moment_of_sent here in_here in
@@ -50,34 +57,43 @@ module _ (g : Graph) (order : List ℕ) (topological : IsTopological g order) (p
   done_sooner x h (inr (inr c)) =
       let at = moment_of_sent here in_here in
       let own = moment_of_sent x (Contains-take k (queue_of g p) x c) in
-      let less : rank_of_item (item_at g x) < rank_of_item (item_at g here) = below_first (rank_at g) (queue_of g p) (queue_rises g p) k inside x c in
+      let less : rank_of_item (item_at g x) < rank_of_item (item_at g here) =
+      below_first (rank_at g) (queue_of g p) (queue_rises g p) k inside x c in
       omega (arith, at, own, less)
 
   -- two runs of a scenario that agree before the item
   module _ (s : Scenario) (t u : Times) (a : AgreeBefore g order t u (moment g order here)) where
     before_place : AgreeBefore g order t u (place order p * phases g)
-    before_place = let at = moment_of_sent here in_here in agree_sooner g order t u (place order p * phases g) (moment g order here) (omega (arith, at)) a
+    before_place = let at = moment_of_sent here in_here in
+        agree_sooner g order t u (place order p * phases g) (moment g order here) (omega (arith, at)) a
 
     end_before : (q : ℕ) → place order q < place order p + 1 → moment_of_end g order q < moment g order here
     end_before q less =
         let at = moment_of_sent here in_here in
         elim (cases_lt (place order q) (place order p)) [
-          | inl k ↦ let e : moment_of_end g order q < place order p * phases g = end_sooner g order topological p q k in omega (arith, at, e)
-          | inr k ↦ let same : place order q ≡ place order p = omega (arith, less, k) in let e = ap (λ n. n * phases g + 1) same in omega (arith, at, e)
+          | inl k ↦ let e : moment_of_end g order q < place order p * phases g = end_sooner g order topological p q k in
+              omega (arith, at, e)
+          | inr k ↦ let same : place order q ≡ place order p = omega (arith, less, k) in
+              let e = ap (λ n. n * phases g + 1) same in
+              omega (arith, at, e)
         ]
 
     end_over : (q : ℕ) → q < process_count g → place order q < place order p + 1 → end_in t q ≡ end_in u q
     end_over q h less = ap (λ o. unwrap_or o 0) (a.ends q h (end_before q less))
 
-    heard_over : (node q c : ℕ) → place order q < place order p + 1 → c < condition_count g → decides g s.values q c ≡ true → heard_there g t node c ≡ heard_there g u node c
+    heard_over : (node q c : ℕ) → place order q < place order p + 1 → c < condition_count g →
+        decides g s.values q c ≡ true →
+        heard_there g t node c ≡ heard_there g u node c
     heard_over node q c less k d =
         let e = decides_earlier g order topological s.values q c k d in
         let up : place order (process_of g c) < place order p = omega (arith, e, less) in
         ap₂ (λ v w. if node_of g (process_of g c) == node then v else w)
         (end_over (process_of g c) (process_of_below g c k) (omega (arith, up)))
-        (ap (λ o. unwrap_or o 0 + slot_length g (home g (broadcast_item g c))) (before_place.items (broadcast_item g c) (omega arith) (broadcast_sooner g order topological p c up)))
+        (ap (λ o. unwrap_or o 0 + slot_length g (home g (broadcast_item g c)))
+        (before_place.items (broadcast_item g c) (omega arith) (broadcast_sooner g order topological p c up)))
 
-    ready_over : (node v : ℕ) → IsReady g order s t (place order p + 1) node v → IsReady g order s u (place order p + 1) node v
+    ready_over : (node v : ℕ) → IsReady g order s t (place order p + 1) node v →
+        IsReady g order s u (place order p + 1) node v
     ready_over node v r = record {
       ends = λ q h less on acts. subst (λ n. n ≤ v) (end_over q h less) (r.ends q h less on acts);
       heard = λ q c h less on k d. subst (λ n. n ≤ v) (heard_over node q c less k d) (r.heard q c h less on k d);
@@ -92,18 +108,23 @@ module _ (g : Graph) (order : List ℕ) (topological : IsTopological g order) (p
         done (inl e) = inl e
         done (inr c) = inr (inr c)
 
-    free_over : (v : ℕ) → IsMost (IsSentBy g order s p k) (free_after g t) v → IsMost (IsSentBy g order s p k) (free_after g u) v
+    free_over : (v : ℕ) → IsMost (IsSentBy g order s p k) (free_after g t) v →
+        IsMost (IsSentBy g order s p k) (free_after g u) v
     free_over v m = record {
       above = λ y b. subst (λ n. n ≤ v) (after_over y b) (m.above y b);
       least = λ b h. m.least b (λ y c. subst (λ n. n ≤ b) (sym (after_over y c)) (h y c));
     }
 
     -- the lines of one run are those of another that agrees before the item
-    pub send_lines_over : (rows : List (List Column)) (f : ForestState) → SendLines g order rows s t p k f → SendLines g order rows s u p k f
+    pub send_lines_over : (rows : List (List Column)) (f : ForestState) → SendLines g order rows s t p k f →
+        SendLines g order rows s u p k f
     send_lines_over rows f lines = record {
-      times = λ x h done. subst (λ (o : Option ℕ). HasValueFrom s (carried g order rows s x) o (times_of g f x)) (a.items x h (done_sooner x h done)) (lines.times x h done);
-      ends = λ q h less. subst (λ (o : Option ℕ). HasValueFrom s (carried_at_end g order rows s q) o (ends_of g f q)) (a.ends q h (end_before q less)) (lines.ends q h less);
-      ready = λ node h w. let r = lines.ready node h w in record { time = r.time; is = ready_over node r.time r.is; has_value = r.has_value };
+      times = λ x h done. subst (λ (o : Option ℕ). HasValueFrom s (carried g order rows s x) o (times_of g f x))
+          (a.items x h (done_sooner x h done)) (lines.times x h done);
+      ends = λ q h less. subst (λ (o : Option ℕ). HasValueFrom s (carried_at_end g order rows s q) o (ends_of g f q))
+          (a.ends q h (end_before q less)) (lines.ends q h less);
+      ready = λ node h w. let r = lines.ready node h w in
+          record { time = r.time; is = ready_over node r.time r.is; has_value = r.has_value };
       here = λ q. let h = lines.here q in record { time = h.time; is = free_over h.time h.is; has_value = h.has_value };
       free = λ node h other q. let r = lines.free node h other q in record
           { time = r.time; is = free_same g order topological s t u (place order p) before_place node r.time r.is; has_value = r.has_value };

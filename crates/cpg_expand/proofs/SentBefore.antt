@@ -1,11 +1,13 @@
 -- What stands before an item in its node's queue is what the node has sent so far.
-use Rattle.std.proofs.Common.{ℕ, ◌+◌, ◌<◌, ◌≡◌, ◌&&◌, ◌==◌, ltb, true, List, ◌++◌, length, flat_map, take, get_or, Contains, ⊎_elim, arith, eq-eqb, eqb-true, lt-ltb, ltb-true, refl, sym, ap, ◌∙◌, inl}
+use Rattle.std.proofs.Common.{ℕ, ◌+◌, ◌<◌, ◌≡◌, ◌&&◌, ◌==◌, ltb, true, List, ◌++◌, length, flat_map, take, get_or}
+use Rattle.std.proofs.Common.{Contains, ⊎_elim, arith, eq-eqb, eqb-true, lt-ltb, ltb-true, refl, sym, ap, ◌∙◌, inl}
 use Rattle.std.proofs.Common.{inr}
 use Rattle.std.proofs.lemmas.Bool.{and_parts, and_from, or_cases, or_left, or_right}
 use Rattle.std.proofs.lemmas.List.Elements.{Contains-append_cases, Contains-append_left, Contains-append_right}
 use Rattle.cpg_base.specs.Numbers.{numbers_below}
 use Rattle.cpg_base.specs.Graph.{Graph, process_count, item_count, item_at, home, producer, node_of}
-use Rattle.cpg_base.proofs.Lists.{Contains-filter, Contains-filter_parts, Contains-flat_map, Contains-flat_map_parts, numbers-Contains}
+use Rattle.cpg_base.proofs.Lists.{Contains-filter, Contains-filter_parts, Contains-flat_map, Contains-flat_map_parts}
+use Rattle.cpg_base.proofs.Lists.{numbers-Contains}
 use Rattle.cpg_bus.specs.Plan.{queue_of}
 use Rattle.cpg_bus.proofs.Queued.{in_queue, queue-Contains, queue_rises, below_first, in_first, rank_at}
 use Rattle.cpg_cube.specs.declared.literal.Literal.{Literal}
@@ -14,7 +16,8 @@ use Rattle.cpg_base.specs.Scenario.{Scenario}
 use Rattle.cpg_order.specs.Urgency.{IsTopological}
 use Rattle.cpg_base.specs.Order.{place, before, before_on_node, comes_before}
 use Rattle.cpg_order.proofs.Moments.{producer_in_range}
-use Rattle.cpg_base.proofs.Places.{Contains-order, Contains-before, on_node_before, places_from_comes_before, comes_before_from_places}
+use Rattle.cpg_base.proofs.Places.{Contains-order, Contains-before, on_node_before, places_from_comes_before}
+use Rattle.cpg_base.proofs.Places.{comes_before_from_places}
 use Rattle.cpg_order.proofs.Queues.{queued_from}
 use Rattle.cpg_run.specs.Carried.{queued}
 use Rattle.cpg_run.proofs.Sends.{here_sent, in_next, Contains-take}
@@ -24,7 +27,8 @@ use Rattle.cpg_expand.specs.Agreeing.{HasValueFrom}
 use Rattle.cpg_expand.specs.Sent.{sent_before, sent_so_far}
 use Rattle.cpg_expand.proofs.AgreeingTrees.{agrees_weaker}
 
-module _ (g : Graph) (order : List ℕ) (topological : IsTopological g order) (s : Scenario) (p : ℕ) (l : p < process_count g) (k : ℕ) (inside : k < length (queue_of g p)) where
+module _ (g : Graph) (order : List ℕ) (topological : IsTopological g order) (s : Scenario) (p : ℕ)
+    (l : p < process_count g) (k : ℕ) (inside : k < length (queue_of g p)) where
   abbrev here : ℕ
   here = get_or (queue_of g p) k 0
 
@@ -39,18 +43,23 @@ module _ (g : Graph) (order : List ℕ) (topological : IsTopological g order) (s
             let r = Contains-flat_map_parts (queue_of g) (before_on_node g order p) y i in
             let q = in_queue g r.0 y r.2 in
             let o = on_node_before g order p r.0 r.1 in
-            let on : node_of g r.0 ≡ node_of g p = eqb-true _ _ (Contains-filter_parts (λ (u : ℕ). node_of g u == node_of g p) (before order p) r.0 r.1).1 in
-            let same : (home g y == home g here) ≡ true = eq-eqb _ _ (ap (node_of g) q.by ∙ on ∙ sym (ap (node_of g) x.by)) in
+            let on : node_of g r.0 ≡ node_of g p = eqb-true _ _
+            (Contains-filter_parts (λ (u : ℕ). node_of g u == node_of g p) (before order p) r.0 r.1).1 in
+            let same : (home g y == home g here) ≡ true =
+            eq-eqb _ _ (ap (node_of g) q.by ∙ on ∙ sym (ap (node_of g) x.by)) in
             queued_from g order topological here y q.within
-            (and_from _ _ (and_from _ _ q.sent same) (or_left _ _ (comes_before_from_places order (producer g y) (producer g here)
-            (Contains-order (process_count g) order topological.all (producer g y) (producer_in_range g order topological y q.within))
+            (and_from _ _ (and_from _ _ q.sent same)
+            (or_left _ _ (comes_before_from_places order (producer g y) (producer g here)
+            (Contains-order (process_count g) order topological.all (producer g y)
+            (producer_in_range g order topological y q.within))
             (omega (arith, o.1, ap (place order) q.by, ap (place order) x.by)))))
         | inr first ↦
             let q = in_queue g p y (Contains-take k (queue_of g p) y first) in
             let same : (home g y == home g here) ≡ true = eq-eqb _ _ (ap (node_of g) (q.by ∙ sym x.by)) in
             queued_from g order topological here y q.within
             (and_from _ _ (and_from _ _ q.sent same) (or_right _ _
-            (and_from _ _ (eq-eqb _ _ (q.by ∙ sym x.by)) (lt-ltb _ _ (below_first (rank_at g) (queue_of g p) (queue_rises g p) k inside y first)))))
+            (and_from _ _ (eq-eqb _ _ (q.by ∙ sym x.by))
+            (lt-ltb _ _ (below_first (rank_at g) (queue_of g p) (queue_rises g p) k inside y first)))))
       ]
 
   pub queued_so_far : (y : ℕ) → Contains (queued_before g order here) y → Contains (sent_so_far g order p k) y
@@ -63,46 +72,65 @@ module _ (g : Graph) (order : List ℕ) (topological : IsTopological g order) (s
       ⊎_elim
       (λ (e : comes_before order (producer g y) (producer g here) ≡ true).
       let less = places_from_comes_before order (producer g y) (producer g here) e in
-      let in_order = Contains-order (process_count g) order topological.all (producer g y) (producer_in_range g order topological y m) in
+      let in_order = Contains-order (process_count g) order topological.all (producer g y)
+      (producer_in_range g order topological y m) in
       Contains-append_left (sent_before g order (place order p) (node_of g p)) (take k (queue_of g p)) y
       (Contains-flat_map (queue_of g) (before_on_node g order p) (producer g y) y
-      (Contains-filter (λ (u : ℕ). node_of g u == node_of g p) (before order p) (producer g y) (eq-eqb _ _ (eqb-true _ _ d.1 ∙ ap (node_of g) x.by))
+      (Contains-filter (λ (u : ℕ). node_of g u == node_of g p) (before order p) (producer g y)
+      (eq-eqb _ _ (eqb-true _ _ d.1 ∙ ap (node_of g) x.by))
       (Contains-before order (producer g y) p in_order (omega (arith, less, ap (place order) x.by))))
       (queue-Contains g (producer g y) y m d.0 refl)))
       (λ (e : ((producer g y == producer g here) && ltb (rank_of_item (item_at g y)) (rank_of_item (item_at g here))) ≡ true).
       let w = and_parts (producer g y == producer g here) _ e in
       Contains-append_right (sent_before g order (place order p) (node_of g p)) (take k (queue_of g p)) y
-      (in_first (rank_at g) (queue_of g p) (queue_rises g p) k inside y (queue-Contains g p y m d.0 (eqb-true _ _ w.0 ∙ x.by)) (ltb-true _ _ w.1)))
+      (in_first (rank_at g) (queue_of g p) (queue_rises g p) k inside y
+      (queue-Contains g p y m d.0 (eqb-true _ _ w.0 ∙ x.by)) (ltb-true _ _ w.1)))
       (or_cases _ _ b.1)
 
   module _ (rows : List (List Column)) where
     abbrev support_all : List ℕ → List Literal
     support_all = flat_map (queued g order rows s)
 
-    -- a tree that tells what is carried from all that the node has sent tells no more than what the next item carries on
-    pub has_value_before : (y : ℕ) (tree : TreeState ℕ) → HasValueFrom s (flat_map (queued g order rows s) (sent_so_far g order p k)) y tree →
+    -- a tree that tells what is carried from all that the node has sent tells no more than what the next item carries
+    -- on
+    pub has_value_before : (y : ℕ) (tree : TreeState ℕ) →
+        HasValueFrom s (flat_map (queued g order rows s) (sent_so_far g order p k)) y tree →
         HasValueFrom s (flat_map (queued g order rows s) (queued_before g order here)) y tree
-    has_value_before y tree = agrees_weaker s tree (support_all (sent_so_far g order p k)) (support_all (queued_before g order here)) (λ z. z ≡ y) (λ z. z ≡ y)
+    has_value_before y tree = agrees_weaker s tree (support_all (sent_so_far g order p k))
+        (support_all (queued_before g order here)) (λ z. z ≡ y) (λ z. z ≡ y)
         (λ m j. let r = Contains-flat_map_parts (queued g order rows s) (sent_so_far g order p k) m j in
         Contains-flat_map (queued g order rows s) (queued_before g order here) r.0 m (so_far_queued r.0 r.1) r.2)
         (λ z e. e)
 
-    -- a tree that tells what the next item carries on, and that item, tells no more than all that the node has sent then
-    pub has_value_after : (y : ℕ) (tree : TreeState ℕ) → HasValueFrom s (flat_map (queued g order rows s) (queued_before g order here) ++ queued g order rows s here) y tree →
+    -- a tree that tells what the next item carries on, and that item, tells no more than all that the node has sent
+    -- then
+    pub has_value_after : (y : ℕ) (tree : TreeState ℕ) →
+        HasValueFrom s
+        (flat_map (queued g order rows s) (queued_before g order here) ++ queued g order rows s here) y tree →
         HasValueFrom s (flat_map (queued g order rows s) (sent_so_far g order p (k + 1))) y tree
-    has_value_after y tree = agrees_weaker s tree (support_all (queued_before g order here) ++ queued g order rows s here) (support_all (sent_so_far g order p (k + 1))) (λ z. z ≡ y) (λ z. z ≡ y)
+    has_value_after y tree =
+        agrees_weaker s tree (support_all (queued_before g order here) ++ queued g order rows s here)
+        (support_all (sent_so_far g order p (k + 1))) (λ z. z ≡ y) (λ z. z ≡ y)
         within (λ z e. e)
       where
         grown : (z : ℕ) → Contains (sent_so_far g order p k) z → Contains (sent_so_far g order p (k + 1)) z
-        grown z j = elim (Contains-append_cases (sent_before g order (place order p) (node_of g p)) (take k (queue_of g p)) z j) [
-          | inl i ↦ Contains-append_left (sent_before g order (place order p) (node_of g p)) (take (k + 1) (queue_of g p)) z i
-          | inr i ↦ Contains-append_right (sent_before g order (place order p) (node_of g p)) (take (k + 1) (queue_of g p)) z (in_next (queue_of g p) k z inside (inl i))
-        ]
+        grown z j = elim (Contains-append_cases (sent_before g order (place order p) (node_of g p))
+            (take k (queue_of g p)) z j) [
+              | inl i ↦
+                  Contains-append_left (sent_before g order (place order p) (node_of g p))
+                  (take (k + 1) (queue_of g p)) z i
+              | inr i ↦ Contains-append_right (sent_before g order (place order p) (node_of g p))
+                  (take (k + 1) (queue_of g p)) z (in_next (queue_of g p) k z inside (inl i))
+            ]
 
-        within : (m : Literal) → Contains (support_all (queued_before g order here) ++ queued g order rows s here) m → Contains (support_all (sent_so_far g order p (k + 1))) m
-        within m j = elim (Contains-append_cases (support_all (queued_before g order here)) (queued g order rows s here) m j) [
-          | inl i ↦ let r = Contains-flat_map_parts (queued g order rows s) (queued_before g order here) m i in
-              Contains-flat_map (queued g order rows s) (sent_so_far g order p (k + 1)) r.0 m (grown r.0 (queued_so_far r.0 r.1)) r.2
-          | inr i ↦ Contains-flat_map (queued g order rows s) (sent_so_far g order p (k + 1)) here m
-              (Contains-append_right (sent_before g order (place order p) (node_of g p)) (take (k + 1) (queue_of g p)) here (in_next (queue_of g p) k here inside (inr refl))) i
-        ]
+        within : (m : Literal) → Contains (support_all (queued_before g order here) ++ queued g order rows s here) m →
+            Contains (support_all (sent_so_far g order p (k + 1))) m
+        within m j =
+            elim (Contains-append_cases (support_all (queued_before g order here)) (queued g order rows s here) m j) [
+              | inl i ↦ let r = Contains-flat_map_parts (queued g order rows s) (queued_before g order here) m i in
+                  Contains-flat_map (queued g order rows s) (sent_so_far g order p (k + 1)) r.0 m
+                  (grown r.0 (queued_so_far r.0 r.1)) r.2
+              | inr i ↦ Contains-flat_map (queued g order rows s) (sent_so_far g order p (k + 1)) here m
+                  (Contains-append_right (sent_before g order (place order p) (node_of g p))
+                  (take (k + 1) (queue_of g p)) here (in_next (queue_of g p) k here inside (inr refl))) i
+            ]

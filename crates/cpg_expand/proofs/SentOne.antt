@@ -1,5 +1,6 @@
 -- The trees of an item that is added tell its time in the run, and from when on the slots of its node are free then.
-use Rattle.std.proofs.Common.{ℕ, ◌+◌, ◌<◌, ◌≡◌, Bool, true, false, if◌then◌else◌, List, [], ◌++◌, length, flat_map, get_or, set, Option, Some, None, unwrap_or, Contains, ◌⊎◌, arith, refl, sym, ap}
+use Rattle.std.proofs.Common.{ℕ, ◌+◌, ◌<◌, ◌≡◌, Bool, true, false, if◌then◌else◌, List, [], ◌++◌, length, flat_map}
+use Rattle.std.proofs.Common.{get_or, set, Option, Some, None, unwrap_or, Contains, ◌⊎◌, arith, refl, sym, ap}
 use Rattle.std.proofs.Common.{◌∙◌, subst, inl, inr, get_or-set_same}
 use Rattle.std.proofs.lemmas.Bool.{cond-false, cases_Bool}
 use Rattle.std.proofs.lemmas.List.Elements.{Contains-append_cases}
@@ -43,9 +44,11 @@ use Rattle.cpg_expand.proofs.SendValue.{send_value}
 use Rattle.cpg_expand.proofs.SentBefore.{has_value_before, has_value_after}
 use Rattle.cpg_expand.proofs.StartTimes.{later_exact}
 
-module _ (g : Graph) (limits : IsWithinLimits g) (order : List ℕ) (topological : IsTopological g order) (rows : List (List Column)) (s : Scenario) (law : IsScenario g s)
+module _ (g : Graph) (limits : IsWithinLimits g) (order : List ℕ) (topological : IsTopological g order)
+    (rows : List (List Column)) (s : Scenario) (law : IsScenario g s)
     (few : HasAtMostFaults g.faults s)
-    (frozen : List (Option ℕ)) (t : Times) (run : IsRun g order frozen s t) (small : AreSmall t) (p : ℕ) (l : p < process_count g) (k : ℕ) (inside : k < length (queue_of g p)) where
+    (frozen : List (Option ℕ)) (t : Times) (run : IsRun g order frozen s t) (small : AreSmall t) (p : ℕ)
+    (l : p < process_count g) (k : ℕ) (inside : k < length (queue_of g p)) where
   abbrev here : ℕ
   here = get_or (queue_of g p) k 0
 
@@ -64,10 +67,12 @@ module _ (g : Graph) (limits : IsWithinLimits g) (order : List ℕ) (topological
   acts : item_active g s.values (item_at g here) ≡ true → active g s.values (producer g here) ≡ true
   acts = producer_active g s.values (item_at g here)
 
-  module _ (chooser : TreeState Bool) (old new : ForestState) (before after : List (Option ℕ)) (trees : HasTrees g old) (added : IsItemAdded g order chooser here old new before after)
+  module _ (chooser : TreeState Bool) (old new : ForestState) (before after : List (Option ℕ)) (trees : HasTrees g old)
+      (added : IsItemAdded g order chooser here old new before after)
       (on_node : node_of g p < length g.nodes)
       (chosen : HasValueFrom s (decided g s p) (active g s.values p) chooser)
-      (ended : active g s.values p ≡ true → HasValueFrom s (carried_at_end g order rows s p) (get_or t.ends p None) (ends_of g old p))
+      (ended : active g s.values p ≡ true →
+      HasValueFrom s (carried_at_end g order rows s p) (get_or t.ends p None) (ends_of g old p))
       (once : IsQueuedFor g order (place order p) (node_of g p) → IsFreeOnce g order rows s t p k old)
       (same : get_or frozen here None ≡ get_or after here None)
       (long : here < length before)
@@ -80,46 +85,65 @@ module _ (g : Graph) (limits : IsWithinLimits g) (order : List ℕ) (topological
     says = decided g s (producer g here) ++ (if active g s.values (producer g here) then sent_by_value g s here else [])
 
     of_goes : HasValueFrom s says (item_active g s.values (item_at g here)) added.goes
-    of_goes = added.goes_where s few (decided g s (producer g here)) (subst (λ q. HasValueFrom s (decided g s q) (active g s.values q) chooser) (sym by) chosen)
+    of_goes = added.goes_where s few (decided g s (producer g here))
+        (subst (λ q. HasValueFrom s (decided g s q) (active g s.values q) chooser) (sym by) chosen)
 
-    at_most : (m : Literal) → Contains says m → Contains (decided g s (producer g here)) m ⊎ ((active g s.values (producer g here) ≡ true) × Contains (sent_by_value g s here) m)
-    at_most m j = elim (Contains-append_cases (decided g s (producer g here)) (if active g s.values (producer g here) then sent_by_value g s here else []) m j) [
-      | inl i ↦ inl i
-      | inr i ↦ inr (of_value (active g s.values (producer g here)) refl i)
-    ]
+    at_most : (m : Literal) → Contains says m →
+        Contains (decided g s (producer g here)) m ⊎
+        ((active g s.values (producer g here) ≡ true) × Contains (sent_by_value g s here) m)
+    at_most m j = elim (Contains-append_cases (decided g s (producer g here))
+        (if active g s.values (producer g here) then sent_by_value g s here else []) m j) [
+          | inl i ↦ inl i
+          | inr i ↦ inr (of_value (active g s.values (producer g here)) refl i)
+        ]
       where
-        of_value : (b : Bool) → active g s.values (producer g here) ≡ b → Contains (if b then sent_by_value g s here else []) m → (active g s.values (producer g here) ≡ true) ×
+        of_value : (b : Bool) → active g s.values (producer g here) ≡ b →
+            Contains (if b then sent_by_value g s here else []) m →
+            (active g s.values (producer g here) ≡ true) ×
             Contains (sent_by_value g s here) m
         of_value true e i = (e, i)
         of_value false e i = absurd (Contains-nil m i)
 
-    ends_valued : item_active g s.values (item_at g here) ≡ true → HasValueFrom s (carried_at_end g order rows s (producer g here)) (get_or t.ends p None) (ends_of g old (producer g here))
-    ends_valued on = subst (λ q. HasValueFrom s (carried_at_end g order rows s q) (get_or t.ends p None) (ends_of g old q)) (sym by) (ended (ap (active g s.values) (sym by) ∙ acts on))
+    ends_valued : item_active g s.values (item_at g here) ≡ true →
+        HasValueFrom s (carried_at_end g order rows s (producer g here)) (get_or t.ends p None)
+        (ends_of g old (producer g here))
+    ends_valued on =
+        subst (λ q. HasValueFrom s (carried_at_end g order rows s q) (get_or t.ends p None) (ends_of g old q)) (sym by)
+        (ended (ap (active g s.values) (sym by) ∙ acts on))
 
-    waits : (o : IsFreeOnce g order rows s t p k old) → HasValueFrom s (flat_map (queued g order rows s) (queued_before g order here)) o.time (free_of g old (home g here))
-    waits o = subst (λ q. HasValueFrom s (flat_map (queued g order rows s) (queued_before g order here)) o.time (free_of g old (node_of g q))) (sym by)
+    waits : (o : IsFreeOnce g order rows s t p k old) →
+        HasValueFrom s (flat_map (queued g order rows s) (queued_before g order here)) o.time
+        (free_of g old (home g here))
+    waits o = subst (λ q. HasValueFrom s (flat_map (queued g order rows s) (queued_before g order here)) o.time
+        (free_of g old (node_of g q))) (sym by)
         (has_value_before g order topological s p l k inside rows o.time (free_of g old (node_of g p)) o.has_value)
 
     -- ---- its times
 
     of_thawed : IsFreeOnce g order rows s t p k old → is_frozen g here ≡ false → after ≡ before →
-        IsSentTree g.faults (share_of g (home g here)) added.goes (ends_of g old (producer g here)) (free_of g old (home g here)) added.sent →
+        IsSentTree g.faults (share_of g (home g here)) added.goes (ends_of g old (producer g here))
+        (free_of g old (home g here)) added.sent →
         HasValueFrom s (carried_at_send g order rows s here) (get_or t.times here None) added.sent
     of_thawed o thawed kept slots =
         let share = ap (λ q. share_of g (node_of g q)) by in
-        let value = ap (λ h. if item_active g s.values (item_at g here) then slot_from h o.time (get_or t.ends p None) else None) share
-        ∙ send_value g order topological s p l frozen t run k inside o.time o.is (same ∙ ap (λ f. get_or f here None) kept ∙ unset) small (λ on. ap (active g s.values) (sym by) ∙ acts on) in
+        let value = ap (λ h. if item_active g s.values (item_at g here) then slot_from h o.time (get_or t.ends p None)
+        else None) share
+        ∙ send_value g order topological s p l frozen t run k inside o.time o.is (same
+        ∙ ap (λ f. get_or f here None) kept ∙ unset) small (λ on. ap (active g s.values) (sym by) ∙ acts on) in
         subst (λ (o : Option ℕ). HasValueFrom s (carried_at_send g order rows s here) o added.sent) value
-        (send_line g order rows s few here acts says added.goes of_goes at_most thawed (share_of g (home g here)) (ends_of g old (producer g here)) (free_of g old (home g here)) added.sent
+        (send_line g order rows s few here acts says added.goes of_goes at_most thawed (share_of g (home g here))
+        (ends_of g old (producer g here)) (free_of g old (home g here)) added.sent
         (get_or t.ends p None) o.time slots ends_valued (waits o))
 
-    would : item_active g s.values (item_at g here) ≡ true → WouldHave g order frozen here (unfrozen_time g order s t here)
+    would : item_active g s.values (item_at g here) ≡ true →
+        WouldHave g order frozen here (unfrozen_time g order s t here)
     would on = record { scenario = s; lawful = law; times = t; run = run; active = on; has = refl }
 
     -- the frozen time is the run's
     frozen_time : is_frozen g here ≡ true → (latest : Option ℕ) → get_or frozen here None ≡ latest →
         (if item_active g s.values (item_at g here) then Some (unwrap_or latest 0) else None) ≡ get_or t.times here None
-    frozen_time e (Some time) is = frozen_send_value g order frozen s t run here within time is (λ on. (settled e).greatest time (unfrozen_time g order s t here) is (would on))
+    frozen_time e (Some time) is = frozen_send_value g order frozen s t run here within time is
+        (λ on. (settled e).greatest time (unfrozen_time g order s t here) is (would on))
     frozen_time e None is = elim (cases_Bool (item_active g s.values (item_at g here))) [
       | inl on ↦ absurd ((settled e).none is (unfrozen_time g order s t here) (would on))
       | inr off ↦ cond-false _ _ _ off ∙ sym (time_is g order frozen s t run here within ∙ cond-false _ _ _ off)
@@ -139,18 +163,24 @@ module _ (g : Graph) (limits : IsWithinLimits g) (order : List ℕ) (topological
     sends_valued : HasValueFrom s (carried_at_send g order rows s here) (get_or t.times here None) added.sent
     sends_valued = by added.sends
       where
-        by : IsSentFor g order added.goes here old before after added.sent → HasValueFrom s (carried_at_send g order rows s here) (get_or t.times here None) added.sent
+        by : IsSentFor g order added.goes here old before after added.sent →
+            HasValueFrom s (carried_at_send g order rows s here) (get_or t.times here None) added.sent
         by (inl th) = of_thawed (once (queued_here th.0)) th.0 th.1 th.2
         by (inr f) = subst (λ (o : Option ℕ). HasValueFrom s (carried_at_send g order rows s here) o added.sent)
-            (frozen_time f.0 f.1.latest (same ∙ ap (λ h. get_or h here None) f.1.frozen.set ∙ set_here before here f.1.latest long unset))
-            (frozen_send_line g order rows s few here says added.goes of_goes at_most f.0 added.sent (unwrap_or f.1.latest 0) added.goes_tree f.1.frozen.made)
+            (frozen_time f.0 f.1.latest
+            (same ∙ ap (λ h. get_or h here None) f.1.frozen.set ∙ set_here before here f.1.latest long unset))
+            (frozen_send_line g order rows s few here says added.goes of_goes at_most f.0 added.sent
+            (unwrap_or f.1.latest 0) added.goes_tree f.1.frozen.made)
 
     times_is : times_of g new here ≡ added.sent
-    times_is = ap (λ (f : ForestState). times_of g f here) added.is ∙ get_or-set_same old.times here added.sent (no_tree g.faults) (omega (arith, within, trees.times))
+    times_is = ap (λ (f : ForestState). times_of g f here) added.is
+        ∙ get_or-set_same old.times here added.sent (no_tree g.faults) (omega (arith, within, trees.times))
 
     -- the trees of the item tell its time in the run
-    pub item_valued : HasValueFrom s (carried_at_send g order rows s here) (get_or t.times here None) (times_of g new here)
-    item_valued = subst (λ (u : TreeState (Option ℕ)). HasValueFrom s (carried_at_send g order rows s here) (get_or t.times here None) u) (sym times_is) sends_valued
+    pub item_valued : HasValueFrom s (carried_at_send g order rows s here) (get_or t.times here None)
+        (times_of g new here)
+    item_valued = subst (λ (u : TreeState (Option ℕ)).
+        HasValueFrom s (carried_at_send g order rows s here) (get_or t.times here None) u) (sym times_is) sends_valued
 
     -- ---- when the slots are free then
 
@@ -160,20 +190,25 @@ module _ (g : Graph) (limits : IsWithinLimits g) (order : List ℕ) (topological
         ∙ get_or-set_same old.free (node_of g p) added.freed (no_tree g.faults) (omega (arith, on_node, trees.free))
 
     abbrev free_then : IsFreeOnce g order rows s t p k old → ℕ
-    free_then o = if item_active g s.values (item_at g here) then time_later (round g) (get_or t.times here None) else o.time
+    free_then o = if item_active g s.values (item_at g here)
+        then time_later (round g) (get_or t.times here None) else o.time
 
-    frees_here : IsQueuedFor g order (place order p) (node_of g p) → IsFreeTree g.faults (round g) added.goes added.sent (free_of g old (home g here)) added.freed
+    frees_here : IsQueuedFor g order (place order p) (node_of g p) →
+        IsFreeTree g.faults (round g) added.goes added.sent (free_of g old (home g here)) added.freed
     frees_here q = added.frees (subst (λ r. IsQueuedFor g order (place order r) (node_of g r)) (sym by) q)
 
     free_has_value : (o : IsFreeOnce g order rows s t p k old) → IsQueuedFor g order (place order p) (node_of g p) →
         HasValueFrom s (flat_map (queued g order rows s) (sent_so_far g order p (k + 1))) (free_then o) added.freed
     free_has_value o q = has_value_after g order topological s p l k inside rows (free_then o) added.freed
-        (free_line g order rows s few here acts says added.goes of_goes at_most (round g) added.sent (free_of g old (home g here)) added.freed (get_or t.times here None) o.time
+        (free_line g order rows s few here acts says added.goes of_goes at_most (round g) added.sent
+        (free_of g old (home g here)) added.freed (get_or t.times here None) o.time
         (frees_here q) sends_valued (waits o))
 
     most_then : (o : IsFreeOnce g order rows s t p k old) (b : Bool) → item_active g s.values (item_at g here) ≡ b →
-        IsMost (IsSentBy g order s p (k + 1)) (free_after g t) (if b then time_later (round g) (get_or t.times here None) else o.time)
-    most_then o true on = subst (IsMost (IsSentBy g order s p (k + 1)) (free_after g t)) (sym (later_exact (get_or t.times here None) (round g) (small.times here) (round-le g limits)))
+        IsMost (IsSentBy g order s p (k + 1)) (free_after g t)
+        (if b then time_later (round g) (get_or t.times here None) else o.time)
+    most_then o true on = subst (IsMost (IsSentBy g order s p (k + 1)) (free_after g t))
+        (sym (later_exact (get_or t.times here None) (round g) (small.times here) (round-le g limits)))
         (free_next g order topological s p l k inside frozen t run o.time o.is on)
     most_then o false off = free_same g order topological s p l k inside t o.time off o.is
 
@@ -181,5 +216,7 @@ module _ (g : Graph) (limits : IsWithinLimits g) (order : List ℕ) (topological
     free_once q = record {
       time = free_then (once q);
       is = most_then (once q) (item_active g s.values (item_at g here)) refl;
-      has_value = subst (λ (u : TreeState ℕ). HasValueFrom s (flat_map (queued g order rows s) (sent_so_far g order p (k + 1))) (free_then (once q)) u) (sym free_is) (free_has_value (once q) q);
+      has_value =
+          subst (λ (u : TreeState ℕ). HasValueFrom s (flat_map (queued g order rows s) (sent_so_far g order p (k + 1)))
+          (free_then (once q)) u) (sym free_is) (free_has_value (once q) q);
     }

@@ -1,12 +1,14 @@
 -- a start in one scenario with its run, by the values of the trees.
-use Rattle.std.proofs.Common.{ℕ, ◌+◌, ◌<◌, ◌≤◌, ◌≡◌, ◌⊎◌, ◌==◌, Bool, true, false, if◌then◌else◌, List, [], ◌∷◌, ◌++◌, length, flat_map, get_or, Option, Some, None, unwrap_or, option_map, Contains}
+use Rattle.std.proofs.Common.{ℕ, ◌+◌, ◌<◌, ◌≤◌, ◌≡◌, ◌⊎◌, ◌==◌, Bool, true, false, if◌then◌else◌, List, [], ◌∷◌, ◌++◌}
+use Rattle.std.proofs.Common.{length, flat_map, get_or, Option, Some, None, unwrap_or, option_map, Contains}
 use Rattle.std.proofs.Common.{arith, refl, sym, ap, ◌∙◌, subst, inl, inr}
 use Rattle.std.proofs.lemmas.Bool.{and_from, and_parts, cases_eq, cases_lt}
 use Rattle.std.proofs.lemmas.List.Elements.{Contains-append_cases, Contains-append_left, Contains-append_right}
 use Rattle.std.proofs.lemmas.Option.{none-some}
 use Rattle.cpg_base.specs.Numbers.{greatest, numbers_below}
 use Rattle.cpg_base.specs.Duration.{duration}
-use Rattle.cpg_base.specs.Graph.{Graph, process_count, condition_count, item_count, item_at, node_of, source, edge_count, target, inputs, is_message, message_item, process_of, broadcast_item}
+use Rattle.cpg_base.specs.Graph.{Graph, process_count, condition_count, item_count, item_at, node_of, source}
+use Rattle.cpg_base.specs.Graph.{edge_count, target, inputs, is_message, message_item, process_of, broadcast_item}
 use Rattle.cpg_base.specs.Graph.{producer}
 use Rattle.cpg_base.specs.Activity.{active, is_active, live, item_active}
 use Rattle.cpg_base.specs.Limits.{IsWithinLimits}
@@ -15,7 +17,8 @@ use Rattle.cpg_base.specs.Scenario.{Scenario, IsScenario, fault_of}
 use Rattle.cpg_base.specs.Order.{place, before_on_node}
 use Rattle.cpg_base.proofs.Inputs.{inputs_parts}
 use Rattle.cpg_base.proofs.Items.{item_at-message, process_of_below}
-use Rattle.cpg_base.proofs.Lists.{Contains-cases, Contains-first, Contains-nil, Contains-filter, Contains-filter_parts, Contains-flat_map, Contains-flat_map_parts, Contains-numbers, numbers-Contains}
+use Rattle.cpg_base.proofs.Lists.{Contains-cases, Contains-first, Contains-nil, Contains-filter, Contains-filter_parts}
+use Rattle.cpg_base.proofs.Lists.{Contains-flat_map, Contains-flat_map_parts, Contains-numbers, numbers-Contains}
 use Rattle.cpg_base.proofs.Places.{Contains-order, same_place}
 use Rattle.cpg_order.specs.Counting.{conditions_along}
 use Rattle.cpg_order.specs.Deciding.{decides, deciding}
@@ -30,14 +33,16 @@ use Rattle.cpg_run.proofs.CarriedBefore.{hears_earlier, producer_of_message}
 use Rattle.cpg_cube.specs.Column.{Column}
 use Rattle.cpg_run.specs.Run.{Times, IsRun, end_in, time_in, frame_there, input_there, heard_there, start_bounds}
 use Rattle.cpg_run.specs.Known.{AreSmall}
-use Rattle.cpg_run.proofs.Runs.{acts_start, before_below, end_active, end_is, has_end, has_time, hearing_below, time_parts}
+use Rattle.cpg_run.proofs.Runs.{acts_start, before_below, end_active, end_is, has_end, has_time, hearing_below}
+use Rattle.cpg_run.proofs.Runs.{time_parts}
 use Rattle.cpg_tree_columns.specs.Greatest.{HasValueAt}
 use Rattle.cpg_tree.specs.Space.{HasAtMostFaults}
 use Rattle.cpg_tree.specs.Tree.{Path, TreeState, IsOnPath, HasOnePathEach}
 use Rattle.cpg_tree.proofs.OnePath.{scenario_few, the_path}
 use Rattle.cpg_expand.specs.Agreeing.{HasValueFrom}
 use Rattle.cpg_expand.specs.Earlier.{IsAskedOf, IsBetween, IsCut, is_always}
-use Rattle.cpg_expand.specs.Forest.{ForestState, HasTrees, times_of, ends_of, heard_tree, heard_delay, input_tree, input_delay}
+use Rattle.cpg_expand.specs.Forest.{ForestState, HasTrees, times_of, ends_of, heard_tree, heard_delay, input_tree}
+use Rattle.cpg_expand.specs.Forest.{input_delay}
 use Rattle.cpg_expand.specs.Grown.{Lines}
 use Rattle.cpg_expand.specs.Guarded.{IsActiveTree}
 use Rattle.cpg_expand.specs.TreeValues.{HasTreeValues}
@@ -51,13 +56,15 @@ use Rattle.cpg_expand.proofs.GuardTrees.{ends_tree, times_tree}
 use Rattle.cpg_expand.proofs.UnfrozenStart.{before_in, before_parts, end_in_bounds, heard_in_bounds, unfrozen_is}
 
 -- the tree of when a node hears a condition has a path for each scenario
-heard_each : (g : Graph) (f : ForestState) → HasTrees g f → (node c : ℕ) → c < condition_count g → HasOnePathEach g.faults (heard_tree g f node c).paths
+heard_each : (g : Graph) (f : ForestState) → HasTrees g f → (node c : ℕ) → c < condition_count g →
+    HasOnePathEach g.faults (heard_tree g f node c).paths
 heard_each g f has node c low = by (node_of g (process_of g c) == node)
   where
     within : broadcast_item g c < item_count g
     within = omega (arith, low)
 
-    by : (b : Bool) → HasOnePathEach g.faults (if b then ends_of g f (process_of g c) else times_of g f (broadcast_item g c)).paths
+    by : (b : Bool) →
+        HasOnePathEach g.faults (if b then ends_of g f (process_of g c) else times_of g f (broadcast_item g c)).paths
     by true = (ends_tree g f has (process_of g c) (process_of_below g c low)).each
     by false = (times_tree g f has (broadcast_item g c) within).each
 
@@ -68,17 +75,22 @@ always_acts (Test c off on) o e =
     let parts = and_parts (is_always off) (is_always on) e in
     by (get_or o c false) (always_acts on o parts.1) (always_acts off o parts.0)
   where
-    by : (b : Bool) → is_active (outcome_at on o) ≡ true → is_active (outcome_at off o) ≡ true → is_active (if b then outcome_at on o else outcome_at off o) ≡ true
+    by : (b : Bool) → is_active (outcome_at on o) ≡ true → is_active (outcome_at off o) ≡ true →
+        is_active (if b then outcome_at on o else outcome_at off o) ≡ true
     by true high low = high
     by false high low = low
 
-module _ (g : Graph) (limits : IsWithinLimits g) (order : List ℕ) (topological : IsTopological g order) (joins : HasSingleJoins g) (urgency : List ℕ) (is_urgency : IsUrgencyOrder g urgency)
+module _ (g : Graph) (limits : IsWithinLimits g) (order : List ℕ) (topological : IsTopological g order)
+    (joins : HasSingleJoins g) (urgency : List ℕ) (is_urgency : IsUrgencyOrder g urgency)
     (urgent : IsTopological g urgency)
-    (rows : List (List Column)) (s : Scenario) (law : IsScenario g s) (frozen : List (Option ℕ)) (t : Times) (run : IsRun g order frozen s t) (small : AreSmall t) (f : ForestState)
+    (rows : List (List Column)) (s : Scenario) (law : IsScenario g s) (frozen : List (Option ℕ)) (t : Times)
+    (run : IsRun g order frozen s t) (small : AreSmall t) (f : ForestState)
     (has : HasTrees g f)
-    (p : ℕ) (l : p < process_count g) (nodes : (q : ℕ) → q < process_count g → node_of g q < length g.nodes) (valued : HasTreeValues g order rows s t (place order p) f)
+    (p : ℕ) (l : p < process_count g) (nodes : (q : ℕ) → q < process_count g → node_of g q < length g.nodes)
+    (valued : HasTreeValues g order rows s t (place order p) f)
     (lines : Lines g order rows s t (place order p) f)
-    (guards : Guards) (are : (q : ℕ) → q < process_count g → IsGuardOf g urgency q (tree_of guards q)) (chooser : TreeState Bool) (actives : IsActiveTree g.faults (tree_of guards p) chooser)
+    (guards : Guards) (are : (q : ℕ) → q < process_count g → IsGuardOf g urgency q (tree_of guards q))
+    (chooser : TreeState Bool) (actives : IsActiveTree g.faults (tree_of guards p) chooser)
     (from : ℕ) (cut : IsCut g order guards (node_of g p) (place order p) from) where
   few : HasAtMostFaults g.faults s
   few = scenario_few g s law
@@ -91,18 +103,25 @@ module _ (g : Graph) (limits : IsWithinLimits g) (order : List ℕ) (topological
       where
         by : (o : Option ℕ) → get_or t.times q None ≡ o → active g s.values q ≡ true
         by (Some y) e = acts_start g order frozen s t run q k (time_parts g order frozen s t run q y e).1
-        by None e = absurd (none-some time (sym (end_is g order frozen s t run q k ∙ ap (option_map (λ start. start + duration g q (fault_of s q))) e) ∙ is))
+        by None e = absurd (none-some time (sym (end_is g order frozen s t run q k
+            ∙ ap (option_map (λ start. start + duration g q (fault_of s q))) e) ∙ is))
 
     ended_is : (time : ℕ) → HasValueAt (ends_of g f q).paths (Some time) s → get_or t.ends q None ≡ Some time
     ended_is time h = sym ((lines.ends q k sooner).value h.0 h.1) ∙ h.2
 
     end_path : active g s.values q ≡ true → HasValueAt (ends_of g f q).paths (Some (end_in t q)) s
     end_path on =
-        let x = the_path g.faults (ends_of g f q).paths (ends_tree g f has q k).each s few in
-        (x.0, x.1, (lines.ends q k sooner).value x.0 x.1 ∙ has_end g order frozen s t run q k on ∙ ap (λ n. Some n) (sym (end_active g order frozen s t run q k on)))
+        let x = the_path g.faults (ends_of g f q).paths (ends_tree g f has q k).each s few in (
+          x.0,
+          x.1,
+          (lines.ends q k sooner).value x.0 x.1 ∙ has_end g order frozen s t run q k on
+              ∙ ap (λ n. Some n) (sym (end_active g order frozen s t run q k on)),
+        )
 
   -- a process from the place on has ended at its end, and what ends no later
-  end_at : (q : ℕ) → IsBetween g order (node_of g p) from (place order p) q → active g s.values q ≡ true → (n : ℕ) → n ≤ end_in t q → HasEndAt g order f from p s n
+  end_at : (q : ℕ) → IsBetween g order (node_of g p) from (place order p) q → active g s.values q ≡ true → (n : ℕ) →
+      n ≤ end_in t q →
+      HasEndAt g order f from p s n
   end_at q b on n less = record {
     process = q;
     between = b;
@@ -112,23 +131,34 @@ module _ (g : Graph) (limits : IsWithinLimits g) (order : List ℕ) (topological
   }
 
   -- what is waited for by a process that is always active has ended once that one has
-  cut_at : (q : ℕ) → place order q < from → (z : ℕ) × IsBetween g order (node_of g p) from (place order p) z × (active g s.values z ≡ true) × (place order q < place order z)
+  cut_at : (q : ℕ) → place order q < from →
+      (z : ℕ) × IsBetween g order (node_of g p) from (place order p) z × (active g s.values z ≡ true) ×
+      (place order q < place order z)
   cut_at q less = elim cut [
     | inl none ↦ absurd (omega (arith, less, none))
-    | inr c ↦ (c.0, c.1, sym (ap is_active ((are c.0 c.1.within).is s.values law.values)) ∙ always_acts (tree_of guards c.0) s.values c.2, omega (arith, less, c.1.after))
+    | inr c ↦ (
+      c.0,
+      c.1,
+      sym (ap is_active ((are c.0 c.1.within).is s.values law.values)) ∙ always_acts (tree_of guards c.0) s.values c.2,
+      omega (arith, less, c.1.after),
+    )
   ]
 
   time_before_end : (z : ℕ) → z < process_count g → active g s.values z ≡ true → time_in t z ≤ end_in t z
   time_before_end z k on = omega (arith, end_active g order frozen s t run z k on)
 
-  before_ended : (q : ℕ) → q < process_count g → place order q < place order p → node_of g q ≡ node_of g p → active g s.values q ≡ true → HasEndAt g order f from p s (end_in t q)
+  before_ended : (q : ℕ) → q < process_count g → place order q < place order p → node_of g q ≡ node_of g p →
+      active g s.values q ≡ true →
+      HasEndAt g order f from p s (end_in t q)
   before_ended q k sooner there on = elim (cases_lt (place order q) from) [
-    | inr from_on ↦ end_at q (record { within = k; there = there; after = from_on; sooner = sooner }) on (end_in t q) (omega arith)
+    | inr from_on ↦
+        end_at q (record { within = k; there = there; after = from_on; sooner = sooner }) on (end_in t q) (omega arith)
     | inl less ↦
         let z = cut_at q less in
         end_at z.0 z.1 z.2 (end_in t q) (omega (
           arith,
-          before_below g order frozen s t run z.0 q z.1.within z.2 (before_in g order topological s t z.0 q k z.3 (there ∙ sym z.1.there)) on,
+          before_below g order frozen s t run z.0 q z.1.within z.2
+              (before_in g order topological s t z.0 q k z.3 (there ∙ sym z.1.there)) on,
           time_before_end z.0 z.1.within z.2,
         ))
   ]
@@ -141,33 +171,45 @@ module _ (g : Graph) (limits : IsWithinLimits g) (order : List ℕ) (topological
     item_within = let n = parts.0 in omega arith
 
     earlier : place order (producer g (message_item g e)) < place order p
-    earlier = let n = ap (place order) (producer_of_message g e parts.0) in omega (arith, n, input_goes_up g order topological p e c)
+    earlier = let n = ap (place order) (producer_of_message g e parts.0) in
+        omega (arith, n, input_goes_up g order topological p e c)
 
-    item_is : item_active g s.values (item_at g (message_item g e)) ≡ true → is_message g e ≡ true → live g s.values e ≡ true
-    item_is acts m = (and_parts (is_message g e) (live g s.values e) (subst (λ x. item_active g s.values x ≡ true) (item_at-message g e parts.0) acts)).1
+    item_is : item_active g s.values (item_at g (message_item g e)) ≡ true → is_message g e ≡ true →
+        live g s.values e ≡ true
+    item_is acts m = (and_parts (is_message g e) (live g s.values e)
+        (subst (λ x. item_active g s.values x ≡ true) (item_at-message g e parts.0) acts)).1
 
     -- an input from another node
     module _ (m : is_message g e ≡ true) where
       acts : live g s.values e ≡ true → item_active g s.values (item_at g (message_item g e)) ≡ true
-      acts lives = subst (λ x. item_active g s.values x ≡ true) (sym (item_at-message g e parts.0)) (and_from (is_message g e) (live g s.values e) m lives)
+      acts lives = subst (λ x. item_active g s.values x ≡ true) (sym (item_at-message g e parts.0))
+          (and_from (is_message g e) (live g s.values e) m lives)
 
-      comes : live g s.values e ≡ true → (time : ℕ) × (get_or t.times (message_item g e) None ≡ Some time) × (input_there g t e ≡ time_later (input_delay g e) (Some time))
+      comes : live g s.values e ≡ true →
+          (time : ℕ) × (get_or t.times (message_item g e) None ≡ Some time) ×
+          (input_there g t e ≡ time_later (input_delay g e) (Some time))
       comes lives =
           let is = has_time g order frozen s t run (message_item g e) item_within (acts lives) in (
             time_in t (message_item g e),
             is,
             sym (input_exact g limits t small e)
-                ∙ ap (time_later (input_delay g e)) (ap (λ (b : Bool). if b then get_or t.times (message_item g e) None else get_or t.ends (source g e) None) m ∙ is),
+                ∙ ap (time_later (input_delay g e)) (ap (λ (b : Bool). if b then get_or t.times (message_item g e) None
+                else get_or t.ends (source g e) None) m ∙ is),
           )
 
-      its_value : (x : Path (Option ℕ)) → IsOnPath (input_tree g f e).paths s x → x.1 ≡ get_or t.times (message_item g e) None
+      its_value : (x : Path (Option ℕ)) → IsOnPath (input_tree g f e).paths s x →
+          x.1 ≡ get_or t.times (message_item g e) None
       its_value x on = (lines.times (message_item g e) item_within earlier).value x
-          (subst (λ (b : Bool). IsOnPath (if b then times_of g f (message_item g e) else ends_of g f (source g e)).paths s x) m on)
+          (subst (λ (b : Bool).
+          IsOnPath (if b then times_of g f (message_item g e) else ends_of g f (source g e)).paths s x) m on)
 
-      its_path : (x : Path (Option ℕ)) × IsOnPath (input_tree g f e).paths s x × (x.1 ≡ get_or t.times (message_item g e) None)
+      its_path : (x : Path (Option ℕ)) × IsOnPath (input_tree g f e).paths s x ×
+          (x.1 ≡ get_or t.times (message_item g e) None)
       its_path =
-          let x = the_path g.faults (times_of g f (message_item g e)).paths (times_tree g f has (message_item g e) item_within).each s (scenario_few g s law) in
-          let on = subst (λ (b : Bool). IsOnPath (if b then times_of g f (message_item g e) else ends_of g f (source g e)).paths s x.0) (sym m) x.1 in
+          let x = the_path g.faults (times_of g f (message_item g e)).paths
+          (times_tree g f has (message_item g e) item_within).each s (scenario_few g s law) in
+          let on = subst (λ (b : Bool). IsOnPath (if b then times_of g f (message_item g e)
+          else ends_of g f (source g e)).paths s x.0) (sym m) x.1 in
           (x.0, on, its_value x.0 on)
 
     -- an input of the node itself
@@ -183,55 +225,85 @@ module _ (g : Graph) (limits : IsWithinLimits g) (order : List ℕ) (topological
 
       own_there : HasEndAt g order f from p s (input_there g t e)
       own_there =
-          let is : input_there g t e ≡ end_in t (source g e) = ap (λ (b : Bool). if b then frame_there g t (message_item g e) else end_in t (source g e)) own in
+          let is : input_there g t e ≡ end_in t (source g e) =
+          ap (λ (b : Bool). if b then frame_there g t (message_item g e) else end_in t (source g e)) own in
           subst (HasEndAt g order f from p s) (sym is)
-          (before_ended (source g e) (source_in_order g order topological e parts.0) (input_goes_up g order topological p e c) same_node (and_parts _ _ lives).0)
+          (before_ended (source g e) (source_in_order g order topological e parts.0)
+          (input_goes_up g order topological p e c) same_node (and_parts _ _ lives).0)
 
   -- a condition on the way of a process at its place or before it
   module _ (q : ℕ) (k : q < process_count g) (no_later : place order q ≤ place order p) where
     valued_there : HasTreeValues g order rows s t (place order q) f
-    valued_there = record { ends = λ z h less on. valued.ends z h (omega (arith, less, no_later)) on; sends = λ x h big less on. valued.sends x h big (omega (arith, less, no_later)) on }
+    valued_there = record {
+      ends = λ z h less on. valued.ends z h (omega (arith, less, no_later)) on;
+      sends = λ x h big less on. valued.sends x h big (omega (arith, less, no_later)) on;
+    }
 
-    on_its_way : (c : ℕ) → c < condition_count g → decides g s.values q c ≡ true → Contains (way (tree_of guards q) s.values) c
-    on_its_way c low d = subst (λ cs. Contains cs c) (sym (ways_are_deciding g urgency q (tree_of guards q) s.values is_urgency urgent (are q k) law.values))
-        (Contains-filter (decides g s.values q) (conditions_along g urgency) c d (Contains-along g urgency urgent c low))
+    on_its_way : (c : ℕ) → c < condition_count g → decides g s.values q c ≡ true →
+        Contains (way (tree_of guards q) s.values) c
+    on_its_way c low d = subst (λ cs. Contains cs c)
+        (sym (ways_are_deciding g urgency q (tree_of guards q) s.values is_urgency urgent (are q k) law.values))
+        (Contains-filter (decides g s.values q) (conditions_along g urgency) c d
+        (Contains-along g urgency urgent c low))
 
-  module _ (q : ℕ) (k : q < process_count g) (no_later : place order q ≤ place order p) (c : ℕ) (j : Contains (way (tree_of guards q) s.values) c) where
+  module _ (q : ℕ) (k : q < process_count g) (no_later : place order q ≤ place order p) (c : ℕ)
+      (j : Contains (way (tree_of guards q) s.values) c) where
     decides_there : Contains (deciding g s.values q) c
-    decides_there = on_way g limits order topological joins urgency is_urgency urgent rows s law.values few t small f q k nodes (valued_there q k no_later) (tree_of guards q) (are q k) c j
+    decides_there = on_way g limits order topological joins urgency is_urgency urgent rows s law.values few t small f q
+        k nodes (valued_there q k no_later) (tree_of guards q) (are q k) c j
 
     decides_it : (c < condition_count g) × (decides g s.values q c ≡ true)
-    decides_it = let r = Contains-filter_parts (decides g s.values q) (numbers_below (condition_count g)) c decides_there in (numbers-Contains (condition_count g) c r.0, r.1)
+    decides_it =
+        let r = Contains-filter_parts (decides g s.values q) (numbers_below (condition_count g)) c decides_there in
+        (numbers-Contains (condition_count g) c r.0, r.1)
 
-    line_of : HasValueFrom s (heard_support g order topological rows s (node_of g q) c) (heard_time g limits t small (node_of g q) c) (heard_tree g f (node_of g q) c)
-    line_of = heard_valued g limits order topological joins urgency is_urgency urgent rows s law.values few t small f q k nodes (valued_there q k no_later) (tree_of guards q) (are q k) c j
+    line_of : HasValueFrom s (heard_support g order topological rows s (node_of g q) c)
+        (heard_time g limits t small (node_of g q) c) (heard_tree g f (node_of g q) c)
+    line_of = heard_valued g limits order topological joins urgency is_urgency urgent rows s law.values few t small f q
+        k nodes (valued_there q k no_later) (tree_of guards q) (are q k) c j
 
     -- it has been heard
     when_heard : (time : ℕ) × (heard_time g limits t small (node_of g q) c ≡ Some time)
     when_heard = by (node_of g (process_of g c) == node_of g q) refl
       where
-        by : (b : Bool) → (node_of g (process_of g c) == node_of g q) ≡ b → (time : ℕ) × ((if b then get_or t.ends (process_of g c) None else get_or t.times (broadcast_item g c) None) ≡ Some time)
-        by true e = (_, has_end g order frozen s t run (process_of g c) (process_of_below g c decides_it.0) (deciding_is_active g urgency is_urgency urgent s.values q c decides_it.0 decides_it.1))
+        by : (b : Bool) → (node_of g (process_of g c) == node_of g q) ≡ b →
+            (time : ℕ) ×
+            ((if b then get_or t.ends (process_of g c) None else get_or t.times (broadcast_item g c) None) ≡ Some time)
+        by true e = (
+          _,
+          has_end g order frozen s t run (process_of g c) (process_of_below g c decides_it.0)
+              (deciding_is_active g urgency is_urgency urgent s.values q c decides_it.0 decides_it.1),
+        )
         by false e = (
           _,
           has_time g order frozen s t run (broadcast_item g c) (hears_earlier g order topological s q c decides_there).0
-              (frame_sent g s q k nodes c decides_it.0 (deciding_is_active g urgency is_urgency urgent s.values q c decides_it.0 decides_it.1) e),
+              (frame_sent g s q k nodes c decides_it.0
+              (deciding_is_active g urgency is_urgency urgent s.values q c decides_it.0 decides_it.1) e),
         )
 
-    heard_path : (time : ℕ) × HasValueAt (heard_tree g f (node_of g q) c).paths (Some time) s × (heard_there g t (node_of g q) c ≡ time_later (heard_delay g (node_of g q) c) (Some time))
+    heard_path : (time : ℕ) × HasValueAt (heard_tree g f (node_of g q) c).paths (Some time) s ×
+        (heard_there g t (node_of g q) c ≡ time_later (heard_delay g (node_of g q) c) (Some time))
     heard_path =
         let r = when_heard in
-        let x = the_path g.faults (heard_tree g f (node_of g q) c).paths (heard_each g f has (node_of g q) c decides_it.0) s few in
-        (r.0, (x.0, x.1, line_of.value x.0 x.1 ∙ r.1), sym (heard_exact g limits t small (node_of g q) c) ∙ ap (time_later (heard_delay g (node_of g q) c)) r.1)
+        let x = the_path g.faults (heard_tree g f (node_of g q) c).paths
+        (heard_each g f has (node_of g q) c decides_it.0) s few in (
+          r.0,
+          (x.0, x.1, line_of.value x.0 x.1 ∙ r.1),
+          sym (heard_exact g limits t small (node_of g q) c) ∙ ap (time_later (heard_delay g (node_of g q) c)) r.1,
+        )
 
-    heard_value : (time : ℕ) → HasValueAt (heard_tree g f (node_of g q) c).paths (Some time) s → heard_there g t (node_of g q) c ≡ time_later (heard_delay g (node_of g q) c) (Some time)
-    heard_value time h = sym (heard_exact g limits t small (node_of g q) c) ∙ ap (time_later (heard_delay g (node_of g q) c)) (sym (line_of.value h.0 h.1) ∙ h.2)
+    heard_value : (time : ℕ) → HasValueAt (heard_tree g f (node_of g q) c).paths (Some time) s →
+        heard_there g t (node_of g q) c ≡ time_later (heard_delay g (node_of g q) c) (Some time)
+    heard_value time h = sym (heard_exact g limits t small (node_of g q) c)
+        ∙ ap (time_later (heard_delay g (node_of g q) c)) (sym (line_of.value h.0 h.1) ∙ h.2)
 
   -- what decides one of them has been heard
-  module _ (q : ℕ) (k : q < process_count g) (there : node_of g q ≡ node_of g p) (no_later : place order q ≤ place order p) (c : ℕ) (low : c < condition_count g)
+  module _ (q : ℕ) (k : q < process_count g) (there : node_of g q ≡ node_of g p)
+      (no_later : place order q ≤ place order p) (c : ℕ) (low : c < condition_count g)
       (d : decides g s.values q c ≡ true) where
     abbrev Heard : ℕ → Type 0
-    Heard node = (time : ℕ) × HasValueAt (heard_tree g f node c).paths (Some time) s × (heard_there g t node c ≡ time_later (heard_delay g node c) (Some time))
+    Heard node = (time : ℕ) × HasValueAt (heard_tree g f node c).paths (Some time) s ×
+        (heard_there g t node c ≡ time_later (heard_delay g node c) (Some time))
 
     heard_at : from ≤ place order q → IsHeardAt g order guards f from p s t c
     heard_at after =
@@ -255,29 +327,35 @@ module _ (g : Graph) (limits : IsWithinLimits g) (order : List ℕ) (topological
     heard_before less =
         let z = cut_at q less in
         let in_order = before_in g order topological s t z.0 q k z.3 (there ∙ sym z.1.there) in
-        let there_too = Contains-flat_map (deciding g s.values) (before_on_node g order z.0 ++ z.0 ∷ []) q c (Contains-append_left (before_on_node g order z.0) (z.0 ∷ []) q in_order)
-        (Contains-filter (decides g s.values q) (numbers_below (condition_count g)) c d (Contains-numbers (condition_count g) c low)) in
+        let there_too = Contains-flat_map (deciding g s.values) (before_on_node g order z.0 ++ z.0 ∷ []) q c
+        (Contains-append_left (before_on_node g order z.0) (z.0 ∷ []) q in_order)
+        (Contains-filter (decides g s.values q) (numbers_below (condition_count g)) c d
+        (Contains-numbers (condition_count g) c low)) in
         end_at z.0 z.1 z.2 (heard_there g t (node_of g p) c)
         (omega (
           arith,
-          subst (λ n. heard_there g t n c ≤ time_in t z.0) z.1.there (hearing_below g order frozen s t run z.0 c z.1.within z.2 there_too),
+          subst (λ n. heard_there g t n c ≤ time_in t z.0) z.1.there
+              (hearing_below g order frozen s t run z.0 c z.1.within z.2 there_too),
           time_before_end z.0 z.1.within z.2,
         ))
 
-    heard_either : HasEndAt g order f from p s (heard_there g t (node_of g p) c) ⊎ IsHeardAt g order guards f from p s t c
+    heard_either : HasEndAt g order f from p s (heard_there g t (node_of g p) c) ⊎
+        IsHeardAt g order guards f from p s t c
     heard_either = elim (cases_lt (place order q) from) [
       | inl less ↦ inl (heard_before less)
       | inr after ↦ inr (heard_at after)
     ]
 
-  what_hears : (c : ℕ) → Contains (flat_map (deciding g s.values) (before_on_node g order p ++ p ∷ [])) c → HasEndAt g order f from p s (heard_there g t (node_of g p) c) ⊎
+  what_hears : (c : ℕ) → Contains (flat_map (deciding g s.values) (before_on_node g order p ++ p ∷ [])) c →
+      HasEndAt g order f from p s (heard_there g t (node_of g p) c) ⊎
       IsHeardAt g order guards f from p s t c
   what_hears c j =
       let q = Contains-flat_map_parts (deciding g s.values) (before_on_node g order p ++ p ∷ []) c j in
       let r = Contains-filter_parts (decides g s.values q.0) (numbers_below (condition_count g)) c q.2 in
       let low = numbers-Contains (condition_count g) c r.0 in
       elim (Contains-append_cases (before_on_node g order p) (p ∷ []) q.0 q.1) [
-        | inl b ↦ let parts = before_parts g order topological s t p q.0 b in heard_either q.0 parts.0 parts.2 (omega (arith, parts.1)) c low r.1
+        | inl b ↦ let parts = before_parts g order topological s t p q.0 b in
+            heard_either q.0 parts.0 parts.2 (omega (arith, parts.1)) c low r.1
         | inr b ↦ elim (Contains-cases p [] q.0 b) [
           | inl e ↦ heard_either p l refl (omega arith) c low (subst (λ o. decides g s.values o c ≡ true) (sym e) r.1)
           | inr none ↦ absurd (Contains-nil q.0 none)
@@ -285,16 +363,21 @@ module _ (g : Graph) (limits : IsWithinLimits g) (order : List ℕ) (topological
       ]
 
   -- a process at its place or before it is among those by which it hears
-  among : (q : ℕ) → q < process_count g → node_of g q ≡ node_of g p → place order q < place order p + 1 → Contains (before_on_node g order p ++ p ∷ []) q
+  among : (q : ℕ) → q < process_count g → node_of g q ≡ node_of g p → place order q < place order p + 1 →
+      Contains (before_on_node g order p ++ p ∷ []) q
   among q k there sooner = elim (cases_lt (place order q) (place order p)) [
-    | inl less ↦ Contains-append_left (before_on_node g order p) (p ∷ []) q (before_in g order topological s t p q k less there)
+    | inl less ↦
+        Contains-append_left (before_on_node g order p) (p ∷ []) q (before_in g order topological s t p q k less there)
     | inr more ↦ subst (Contains (before_on_node g order p ++ p ∷ []))
-        (same_place order p q (Contains-order (process_count g) order topological.all p l) (Contains-order (process_count g) order topological.all q k)
+        (same_place order p q (Contains-order (process_count g) order topological.all p l)
+        (Contains-order (process_count g) order topological.all q k)
         (let e : place order p ≡ place order q = omega (arith, sooner, more) in e))
         (Contains-append_right (before_on_node g order p) (p ∷ []) p (Contains-first p []))
   ]
 
-  heard_in : (c time : ℕ) → IsAskedOf g order guards (node_of g p) from (place order p + 1) c (process_count g) s.values → HasValueAt (heard_tree g f (node_of g p) c).paths (Some time) s →
+  heard_in : (c time : ℕ) →
+      IsAskedOf g order guards (node_of g p) from (place order p + 1) c (process_count g) s.values →
+      HasValueAt (heard_tree g f (node_of g p) c).paths (Some time) s →
       time_later (heard_delay g (node_of g p) c) (Some time) ≤ greatest (start_bounds g order s t p)
   heard_in c time a h =
       let q = a.process in
@@ -302,21 +385,30 @@ module _ (g : Graph) (limits : IsWithinLimits g) (order : List ℕ) (topological
       let no_later : place order q ≤ place order p = omega (arith, b.sooner) in
       let j = tested_parts (tree_of guards q) s.values c a.tested in
       let d = decides_it q b.within no_later c j in
-      let is = subst (λ n. HasValueAt (heard_tree g f n c).paths (Some time) s → heard_there g t n c ≡ time_later (heard_delay g n c) (Some time)) b.there
+      let is = subst (λ n. HasValueAt (heard_tree g f n c).paths (Some time) s →
+      heard_there g t n c ≡ time_later (heard_delay g n c) (Some time)) b.there
       (heard_value q b.within no_later c j time) h in
       omega (arith, is, heard_in_bounds g order topological s t p q c (among q b.within b.there b.sooner) d.0 d.1)
 
-  ended_in : (q time : ℕ) → IsBetween g order (node_of g p) from (place order p) q → HasValueAt (ends_of g f q).paths (Some time) s → time_later 0 (Some time) ≤ greatest (start_bounds g order s t p)
+  ended_in : (q time : ℕ) → IsBetween g order (node_of g p) from (place order p) q →
+      HasValueAt (ends_of g f q).paths (Some time) s →
+      time_later 0 (Some time) ≤ greatest (start_bounds g order s t p)
   ended_in q time b h =
       let is = ended_is q b.within b.sooner time h in
       let same : end_in t q ≡ time = ap (λ o. unwrap_or o 0) is in
-      omega (arith, same, end_in_bounds g order topological s t p q (before_in g order topological s t p q b.within b.sooner b.there) (acts_end q b.within b.sooner time is))
+      omega (
+        arith,
+        same,
+        end_in_bounds g order topological s t p q (before_in g order topological s t p q b.within b.sooner b.there)
+            (acts_end q b.within b.sooner time is),
+      )
 
   pub start_is_valued : IsStartByTrees g order guards f chooser from p s t
   start_is_valued = record {
     acts = λ x on. (actives s few).value x on ∙ ap is_active ((are p l).is s.values law.values);
     value = unfrozen_is g order topological s t p l;
-    ends = λ q c on. let parts = before_parts g order topological s t p q c in before_ended q parts.0 parts.1 parts.2 on;
+    ends =
+        λ q c on. let parts = before_parts g order topological s t p q c in before_ended q parts.0 parts.1 parts.2 on;
     ended = ended_in;
     hears = what_hears;
     heard = heard_in;

@@ -1,18 +1,21 @@
 -- The tree of a start agrees with what is carried beside it.
-use Rattle.std.proofs.Common.{ℕ, ◌<◌, ◌≤◌, ◌≡◌, ◌==◌, nat_lt, not, max, Bool, true, false, if◌then◌else◌, List, [], ◌++◌, length, map, flat_map, get_or, Option, Some, None, Contains, ◌⊎◌, arith}
+use Rattle.std.proofs.Common.{ℕ, ◌<◌, ◌≤◌, ◌≡◌, ◌==◌, nat_lt, not, max, Bool, true, false, if◌then◌else◌, List, []}
+use Rattle.std.proofs.Common.{◌++◌, length, map, flat_map, get_or, Option, Some, None, Contains, ◌⊎◌, arith}
 use Rattle.std.proofs.Common.{eq-eqb, lt-ltb, refl, sym, ap, ◌∙◌, subst, inl, inr}
 use Rattle.std.proofs.lemmas.Bool.{and_parts, and_from, cases_eq, ne_eqb}
 use Rattle.std.proofs.lemmas.List.Elements.{Contains-append_cases, Contains-append_left, Contains-append_right}
 use Rattle.cpg_base.specs.Numbers.{greatest}
 use Rattle.cpg_base.specs.Limits.{IsWithinLimits}
-use Rattle.cpg_base.specs.Graph.{Graph, process_at, process_count, condition_count, edge_count, item_at, node_of, source, target, inputs, is_message, message_item, broadcast_item, process_of}
+use Rattle.cpg_base.specs.Graph.{Graph, process_at, process_count, condition_count, edge_count, item_at, node_of}
+use Rattle.cpg_base.specs.Graph.{source, target, inputs, is_message, message_item, broadcast_item, process_of}
 use Rattle.cpg_base.specs.Activity.{activation, active, is_active, item_active, live}
 use Rattle.cpg_base.specs.WellFormed.{HasSingleJoins}
 use Rattle.cpg_base.specs.declared.activation.Activation.{Activation}
 use Rattle.cpg_base.specs.declared.activation.Activation.TheVariants.{Inactive, Plain, By}
 use Rattle.cpg_base.proofs.Inputs.{inputs_parts}
 use Rattle.cpg_base.proofs.Items.{item_at-message, item_at-broadcast, process_of_below}
-use Rattle.cpg_base.proofs.Lists.{Contains-filter_parts, Contains-flat_map_parts, Contains-nil, Contains-map, Contains-map_parts, numbers-Contains, Contains-filter, Contains-numbers}
+use Rattle.cpg_base.proofs.Lists.{Contains-filter_parts, Contains-flat_map_parts, Contains-nil, Contains-map}
+use Rattle.cpg_base.proofs.Lists.{Contains-map_parts, numbers-Contains, Contains-filter, Contains-numbers}
 use Rattle.cpg_order.specs.Urgency.{IsTopological, IsUrgencyOrder}
 use Rattle.cpg_base.specs.Order.{place, before_on_node}
 use Rattle.cpg_order.specs.Deciding.{decides, deciding}
@@ -35,7 +38,8 @@ use Rattle.cpg_tree.specs.Space.{HasAtMostFaults}
 use Rattle.cpg_tree.specs.Tree.{TreeState}
 use Rattle.cpg_expand.specs.Agreeing.{HasValueFrom}
 use Rattle.cpg_expand.specs.Forest.{ForestState, heard_tree, input_tree, heard_delay, input_delay, times_of, ends_of}
-use Rattle.cpg_expand.specs.Guarded.{AreThere, IsStartTree, awaited, start_says, start_at, value_known, values_known, support_of, latest_of}
+use Rattle.cpg_expand.specs.Guarded.{AreThere, IsStartTree, awaited, start_says, start_at, value_known, values_known}
+use Rattle.cpg_expand.specs.Guarded.{support_of, latest_of}
 use Rattle.cpg_expand.specs.TreeValues.{HasTreeValues}
 use Rattle.cpg_expand.specs.Values.{time_later}
 use Rattle.cpg_expand.specs.Waiting.{IsWaitTree, ready_of}
@@ -55,34 +59,46 @@ idle_awaits inputs (By d) is e j = absurd (off is)
     off e = cc
 
 -- an input from another node is a message
-pub message_at : (g : Graph) (p e : ℕ) → target g e ≡ p → (node_of g (source g e) ≡ node_of g p → ⊥) → is_message g e ≡ true
-message_at g p e to other = ap not (ne_eqb (node_of g (source g e)) (node_of g (target g e)) (λ same. other (same ∙ ap (node_of g) to)))
+pub message_at : (g : Graph) (p e : ℕ) → target g e ≡ p → (node_of g (source g e) ≡ node_of g p → ⊥) →
+    is_message g e ≡ true
+message_at g p e to other =
+    ap not (ne_eqb (node_of g (source g e)) (node_of g (target g e)) (λ same. other (same ∙ ap (node_of g) to)))
 
 -- a condition of an active process is sent to the other nodes
-pub frame_sent : (g : Graph) (s : Scenario) (p : ℕ) → p < process_count g → ((q : ℕ) → q < process_count g → node_of g q < length g.nodes) → (c : ℕ) → c < condition_count g →
+pub frame_sent : (g : Graph) (s : Scenario) (p : ℕ) → p < process_count g →
+    ((q : ℕ) → q < process_count g → node_of g q < length g.nodes) → (c : ℕ) →
+    c < condition_count g →
     active g s.values (process_of g c) ≡ true →
     (node_of g (process_of g c) == node_of g p) ≡ false → item_active g s.values (item_at g (broadcast_item g c)) ≡ true
-frame_sent g s p l nodes c low acts e = subst (λ x. item_active g s.values x ≡ true) (sym (item_at-broadcast g c)) (and_from (nat_lt 1 (length g.nodes)) (active g s.values (process_of g c))
-    (lt-ltb 1 (length g.nodes) (many_nodes (node_of g (process_of g c)) (node_of g p) (length g.nodes) (nodes (process_of g c) (process_of_below g c low)) (nodes p l)
+frame_sent g s p l nodes c low acts e = subst (λ x. item_active g s.values x ≡ true) (sym (item_at-broadcast g c))
+    (and_from (nat_lt 1 (length g.nodes)) (active g s.values (process_of g c))
+    (lt-ltb 1 (length g.nodes) (many_nodes (node_of g (process_of g c)) (node_of g p) (length g.nodes)
+    (nodes (process_of g c) (process_of_below g c low)) (nodes p l)
     (λ i. apart (sym (eq-eqb (node_of g (process_of g c)) (node_of g p) i) ∙ e)))) acts)
   where
     apart : true ≡ false → ⊥
     apart e = cc
 
-module _ (g : Graph) (limits : IsWithinLimits g) (order : List ℕ) (topological : IsTopological g order) (joins : HasSingleJoins g) (urgency : List ℕ) (is_urgency : IsUrgencyOrder g urgency)
+module _ (g : Graph) (limits : IsWithinLimits g) (order : List ℕ) (topological : IsTopological g order)
+    (joins : HasSingleJoins g) (urgency : List ℕ) (is_urgency : IsUrgencyOrder g urgency)
     (urgent : IsTopological g urgency)
-    (rows : List (List Column)) (s : Scenario) (long : length s.values ≡ condition_count g) (few : HasAtMostFaults g.faults s) (t : Times) (small : AreSmall t) (f : ForestState)
-    (p : ℕ) (l : p < process_count g) (nodes : (q : ℕ) → q < process_count g → node_of g q < length g.nodes) (valued : HasTreeValues g order rows s t (place order p) f) (guard : Guard)
+    (rows : List (List Column)) (s : Scenario) (long : length s.values ≡ condition_count g)
+    (few : HasAtMostFaults g.faults s) (t : Times) (small : AreSmall t) (f : ForestState)
+    (p : ℕ) (l : p < process_count g) (nodes : (q : ℕ) → q < process_count g → node_of g q < length g.nodes)
+    (valued : HasTreeValues g order rows s t (place order p) f) (guard : Guard)
     (is_guard : IsGuardOf g urgency p guard) where
   -- the conditions on the way are those that decide the process
   pub on_way : (c : ℕ) → Contains (way guard s.values) c → Contains (deciding g s.values p) c
   on_way c j =
       let r = Contains-filter_parts (decides g s.values p) (conditions_along g urgency) c
       (subst (λ cs. Contains cs c) (ways_are_deciding g urgency p guard s.values is_urgency urgent is_guard long) j) in
-      Contains-filter (decides g s.values p) _ c r.1 (Contains-numbers (condition_count g) c (from_along g urgency c r.0).0)
+      Contains-filter (decides g s.values p) _ c r.1
+      (Contains-numbers (condition_count g) c (from_along g urgency c r.0).0)
 
   -- what tells when the node hears one of them
-  pub heard_valued : (c : ℕ) → Contains (way guard s.values) c → HasValueFrom s (heard_support g order topological rows s (node_of g p) c) (heard_time g limits t small (node_of g p) c)
+  pub heard_valued : (c : ℕ) → Contains (way guard s.values) c →
+      HasValueFrom s (heard_support g order topological rows s (node_of g p) c)
+      (heard_time g limits t small (node_of g p) c)
       (heard_tree g f (node_of g p) c)
   heard_valued c j = by (node_of g (process_of g c) == node_of g p) refl
     where
@@ -98,17 +114,23 @@ module _ (g : Graph) (limits : IsWithinLimits g) (order : List ℕ) (topological
       acts : active g s.values (process_of g c) ≡ true
       acts = deciding_is_active g urgency is_urgency urgent s.values p c low decided_true
 
-      sent_at : (node_of g (process_of g c) == node_of g p) ≡ false → item_active g s.values (item_at g (broadcast_item g c)) ≡ true
+      sent_at : (node_of g (process_of g c) == node_of g p) ≡ false →
+          item_active g s.values (item_at g (broadcast_item g c)) ≡ true
       sent_at e = frame_sent g s p l nodes c low acts e
 
-      by : (b : Bool) → (node_of g (process_of g c) == node_of g p) ≡ b → HasValueFrom s (if b then carried_at_end g order rows s (process_of g c) else carried_by_row rows s (broadcast_item g c))
+      by : (b : Bool) → (node_of g (process_of g c) == node_of g p) ≡ b →
+          HasValueFrom s
+          (if b then carried_at_end g order rows s (process_of g c) else carried_by_row rows s (broadcast_item g c))
           (if b then get_or t.ends (process_of g c) None else get_or t.times (broadcast_item g c) None)
           (if b then ends_of g f (process_of g c) else times_of g f (broadcast_item g c))
-      by true e = valued.ends (process_of g c) (process_of_below g c low) (decides_earlier g order topological s.values p c low decided_true) acts
-      by false e = let r = hears_earlier g order topological s p c decides_it in valued.sends (broadcast_item g c) r.0 (omega arith) r.1 (sent_at e)
+      by true e = valued.ends (process_of g c) (process_of_below g c low)
+          (decides_earlier g order topological s.values p c low decided_true) acts
+      by false e = let r = hears_earlier g order topological s p c decides_it in
+          valued.sends (broadcast_item g c) r.0 (omega arith) r.1 (sent_at e)
 
   -- what tells when a live input is there
-  input_valued : (e : ℕ) → Contains (inputs g p) e → live g s.values e ≡ true → HasValueFrom s (input_support g order topological rows s e) (input_time g limits t small e) (input_tree g f e)
+  input_valued : (e : ℕ) → Contains (inputs g p) e → live g s.values e ≡ true →
+      HasValueFrom s (input_support g order topological rows s e) (input_time g limits t small e) (input_tree g f e)
   input_valued e j on = by (is_message g e) refl
     where
       parts : (e < edge_count g) × (target g e ≡ p)
@@ -117,15 +139,21 @@ module _ (g : Graph) (limits : IsWithinLimits g) (order : List ℕ) (topological
       earlier : place order (source g e) < place order p
       earlier = input_goes_up g order topological p e j
 
-      by : (b : Bool) → is_message g e ≡ b → HasValueFrom s (if b then carried_by_row rows s (message_item g e) else carried_at_end g order rows s (source g e))
+      by : (b : Bool) → is_message g e ≡ b →
+          HasValueFrom s
+          (if b then carried_by_row rows s (message_item g e) else carried_at_end g order rows s (source g e))
           (if b then get_or t.times (message_item g e) None else get_or t.ends (source g e) None)
           (if b then times_of g f (message_item g e) else ends_of g f (source g e))
-      by true m = valued.sends (message_item g e) (let n = parts.0 in omega arith) (omega arith) (let n = ap (place order) (producer_of_message g e parts.0) in omega (arith, n, earlier))
-          (subst (λ x. item_active g s.values x ≡ true) (sym (item_at-message g e parts.0)) (and_from (is_message g e) (live g s.values e) m on))
+      by true m = valued.sends (message_item g e) (let n = parts.0 in omega arith) (omega arith)
+          (let n = ap (place order) (producer_of_message g e parts.0) in omega (arith, n, earlier))
+          (subst (λ x. item_active g s.values x ≡ true) (sym (item_at-message g e parts.0))
+          (and_from (is_message g e) (live g s.values e) m on))
       by false m = valued.ends (source g e) (source_in_order g order topological e parts.0) earlier (and_parts _ _ on).0
 
-  module _ (wait : TreeState ℕ) (waits : IsWaitTree g f (node_of g p) guard wait) (r : ℕ) (is_ready : IsReady g order s t (place order p) (node_of g p) r)
-      (ready : HasValueFrom s (flat_map (passed g rows s) (before_on_node g order p)) r (ready_of g f (node_of g p))) where
+  module _ (wait : TreeState ℕ) (waits : IsWaitTree g f (node_of g p) guard wait) (r : ℕ)
+      (is_ready : IsReady g order s t (place order p) (node_of g p) r)
+      (ready : HasValueFrom s (flat_map (passed g rows s) (before_on_node g order p)) r
+      (ready_of g f (node_of g p))) where
     abbrev waited : ℕ
     waited = max r (greatest (map (heard_there g t (node_of g p)) (way guard s.values)))
 
@@ -134,32 +162,45 @@ module _ (g : Graph) (limits : IsWithinLimits g) (order : List ℕ) (topological
 
     -- the line of the time for which a process waits on its node
     pub wait_line : HasValueFrom s wait_says waited wait
-    wait_line = agrees_weaker s wait (flat_map (passed g rows s) (before_on_node g order p) ++ support_of s (heard_support g order topological rows s (node_of g p)) (way guard s.values)) wait_says
-        (λ z. z ≡ max r (latest_of (heard_delay g (node_of g p)) (heard_time g limits t small (node_of g p)) (way guard s.values))) (λ z. z ≡ waited) within
+    wait_line = agrees_weaker s wait (flat_map (passed g rows s) (before_on_node g order p)
+        ++ support_of s (heard_support g order topological rows s (node_of g p)) (way guard s.values)) wait_says
+        (λ z. z ≡ max r (latest_of (heard_delay g (node_of g p)) (heard_time g limits t small (node_of g p))
+        (way guard s.values))) (λ z. z ≡ waited) within
         (λ z e. e ∙ ap (max r) (latest_heard g limits t small (node_of g p) (way guard s.values)))
-        (waits s few (flat_map (passed g rows s) (before_on_node g order p)) r ready (heard_support g order topological rows s (node_of g p)) (heard_time g limits t small (node_of g p)) heard_valued)
+        (waits s few (flat_map (passed g rows s) (before_on_node g order p)) r ready
+        (heard_support g order topological rows s (node_of g p))
+        (heard_time g limits t small (node_of g p)) heard_valued)
       where
-        within : (x : Literal) → Contains (flat_map (passed g rows s) (before_on_node g order p) ++ support_of s (heard_support g order topological rows s (node_of g p)) (way guard s.values)) x →
+        within : (x : Literal) →
+            Contains (flat_map (passed g rows s) (before_on_node g order p)
+            ++ support_of s (heard_support g order topological rows s (node_of g p)) (way guard s.values)) x →
             Contains wait_says x
         within x j = elim (Contains-append_cases (flat_map (passed g rows s) (before_on_node g order p))
             (support_of s (heard_support g order topological rows s (node_of g p)) (way guard s.values)) x j) [
-              | inl i ↦ Contains-append_left (flat_map (passed g rows s) (before_on_node g order p) ++ decided g s p) (heard g rows s p) x
+              | inl i ↦ Contains-append_left (flat_map (passed g rows s) (before_on_node g order p) ++ decided g s p)
+                  (heard g rows s p) x
                   (Contains-append_left (flat_map (passed g rows s) (before_on_node g order p)) (decided g s p) x i)
-              | inr i ↦ tests_carried g order topological rows s urgency is_urgency urgent p (way guard s.values) on_way x i
+              | inr i ↦
+                  tests_carried g order topological rows s urgency is_urgency urgent p (way guard s.values) on_way x i
             ]
 
     pub leads : outcome_at guard s.values ≡ activation g s.values p
     leads = is_guard.is s.values long
 
-    live_if : (b : Bool) → active g s.values p ≡ b → (e : ℕ) → Contains (awaited (inputs g p) (activation g s.values p)) e → Contains (inputs g p) e × (live g s.values e ≡ true)
-    live_if true on e j = Contains-filter_parts (live g s.values) (inputs g p) e (subst (λ es. Contains es e) (awaits_live g limits order topological joins s long t small p l on) j)
+    live_if : (b : Bool) → active g s.values p ≡ b → (e : ℕ) →
+        Contains (awaited (inputs g p) (activation g s.values p)) e →
+        Contains (inputs g p) e × (live g s.values e ≡ true)
+    live_if true on e j = Contains-filter_parts (live g s.values) (inputs g p) e
+        (subst (λ es. Contains es e) (awaits_live g limits order topological joins s long t small p l on) j)
     live_if false off e j = absurd (none (activation g s.values p) off j)
       where
         none : (a : Activation) → is_active a ≡ false → Contains (awaited (inputs g p) a) e → ⊥
         none a is k = idle_awaits (inputs g p) a is e k
 
-    live_input : (e : ℕ) → Contains (awaited (inputs g p) (outcome_at guard s.values)) e → Contains (inputs g p) e × (live g s.values e ≡ true)
-    live_input e j = live_if (active g s.values p) refl e (subst (λ (a : Activation). Contains (awaited (inputs g p) a) e) leads j)
+    live_input : (e : ℕ) → Contains (awaited (inputs g p) (outcome_at guard s.values)) e →
+        Contains (inputs g p) e × (live g s.values e ≡ true)
+    live_input e j =
+        live_if (active g s.values p) refl e (subst (λ (a : Activation). Contains (awaited (inputs g p) a) e) leads j)
 
     ends_there : (e : ℕ) → Contains (inputs g p) e → node_of g (source g e) ≡ node_of g p ⊎ (is_message g e ≡ true)
     ends_there e j = elim (cases_eq (node_of g (source g e)) (node_of g p)) [
@@ -171,49 +212,69 @@ module _ (g : Graph) (limits : IsWithinLimits g) (order : List ℕ) (topological
     there : AreThere g (input_time g limits t small) waited (awaited (inputs g p) (outcome_at guard s.values))
     there e j own =
         let k = live_input e j in
-        let ended : end_in t (source g e) ≤ r = is_ready.ends (source g e) (source_in_order g order topological e (inputs_parts g p e k.0).0) (input_goes_up g order topological p e k.0)
+        let ended : end_in t (source g e) ≤ r =
+        is_ready.ends (source g e) (source_in_order g order topological e (inputs_parts g p e k.0).0)
+        (input_goes_up g order topological p e k.0)
         (same_node (ends_there e k.0)) (and_parts _ _ k.1).0 in
-        subst (λ (b : Bool). time_later 0 (if b then get_or t.times (message_item g e) None else get_or t.ends (source g e) None) ≤ waited) (sym own)
+        subst (λ (b : Bool). time_later 0
+        (if b then get_or t.times (message_item g e) None else get_or t.ends (source g e) None) ≤ waited) (sym own)
         (omega (arith, later_exact (get_or t.ends (source g e) None) 0 (small.ends (source g e)) (omega arith), ended))
       where
         untrue : true ≡ false → ⊥
         untrue i = cc
 
-        same_node : node_of g (source g e) ≡ node_of g p ⊎ (is_message g e ≡ true) → node_of g (source g e) ≡ node_of g p
+        same_node : node_of g (source g e) ≡ node_of g p ⊎ (is_message g e ≡ true) →
+            node_of g (source g e) ≡ node_of g p
         same_node (inl same) = same
         same_node (inr sends) = absurd (untrue (sym sends ∙ own))
 
     -- the line of a start that isn't frozen
-    pub start_line : (start : TreeState (Option ℕ)) → IsStartTree g f wait (process_at g p).release (inputs g p) guard start → (process_at g p).frozen ≡ false →
-        HasValueFrom s (carried_at_start g order rows s p) (if active g s.values p then Some (max (max waited (process_at g p).release) (greatest (input_bounds g s t p))) else None) start
+    pub start_line : (start : TreeState (Option ℕ)) →
+        IsStartTree g f wait (process_at g p).release (inputs g p) guard start →
+        (process_at g p).frozen ≡ false →
+        HasValueFrom s (carried_at_start g order rows s p) (if active g s.values p
+        then Some (max (max waited (process_at g p).release) (greatest (input_bounds g s t p))) else None) start
     start_line start starts thawed = agrees_weaker s start says (carried_at_start g order rows s p) (λ z. z ≡ at)
-        (λ z. z ≡ (if active g s.values p then Some (max (max waited (process_at g p).release) (greatest (input_bounds g s t p))) else None)) within
-        (λ z e. e ∙ ap (λ (a : Activation). start_at waited (process_at g p).release (input_delay g) (input_time g limits t small) (inputs g p) a) leads ∙
+        (λ z. z ≡ (if active g s.values p
+        then Some (max (max waited (process_at g p).release) (greatest (input_bounds g s t p))) else None)) within
+        (λ z e. e ∙ ap (λ (a : Activation). start_at waited (process_at g p).release (input_delay g)
+        (input_time g limits t small) (inputs g p) a) leads ∙
         start_exact g limits order topological joins s long t small p l waited)
-        (starts s few wait_says waited wait_line (input_support g order topological rows s) (input_time g limits t small) there (λ e j. let k = live_input e j in input_valued e k.0 k.1))
+        (starts s few wait_says waited wait_line (input_support g order topological rows s)
+        (input_time g limits t small) there (λ e j. let k = live_input e j in input_valued e k.0 k.1))
       where
         says : List Literal
-        says = values_known s (way guard s.values) ++ start_says wait_says (input_support g order topological rows s) (inputs g p) (outcome_at guard s.values)
+        says = values_known s (way guard s.values)
+            ++ start_says wait_says (input_support g order topological rows s) (inputs g p) (outcome_at guard s.values)
 
         at : Option ℕ
-        at = start_at waited (process_at g p).release (input_delay g) (input_time g limits t small) (inputs g p) (outcome_at guard s.values)
+        at = start_at waited (process_at g p).release (input_delay g) (input_time g limits t small) (inputs g p)
+            (outcome_at guard s.values)
 
-        of_start : (b : Bool) (x : Literal) → Contains (if b then wait_says ++ flat_map (input_support g order topological rows s) (awaited (inputs g p) (outcome_at guard s.values)) else []) x →
+        of_start : (b : Bool) (x : Literal) →
+            Contains (if b then wait_says ++ flat_map (input_support g order topological rows s)
+            (awaited (inputs g p) (outcome_at guard s.values)) else []) x →
             Contains (carried_at_start g order rows s p) x
         of_start false x j = absurd (Contains-nil x j)
-        of_start true x j = elim (Contains-append_cases wait_says (flat_map (input_support g order topological rows s) (awaited (inputs g p) (outcome_at guard s.values))) x j) [
-          | inl i ↦ start_carried g order topological rows s p thawed x (inl i)
-          | inr i ↦ let r = Contains-flat_map_parts (input_support g order topological rows s) (awaited (inputs g p) (outcome_at guard s.values)) x i in
-              let k = live_input r.0 r.1 in
-              start_carried g order topological rows s p thawed x
-              (inr (input_carried g order topological rows s p r.0 k.0 (ends_there r.0 k.0) (source_in_order g order topological r.0 (inputs_parts g p r.0 k.0).0) (and_parts _ _ k.1).0 x r.2))
-        ]
+        of_start true x j = elim (Contains-append_cases wait_says (flat_map (input_support g order topological rows s)
+            (awaited (inputs g p) (outcome_at guard s.values))) x j) [
+              | inl i ↦ start_carried g order topological rows s p thawed x (inl i)
+              | inr i ↦ let r = Contains-flat_map_parts (input_support g order topological rows s)
+                  (awaited (inputs g p) (outcome_at guard s.values)) x i in
+                  let k = live_input r.0 r.1 in
+                  start_carried g order topological rows s p thawed x
+                  (inr (input_carried g order topological rows s p r.0 k.0 (ends_there r.0 k.0)
+                  (source_in_order g order topological r.0 (inputs_parts g p r.0 k.0).0) (and_parts _ _ k.1).0 x r.2))
+            ]
 
         within : (x : Literal) → Contains says x → Contains (carried_at_start g order rows s p) x
-        within x j = elim (Contains-append_cases (values_known s (way guard s.values)) (start_says wait_says (input_support g order topological rows s) (inputs g p) (outcome_at guard s.values)) x j) [
-          | inl i ↦ let r = Contains-map_parts (value_known s) (way guard s.values) x i in
-              start_carried g order topological rows s p thawed x (inl (Contains-append_left (flat_map (passed g rows s) (before_on_node g order p) ++ decided g s p) (heard g rows s p) x
-              (Contains-append_right (flat_map (passed g rows s) (before_on_node g order p)) (decided g s p) x
-              (subst (Contains (decided g s p)) r.2 (Contains-map (value_known s) (deciding g s.values p) r.0 (on_way r.0 r.1))))))
-          | inr i ↦ of_start (is_active (outcome_at guard s.values)) x i
-        ]
+        within x j = elim (Contains-append_cases (values_known s (way guard s.values)) (start_says wait_says
+            (input_support g order topological rows s) (inputs g p) (outcome_at guard s.values)) x j) [
+              | inl i ↦ let r = Contains-map_parts (value_known s) (way guard s.values) x i in
+                  start_carried g order topological rows s p thawed x (inl (Contains-append_left
+                  (flat_map (passed g rows s) (before_on_node g order p) ++ decided g s p) (heard g rows s p) x
+                  (Contains-append_right (flat_map (passed g rows s) (before_on_node g order p)) (decided g s p) x
+                  (subst (Contains (decided g s p)) r.2
+                  (Contains-map (value_known s) (deciding g s.values p) r.0 (on_way r.0 r.1))))))
+              | inr i ↦ of_start (is_active (outcome_at guard s.values)) x i
+            ]

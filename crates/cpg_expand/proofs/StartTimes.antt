@@ -1,12 +1,14 @@
 -- The times that the trees behind a start tell are those of the run.
-use Rattle.std.proofs.Common.{ℕ, ◌+◌, ◌^◌, ◌<◌, ◌≤◌, ◌≡◌, ◌==◌, max, Bool, true, false, if◌then◌else◌, List, [], ◌∷◌, length, map, filter, get_or, Option, Some, None, unwrap_or, arith, refl, sym, ap}
+use Rattle.std.proofs.Common.{ℕ, ◌+◌, ◌^◌, ◌<◌, ◌≤◌, ◌≡◌, ◌==◌, max, Bool, true, false, if◌then◌else◌, List, [], ◌∷◌}
+use Rattle.std.proofs.Common.{length, map, filter, get_or, Option, Some, None, unwrap_or, arith, refl, sym, ap}
 use Rattle.std.proofs.Common.{ap₂, ◌∙◌, subst}
 use Rattle.std.proofs.lemmas.Bool.{and_parts, cond-true}
 use Rattle.std.specs.List.{list_all}
 use Rattle.cpg_base.specs.Numbers.{greatest}
 use Rattle.cpg_base.specs.Bus.{slot_length}
 use Rattle.cpg_base.specs.Limits.{IsWithinLimits}
-use Rattle.cpg_base.specs.Graph.{Graph, process_at, process_count, condition_count, node_of, source, inputs, is_message, message_item, broadcast_item, process_of, home}
+use Rattle.cpg_base.specs.Graph.{Graph, process_at, process_count, condition_count, node_of, source, inputs, is_message}
+use Rattle.cpg_base.specs.Graph.{message_item, broadcast_item, process_of, home}
 use Rattle.cpg_base.specs.Activity.{activation, activation_by, by_first, active, is_active, live}
 use Rattle.cpg_base.specs.WellFormed.{HasSingleJoins}
 use Rattle.cpg_base.specs.declared.activation.Activation.{Activation}
@@ -23,7 +25,8 @@ use Rattle.cpg_expand.specs.Guarded.{awaited, latest_of, start_at}
 
 -- ---- a delay after a time
 
-pub later_exact : (x : Option ℕ) (delay : ℕ) → unwrap_or x 0 < 2 ^ 59 → delay ≤ 16000000000 → time_later delay x ≡ unwrap_or x 0 + delay
+pub later_exact : (x : Option ℕ) (delay : ℕ) → unwrap_or x 0 < 2 ^ 59 → delay ≤ 16000000000 →
+    time_later delay x ≡ unwrap_or x 0 + delay
 later_exact x delay h k = omega (arith, h, k)
 
 module _ (g : Graph) (limits : IsWithinLimits g) (t : Times) (small : AreSmall t) where
@@ -37,33 +40,44 @@ module _ (g : Graph) (limits : IsWithinLimits g) (t : Times) (small : AreSmall t
   pub input_exact : (e : ℕ) → time_later (input_delay g e) (input_time e) ≡ input_there g t e
   input_exact e = go (is_message g e)
     where
-      go : (b : Bool) → time_later (if b then slot_length g (home g (message_item g e)) else 0) (if b then get_or t.times (message_item g e) None else get_or t.ends (source g e) None) ≡
+      go : (b : Bool) →
+          time_later (if b then slot_length g (home g (message_item g e)) else 0)
+          (if b then get_or t.times (message_item g e) None else get_or t.ends (source g e) None) ≡
           (if b then frame_there g t (message_item g e) else end_in t (source g e))
-      go true = later_exact (get_or t.times (message_item g e) None) (slot_length g (home g (message_item g e))) (small.times (message_item g e)) (slot_short (home g (message_item g e)))
+      go true = later_exact (get_or t.times (message_item g e) None) (slot_length g (home g (message_item g e)))
+          (small.times (message_item g e)) (slot_short (home g (message_item g e)))
       go false = later_exact (get_or t.ends (source g e) None) 0 (small.ends (source g e)) (omega arith) ∙ omega arith
 
   -- what tells when a node hears a condition
   abbrev pub heard_time : ℕ → ℕ → Option ℕ
-  heard_time node c = if node_of g (process_of g c) == node then get_or t.ends (process_of g c) None else get_or t.times (broadcast_item g c) None
+  heard_time node c = if node_of g (process_of g c) == node then get_or t.ends (process_of g c) None
+      else get_or t.times (broadcast_item g c) None
 
   pub heard_exact : (node c : ℕ) → time_later (heard_delay g node c) (heard_time node c) ≡ heard_there g t node c
   heard_exact node c = go (node_of g (process_of g c) == node)
     where
-      go : (b : Bool) → time_later (if b then 0 else slot_length g (home g (broadcast_item g c))) (if b then get_or t.ends (process_of g c) None else get_or t.times (broadcast_item g c) None) ≡
+      go : (b : Bool) →
+          time_later (if b then 0 else slot_length g (home g (broadcast_item g c)))
+          (if b then get_or t.ends (process_of g c) None else get_or t.times (broadcast_item g c) None) ≡
           (if b then end_in t (process_of g c) else frame_there g t (broadcast_item g c))
-      go true = later_exact (get_or t.ends (process_of g c) None) 0 (small.ends (process_of g c)) (omega arith) ∙ omega arith
-      go false = later_exact (get_or t.times (broadcast_item g c) None) (slot_length g (home g (broadcast_item g c))) (small.times (broadcast_item g c)) (slot_short (home g (broadcast_item g c)))
+      go true =
+          later_exact (get_or t.ends (process_of g c) None) 0 (small.ends (process_of g c)) (omega arith) ∙ omega arith
+      go false = later_exact (get_or t.times (broadcast_item g c) None) (slot_length g (home g (broadcast_item g c)))
+          (small.times (broadcast_item g c)) (slot_short (home g (broadcast_item g c)))
 
   -- the latest of these
   pub latest_inputs : (es : List ℕ) → latest_of (input_delay g) input_time es ≡ greatest (map (input_there g t) es)
-  latest_inputs es = ap greatest (same_map (λ e. time_later (input_delay g e) (input_time e)) (input_there g t) es input_exact)
+  latest_inputs es =
+      ap greatest (same_map (λ e. time_later (input_delay g e) (input_time e)) (input_there g t) es input_exact)
     where
       same_map : (f h : ℕ → ℕ) (xs : List ℕ) → ((x : ℕ) → f x ≡ h x) → map f xs ≡ map h xs
       same_map f h [] e = refl
       same_map f h (x ∷ xs) e = ap₂ (λ y ys. y ∷ ys) (e x) (same_map f h xs e)
 
-  pub latest_heard : (node : ℕ) (cs : List ℕ) → latest_of (heard_delay g node) (heard_time node) cs ≡ greatest (map (heard_there g t node) cs)
-  latest_heard node cs = ap greatest (same_map (λ c. time_later (heard_delay g node c) (heard_time node c)) (heard_there g t node) cs (heard_exact node))
+  pub latest_heard : (node : ℕ) (cs : List ℕ) →
+      latest_of (heard_delay g node) (heard_time node) cs ≡ greatest (map (heard_there g t node) cs)
+  latest_heard node cs = ap greatest (same_map (λ c. time_later (heard_delay g node c) (heard_time node c))
+      (heard_there g t node) cs (heard_exact node))
     where
       same_map : (f h : ℕ → ℕ) (xs : List ℕ) → ((x : ℕ) → f x ≡ h x) → map f xs ≡ map h xs
       same_map f h [] e = refl
@@ -73,7 +87,8 @@ module _ (g : Graph) (limits : IsWithinLimits g) (t : Times) (small : AreSmall t
 
 all_kept : (p : ℕ → Bool) (xs : List ℕ) → list_all p xs ≡ true → filter p xs ≡ xs
 all_kept p [] e = refl
-all_kept p (x ∷ xs) e = let r = and_parts (p x) (list_all p xs) e in cond-true (p x) (x ∷ filter p xs) (filter p xs) r.0 ∙ ap (λ ys. x ∷ ys) (all_kept p xs r.1)
+all_kept p (x ∷ xs) e = let r = and_parts (p x) (list_all p xs) e in
+    cond-true (p x) (x ∷ filter p xs) (filter p xs) r.0 ∙ ap (λ ys. x ∷ ys) (all_kept p xs r.1)
 
 untrue : false ≡ true → ⊥
 untrue e = cc
@@ -83,33 +98,43 @@ awaited_first xs [] l on = absurd (untrue on)
 awaited_first xs (y ∷ []) l on = refl
 awaited_first xs (y ∷ z ∷ zs) l on = absurd (omega (arith, l))
 
-awaited_all : (is_live : ℕ → Bool) (xs : List ℕ) (b : Bool) → list_all is_live xs ≡ b → is_active (if b then Plain else Inactive) ≡ true →
+awaited_all : (is_live : ℕ → Bool) (xs : List ℕ) (b : Bool) → list_all is_live xs ≡ b →
+    is_active (if b then Plain else Inactive) ≡ true →
     awaited xs (if b then Plain else Inactive) ≡ filter is_live xs
 awaited_all is_live xs true e on = sym (all_kept is_live xs e)
 awaited_all is_live xs false e on = absurd (untrue on)
 
-pub awaited_is : (join : Bool) (xs : List ℕ) (is_live : ℕ → Bool) → (join ≡ true → length (filter is_live xs) ≤ 1) → is_active (activation_by join xs is_live) ≡ true →
+pub awaited_is : (join : Bool) (xs : List ℕ) (is_live : ℕ → Bool) → (join ≡ true → length (filter is_live xs) ≤ 1) →
+    is_active (activation_by join xs is_live) ≡ true →
     awaited xs (activation_by join xs is_live) ≡ filter is_live xs
 awaited_is true [] is_live h on = refl
 awaited_is false [] is_live h on = refl
 awaited_is true (e ∷ es) is_live h on = awaited_first (e ∷ es) (filter is_live (e ∷ es)) (h refl) on
 awaited_is false (e ∷ es) is_live h on = awaited_all is_live (e ∷ es) (list_all is_live (e ∷ es)) refl on
 
-module _ (g : Graph) (limits : IsWithinLimits g) (order : List ℕ) (topological : IsTopological g order) (joins : HasSingleJoins g) (s : Scenario) (long : length s.values ≡ condition_count g)
+module _ (g : Graph) (limits : IsWithinLimits g) (order : List ℕ) (topological : IsTopological g order)
+    (joins : HasSingleJoins g) (s : Scenario) (long : length s.values ≡ condition_count g)
     (t : Times) (small : AreSmall t) (p : ℕ) (l : p < process_count g) where
-  pub awaits_live : active g s.values p ≡ true → awaited (inputs g p) (activation g s.values p) ≡ filter (live g s.values) (inputs g p)
+  pub awaits_live : active g s.values p ≡ true →
+      awaited (inputs g p) (activation g s.values p) ≡ filter (live g s.values) (inputs g p)
   awaits_live on =
       let is = activation_is g order topological s.values p (omega (arith, l)) in
-      ap (awaited (inputs g p)) is ∙ awaited_is (process_at g p).join (inputs g p) (live g s.values) (λ e. joins p s.values l e long) (subst (λ (a : Activation). is_active a ≡ true) is on)
+      ap (awaited (inputs g p)) is ∙ awaited_is (process_at g p).join (inputs g p) (live g s.values)
+      (λ e. joins p s.values l e long) (subst (λ (a : Activation). is_active a ≡ true) is on)
 
   -- the start that the trees tell, if the node would be ready at a time
-  pub start_exact : (w : ℕ) → start_at w (process_at g p).release (input_delay g) (input_time g limits t small) (inputs g p) (activation g s.values p)
-      ≡ (if active g s.values p then Some (max (max w (process_at g p).release) (greatest (input_bounds g s t p))) else None)
+  pub start_exact : (w : ℕ) →
+      start_at w (process_at g p).release (input_delay g) (input_time g limits t small) (inputs g p)
+      (activation g s.values p)
+      ≡ (if active g s.values p
+      then Some (max (max w (process_at g p).release) (greatest (input_bounds g s t p))) else None)
   start_exact w = go (active g s.values p) refl
     where
       go : (b : Bool) → active g s.values p ≡ b →
-          (if b then Some (max (max w (process_at g p).release) (latest_of (input_delay g) (input_time g limits t small) (awaited (inputs g p) (activation g s.values p)))) else None)
+          (if b then Some (max (max w (process_at g p).release) (latest_of (input_delay g) (input_time g limits t small)
+          (awaited (inputs g p) (activation g s.values p)))) else None)
           ≡ (if b then Some (max (max w (process_at g p).release) (greatest (input_bounds g s t p))) else None)
       go true e = ap (λ n. Some (max (max w (process_at g p).release) n))
-          (latest_inputs g limits t small (awaited (inputs g p) (activation g s.values p)) ∙ ap (λ es. greatest (map (input_there g t) es)) (awaits_live e))
+          (latest_inputs g limits t small (awaited (inputs g p) (activation g s.values p))
+          ∙ ap (λ es. greatest (map (input_there g t) es)) (awaits_live e))
       go false e = refl

@@ -1,11 +1,13 @@
 -- The time of a start that isn't frozen, and the end after it, are the run's.
-use Rattle.std.proofs.Common.{ℕ, ◌+◌, ◌^◌, ◌<◌, ◌≤◌, ◌≡◌, nat_lt, max, Bool, true, false, if◌then◌else◌, List, ◌∷◌, length, map, filter, get_or, Option, Some, None, unwrap_or, option_map}
+use Rattle.std.proofs.Common.{ℕ, ◌+◌, ◌^◌, ◌<◌, ◌≤◌, ◌≡◌, nat_lt, max, Bool, true, false, if◌then◌else◌, List, ◌∷◌}
+use Rattle.std.proofs.Common.{length, map, filter, get_or, Option, Some, None, unwrap_or, option_map}
 use Rattle.std.proofs.Common.{option_to_list, Contains, arith, le-ltb, lt-ltb, refl, sym, ap, ◌∙◌, subst}
 use Rattle.std.proofs.lemmas.Bool.{cond-true, cond-false}
 use Rattle.cpg_base.specs.Numbers.{greatest, numbers_below}
 use Rattle.cpg_base.specs.Limits.{IsWithinLimits}
 use Rattle.cpg_base.specs.Duration.{duration}
-use Rattle.cpg_base.specs.Graph.{Graph, process_at, process_count, condition_count, item_count, node_of, inputs, producer}
+use Rattle.cpg_base.specs.Graph.{Graph, process_at, process_count, condition_count, item_count, node_of, inputs}
+use Rattle.cpg_base.specs.Graph.{producer}
 use Rattle.cpg_base.specs.Activity.{active, item_active, live}
 use Rattle.cpg_base.specs.Scenario.{IsScenario, Scenario, fault_of, number_of}
 use Rattle.cpg_base.proofs.Items.{item_at-start}
@@ -15,7 +17,8 @@ use Rattle.cpg_base.specs.Order.{place}
 use Rattle.cpg_order.specs.Deciding.{decides}
 use Rattle.cpg_order.specs.Guard.{Guard, way, IsGuardOf}
 use Rattle.cpg_rules.proofs.Ways.{ways_are_deciding}
-use Rattle.cpg_run.specs.Run.{Times, IsRun, end_in, input_bounds, input_there, heard_there, unfrozen_time, time_by, end_by}
+use Rattle.cpg_run.specs.Run.{Times, IsRun, end_in, input_bounds, input_there, heard_there, unfrozen_time, time_by}
+use Rattle.cpg_run.specs.Run.{end_by}
 use Rattle.cpg_base.proofs.Durations.{duration_short}
 use Rattle.cpg_cube.specs.Column.{Column}
 use Rattle.cpg_run.specs.Carried.{carried_at_start, carried_at_end}
@@ -34,7 +37,8 @@ use Rattle.cpg_run.proofs.Starts.{known_input, known_heard_of, decided_sooner, s
 -- what is known of a run before a place
 settled : Graph → List ℕ → Times → ℕ → Times
 settled g order t i = record {
-  times = map (λ x. if nat_lt (place order (producer g x)) i then get_or t.times x None else None) (numbers_below (item_count g));
+  times = map (λ x. if nat_lt (place order (producer g x)) i then get_or t.times x None else None)
+      (numbers_below (item_count g));
   ends = map (λ p. if nat_lt (place order p) i then get_or t.ends p None else None) (numbers_below (process_count g));
   finish = 0;
 }
@@ -42,23 +46,30 @@ settled g order t i = record {
 settled_knows : (g : Graph) (order : List ℕ) (t : Times) (i : ℕ) → Knows g order t i (settled g order t i)
 unfolding settled
 settled_knows g order t i = record {
-  times = λ x l h. get_or-map-below (λ x. if nat_lt (place order (producer g x)) i then get_or t.times x None else None) (item_count g) x None l ∙
+  times = λ x l h. get_or-map-below (λ x. if nat_lt (place order (producer g x)) i then get_or t.times x None else None)
+      (item_count g) x None l ∙
       cond-true _ (get_or t.times x None) None (lt-ltb (place order (producer g x)) i h);
-  later = λ x l h. get_or-map-below (λ x. if nat_lt (place order (producer g x)) i then get_or t.times x None else None) (item_count g) x None l ∙
+  later = λ x l h. get_or-map-below (λ x. if nat_lt (place order (producer g x)) i then get_or t.times x None else None)
+      (item_count g) x None l ∙
       cond-false _ (get_or t.times x None) None (le-ltb (place order (producer g x)) i h);
-  ends = λ p l h. get_or-map-below (λ p. if nat_lt (place order p) i then get_or t.ends p None else None) (process_count g) p None l ∙
+  ends = λ p l h. get_or-map-below (λ p. if nat_lt (place order p) i then get_or t.ends p None else None)
+      (process_count g) p None l ∙
       cond-true _ (get_or t.ends p None) None (lt-ltb (place order p) i h);
-  no_ends = λ p l h. get_or-map-below (λ p. if nat_lt (place order p) i then get_or t.ends p None else None) (process_count g) p None l ∙
+  no_ends = λ p l h. get_or-map-below (λ p. if nat_lt (place order p) i then get_or t.ends p None else None)
+      (process_count g) p None l ∙
       cond-false _ (get_or t.ends p None) None (le-ltb (place order p) i h);
 }
 
 -- an option that is there by a test
-by_test : (b : Bool) (n m : ℕ) (o : Option ℕ) → o ≡ (if b then Some n else None) → (b ≡ true → m ≡ unwrap_or o 0) → (if b then Some m else None) ≡ o
+by_test : (b : Bool) (n m : ℕ) (o : Option ℕ) → o ≡ (if b then Some n else None) → (b ≡ true → m ≡ unwrap_or o 0) →
+    (if b then Some m else None) ≡ o
 by_test true n m o is e = ap (λ k. Some k) (e refl ∙ ap (λ p. unwrap_or p 0) is) ∙ sym is
 by_test false n m o is e = sym is
 
-module _ (g : Graph) (order : List ℕ) (topological : IsTopological g order) (urgency : List ℕ) (is_urgency : IsUrgencyOrder g urgency) (urgent : IsTopological g urgency) (frozen : List (Option ℕ))
-    (s : Scenario) (long : length s.values ≡ condition_count g) (t : Times) (run : IsRun g order frozen s t) (p : ℕ) (l : p < process_count g) (guard : Guard) (is_guard : IsGuardOf g urgency p guard)
+module _ (g : Graph) (order : List ℕ) (topological : IsTopological g order) (urgency : List ℕ)
+    (is_urgency : IsUrgencyOrder g urgency) (urgent : IsTopological g urgency) (frozen : List (Option ℕ))
+    (s : Scenario) (long : length s.values ≡ condition_count g) (t : Times) (run : IsRun g order frozen s t) (p : ℕ)
+    (l : p < process_count g) (guard : Guard) (is_guard : IsGuardOf g urgency p guard)
     (r : ℕ) (ready : IsReady g order s t (place order p) (node_of g p) r) where
   known : Times
   known = settled g order t (place order p)
@@ -68,14 +79,20 @@ module _ (g : Graph) (order : List ℕ) (topological : IsTopological g order) (u
   knows = settled_knows g order t (place order p)
 
   -- when the node has heard all that decides the process
-  pub most : IsMost (λ c. (c < condition_count g) × (decides g s.values p c ≡ true)) (heard_there g t (node_of g p)) (greatest (map (heard_there g t (node_of g p)) (way guard s.values)))
-  most = most_deciding (heard_there g t (node_of g p)) g urgency urgent s.values p (greatest (map (heard_there g t (node_of g p)) (way guard s.values)))
-      (ap (λ cs. greatest (map (heard_there g t (node_of g p)) cs)) (ways_are_deciding g urgency p guard s.values is_urgency urgent is_guard long))
+  pub most : IsMost (λ c. (c < condition_count g) × (decides g s.values p c ≡ true)) (heard_there g t (node_of g p))
+      (greatest (map (heard_there g t (node_of g p)) (way guard s.values)))
+  most = most_deciding (heard_there g t (node_of g p)) g urgency urgent s.values p
+      (greatest (map (heard_there g t (node_of g p)) (way guard s.values)))
+      (ap (λ cs. greatest (map (heard_there g t (node_of g p)) cs))
+      (ways_are_deciding g urgency p guard s.values is_urgency urgent is_guard long))
 
-  same_heard : (c : ℕ) → c < condition_count g → decides g s.values p c ≡ true → heard_there g known (node_of g p) c ≡ heard_there g t (node_of g p) c
-  same_heard c low d = known_heard_of g order t (place order p) known knows (node_of g p) c low (decided_sooner g order t (place order p) known knows topological s p l refl p c (omega arith) low d)
+  same_heard : (c : ℕ) → c < condition_count g → decides g s.values p c ≡ true →
+      heard_there g known (node_of g p) c ≡ heard_there g t (node_of g p) c
+  same_heard c low d = known_heard_of g order t (place order p) known knows (node_of g p) c low
+      (decided_sooner g order t (place order p) known knows topological s p l refl p c (omega arith) low d)
 
-  most_known : IsMost (λ c. (c < condition_count g) × (decides g s.values p c ≡ true)) (heard_there g known (node_of g p)) (greatest (map (heard_there g t (node_of g p)) (way guard s.values)))
+  most_known : IsMost (λ c. (c < condition_count g) × (decides g s.values p c ≡ true))
+      (heard_there g known (node_of g p)) (greatest (map (heard_there g t (node_of g p)) (way guard s.values)))
   most_known = record {
     above = λ c d. omega (arith, most.above c d, same_heard c d.0 d.1);
     least = λ b h. most.least b (λ c d. omega (arith, h c d, same_heard c d.0 d.1));
@@ -83,43 +100,56 @@ module _ (g : Graph) (order : List ℕ) (topological : IsTopological g order) (u
 
   same_inputs : greatest (input_bounds g s known p) ≡ greatest (input_bounds g s t p)
   same_inputs =
-      let same = λ (e : ℕ) (j : Contains (filter (live g s.values) (inputs g p)) e). known_input g order t (place order p) known knows topological s p l refl e
+      let same = λ (e : ℕ) (j : Contains (filter (live g s.values) (inputs g p)) e).
+      known_input g order t (place order p) known knows topological s p l refl e
       (Contains-filter_parts (live g s.values) (inputs g p) e j).0 in
       omega (
         arith,
-        greatest-map-le (input_there g known) (input_there g t) (filter (live g s.values) (inputs g p)) (λ e j. omega (arith, same e j)),
-        greatest-map-le (input_there g t) (input_there g known) (filter (live g s.values) (inputs g p)) (λ e j. omega (arith, same e j)),
+        greatest-map-le (input_there g known) (input_there g t) (filter (live g s.values) (inputs g p))
+            (λ e j. omega (arith, same e j)),
+        greatest-map-le (input_there g t) (input_there g known) (filter (live g s.values) (inputs g p))
+            (λ e j. omega (arith, same e j)),
       )
 
   abbrev pub waited : ℕ
   waited = max r (greatest (map (heard_there g t (node_of g p)) (way guard s.values)))
 
   time_at : get_or t.times p None ≡ time_by g order frozen s t p
-  time_at = ap (λ ts. get_or ts p None) run.times ∙ get_or-map-below (time_by g order frozen s t) (item_count g) p None (omega (arith, l))
+  time_at = ap (λ ts. get_or ts p None) run.times
+      ∙ get_or-map-below (time_by g order frozen s t) (item_count g) p None (omega (arith, l))
 
   -- an active process waits no longer than until it ends
   pub waited_ends : active g s.values p ≡ true → waited ≤ end_in t p
   waited_ends on =
-      let found = start_is g order t (place order p) known knows topological s p l refl frozen run on r (greatest (map (heard_there g t (node_of g p)) (way guard s.values))) ready most_known in
+      let found = start_is g order t (place order p) known knows topological s p l refl frozen run on r
+      (greatest (map (heard_there g t (node_of g p)) (way guard s.values))) ready most_known in
       let ends = end_active g order frozen s t run p l on in
       omega (arith, found, ends)
 
   -- the start that the trees tell is the run's
-  pub start_value : get_or frozen p None ≡ None → (if active g s.values p then Some (max (max waited (process_at g p).release) (greatest (input_bounds g s t p))) else None) ≡ get_or t.times p None
-  start_value thawed = by_test (active g s.values p) (greatest (unfrozen_time g order s t p ∷ option_to_list (get_or frozen p None)))
+  pub start_value : get_or frozen p None ≡ None →
+      (if active g s.values p then Some (max (max waited (process_at g p).release) (greatest (input_bounds g s t p)))
+      else None) ≡ get_or t.times p None
+  start_value thawed =
+      by_test (active g s.values p) (greatest (unfrozen_time g order s t p ∷ option_to_list (get_or frozen p None)))
       (max (max waited (process_at g p).release) (greatest (input_bounds g s t p))) (get_or t.times p None)
-      (time_at ∙ ap (λ (b : Bool). if b then Some (greatest (unfrozen_time g order s t p ∷ option_to_list (get_or frozen p None))) else None) (ap (item_active g s.values) (item_at-start g p l)))
+      (time_at ∙ ap (λ (b : Bool). if b
+      then Some (greatest (unfrozen_time g order s t p ∷ option_to_list (get_or frozen p None))) else None)
+      (ap (item_active g s.values) (item_at-start g p l)))
       (λ on.
-      let found = start_is g order t (place order p) known knows topological s p l refl frozen run on r (greatest (map (heard_there g t (node_of g p)) (way guard s.values))) ready most_known in
+      let found = start_is g order t (place order p) known knows topological s p l refl frozen run on r
+      (greatest (map (heard_there g t (node_of g p)) (way guard s.values))) ready most_known in
       omega (arith, found, same_inputs, ap (λ o. unwrap_or o 0) thawed))
 
 -- ---- ends
 
-ended_by : (ds : List ℕ) (n d : ℕ) (o : Option ℕ) → get_or ds n 0 ≡ d → d < 2 ^ 40 → unwrap_or o 0 < 2 ^ 59 → ended ds n o ≡ option_map (λ start. start + d) o
+ended_by : (ds : List ℕ) (n d : ℕ) (o : Option ℕ) → get_or ds n 0 ≡ d → d < 2 ^ 40 → unwrap_or o 0 < 2 ^ 59 →
+    ended ds n o ≡ option_map (λ start. start + d) o
 ended_by ds n d None e h k = refl
 ended_by ds n d (Some start) e h k = ap (λ m. Some m) (omega (arith, e, h, k))
 
-module _ (g : Graph) (limits : IsWithinLimits g) (order : List ℕ) (frozen : List (Option ℕ)) (s : Scenario) (law : IsScenario g s) (t : Times) (run : IsRun g order frozen s t) (small : AreSmall t)
+module _ (g : Graph) (limits : IsWithinLimits g) (order : List ℕ) (frozen : List (Option ℕ)) (s : Scenario)
+    (law : IsScenario g s) (t : Times) (run : IsRun g order frozen s t) (small : AreSmall t)
     (p : ℕ) (l : p < process_count g) (few : fault_of s p ≤ g.faults) where
   count_is : number_of s p ≡ fault_of s p
   count_is = cond-true _ (fault_of s p) _ (lt-ltb p 128 (let m = limits.few_processes in omega arith))
@@ -127,12 +157,16 @@ module _ (g : Graph) (limits : IsWithinLimits g) (order : List ℕ) (frozen : Li
   -- the end that the trees tell is the run's
   pub end_value : ended (durations_of g p) (number_of s p) (get_or t.times p None) ≡ get_or t.ends p None
   end_value = ap (λ n. ended (durations_of g p) n (get_or t.times p None)) count_is
-      ∙ ended_by (durations_of g p) (fault_of s p) (duration g p (fault_of s p)) (get_or t.times p None) (get_or-map-below (duration g p) (g.faults + 1) (fault_of s p) 0 (omega (arith, few)))
+      ∙ ended_by (durations_of g p) (fault_of s p) (duration g p (fault_of s p)) (get_or t.times p None)
+      (get_or-map-below (duration g p) (g.faults + 1) (fault_of s p) 0 (omega (arith, few)))
       (duration_short g limits p (fault_of s p) l few) (small.times p)
       ∙ sym (ap (λ es. get_or es p None) run.ends ∙ get_or-map-below (end_by g s t) (process_count g) p None l)
 
   -- the line of an end
-  pub end_line : (rows : List (List Column)) (start end : TreeState (Option ℕ)) → HasAtMostFaults g.faults s → IsEndTree g p start end →
-      HasValueFrom s (carried_at_start g order rows s p) (get_or t.times p None) start → HasValueFrom s (carried_at_end g order rows s p) (get_or t.ends p None) end
-  end_line rows start end few ends starts = subst (λ (o : Option ℕ). HasValueFrom s (carried_at_end g order rows s p) o end) end_value
+  pub end_line : (rows : List (List Column)) (start end : TreeState (Option ℕ)) → HasAtMostFaults g.faults s →
+      IsEndTree g p start end →
+      HasValueFrom s (carried_at_start g order rows s p) (get_or t.times p None) start →
+      HasValueFrom s (carried_at_end g order rows s p) (get_or t.ends p None) end
+  end_line rows start end few ends starts =
+      subst (λ (o : Option ℕ). HasValueFrom s (carried_at_end g order rows s p) o end) end_value
       (ends s few (carried_at_start g order rows s p) (get_or t.times p None) starts)

@@ -1,5 +1,6 @@
 -- Starts that are made only where a process is active.
-use Rattle.std.proofs.Common.{ℕ, ◌≡◌, max, Bool, true, false, if◌then◌else◌, List, [], ◌∷◌, ◌++◌, get_or, Option, Some, None, All, Contains, refl, sym, ap₂, ap, ◌∙◌, subst, arith, inl, inr}
+use Rattle.std.proofs.Common.{ℕ, ◌≡◌, max, Bool, true, false, if◌then◌else◌, List, [], ◌∷◌, ◌++◌, get_or, Option, Some}
+use Rattle.std.proofs.Common.{None, All, Contains, refl, sym, ap₂, ap, ◌∙◌, subst, arith, inl, inr}
 use Rattle.std.proofs.lemmas.List.Elements.{Contains-append_cases, Contains-append_left, Contains-append_right}
 use Rattle.cpg_base.specs.Bus.{slot_length}
 use Rattle.cpg_base.specs.Graph.{Graph, source, is_message, message_item, home}
@@ -16,113 +17,162 @@ use Rattle.cpg_tree.specs.Tree.{TreeState, IsConstant, IsJoinWhere, IsPick}
 use Rattle.cpg_expand.specs.Agreeing.{Agrees, HasValueFrom, IsTree}
 use Rattle.cpg_expand.specs.Descent.{AreLeaves}
 use Rattle.cpg_expand.specs.Forest.{ForestState, ends_of, input_delay, input_tree, later_tree, times_of}
-use Rattle.cpg_expand.specs.Guarded.{AreThere, IsActiveTree, IsStartAfter, IsStartTree, IsStartWhere, WaitsForAll, awaited, start_at, start_says, values_known}
+use Rattle.cpg_expand.specs.Guarded.{AreThere, IsActiveTree, IsStartAfter, IsStartTree, IsStartWhere, WaitsForAll}
+use Rattle.cpg_expand.specs.Guarded.{awaited, start_at, start_says, values_known}
 use Rattle.cpg_expand.specs.Later.{IsLaterTree, IsLatest, IsReleasedWhere}
 use Rattle.cpg_expand.specs.Values.{time_later}
 use Rattle.cpg_expand.proofs.AgreeingTrees.{agrees_constant, agrees_elsewhere, agrees_pick, agrees_weaker, agrees_where}
-use Rattle.cpg_expand.proofs.GuardTrees.{as_read, each_of, few_of, from_ends, last_input, one_input, own_input, support_as_first}
+use Rattle.cpg_expand.proofs.GuardTrees.{as_read, each_of, few_of, from_ends, last_input, one_input, own_input}
+use Rattle.cpg_expand.proofs.GuardTrees.{support_as_first}
 
 -- ---- the later of two where a chooser is true
 
-module _ {T U V : Type 0} (g : Graph) (number : T → ℕ) (other_number : U → ℕ) (makes : ℕ → V) (none : V) (chooser : TreeState Bool) (a : TreeState T) (b : TreeState U) (t : TreeState V)
-    (of_chooser : IsTree g chooser) (of_a : IsTree g a) (of_b : IsTree g b) (made : IsJoinWhere (λ x y z. z ≡ makes (max (number x) (other_number y))) none chooser a b t)
+module _ {T U V : Type 0} (g : Graph) (number : T → ℕ) (other_number : U → ℕ) (makes : ℕ → V) (none : V)
+    (chooser : TreeState Bool) (a : TreeState T) (b : TreeState U) (t : TreeState V)
+    (of_chooser : IsTree g chooser) (of_a : IsTree g a) (of_b : IsTree g b)
+    (made : IsJoinWhere (λ x y z. z ≡ makes (max (number x) (other_number y))) none chooser a b t)
     (s : Scenario) (few : HasAtMostFaults g.faults s) (given : List Literal) where
-  made_where : (first second : List Literal) (x y : ℕ) → HasValueFrom s given true chooser → Agrees s first (λ v. number v ≡ x) a → Agrees s second (λ w. other_number w ≡ y) b →
+  made_where : (first second : List Literal) (x y : ℕ) → HasValueFrom s given true chooser →
+      Agrees s first (λ v. number v ≡ x) a →
+      Agrees s second (λ w. other_number w ≡ y) b →
       HasValueFrom s (given ++ (first ++ second)) (makes (max x y)) t
   made_where first second x y on has_value other =
-      agrees_where s (λ v w z. z ≡ makes (max (number v) (other_number w))) none chooser a b t given first second (λ v. number v ≡ x) (λ w. other_number w ≡ y) (λ z. z ≡ makes (max x y))
-      (few_of g.faults chooser.faults s of_chooser.faults few) (of_a.faults ∙ sym of_chooser.faults) (of_b.faults ∙ sym of_chooser.faults)
-      (each_of g chooser.faults chooser of_chooser.faults of_chooser) (each_of g chooser.faults a of_chooser.faults of_a) (each_of g chooser.faults b of_chooser.faults of_b)
+      agrees_where s (λ v w z. z ≡ makes (max (number v) (other_number w))) none chooser a b t given first second
+      (λ v. number v ≡ x) (λ w. other_number w ≡ y) (λ z. z ≡ makes (max x y))
+      (few_of g.faults chooser.faults s of_chooser.faults few) (of_a.faults ∙ sym of_chooser.faults)
+      (of_b.faults ∙ sym of_chooser.faults)
+      (each_of g chooser.faults chooser of_chooser.faults of_chooser)
+      (each_of g chooser.faults a of_chooser.faults of_a) (each_of g chooser.faults b of_chooser.faults of_b)
       made (λ v w z d e i. i ∙ ap₂ (λ m n. makes (max m n)) d e) on has_value other
 
   -- what the second tells stands first
-  made_where_turned : (first second : List Literal) (x y : ℕ) → HasValueFrom s given true chooser → Agrees s first (λ v. number v ≡ x) a → Agrees s second (λ w. other_number w ≡ y) b →
+  made_where_turned : (first second : List Literal) (x y : ℕ) → HasValueFrom s given true chooser →
+      Agrees s first (λ v. number v ≡ x) a →
+      Agrees s second (λ w. other_number w ≡ y) b →
       HasValueFrom s (given ++ (second ++ first)) (makes (max y x)) t
   made_where_turned first second x y on has_value other =
-      agrees_weaker s t (given ++ (first ++ second)) (given ++ (second ++ first)) (λ z. z ≡ makes (max x y)) (λ z. z ≡ makes (max y x))
+      agrees_weaker s t (given ++ (first ++ second)) (given ++ (second ++ first)) (λ z. z ≡ makes (max x y))
+      (λ z. z ≡ makes (max y x))
       (support_as_first given (first ++ second) (second ++ first)
-      (λ l j. elim (Contains-append_cases first second l j) [ inl i ↦ Contains-append_right second first l i | inr i ↦ Contains-append_left second first l i ]))
-      (λ z e. e ∙ ap makes (let same : max x y ≡ max y x = omega arith in same)) (made_where first second x y on has_value other)
+      (λ l j. elim (Contains-append_cases first second l j) [
+        | inl i ↦ Contains-append_right second first l i
+        | inr i ↦ Contains-append_left second first l i
+      ]))
+      (λ z e. e ∙ ap makes (let same : max x y ≡ max y x = omega arith in same))
+      (made_where first second x y on has_value other)
 
   made_elsewhere : HasValueFrom s given false chooser → HasValueFrom s given none t
-  made_elsewhere off = agrees_elsewhere s (λ v w z. z ≡ makes (max (number v) (other_number w))) none chooser a b t given
-      (few_of g.faults chooser.faults s of_chooser.faults few) (each_of g chooser.faults chooser of_chooser.faults of_chooser) made off
+  made_elsewhere off =
+      agrees_elsewhere s (λ v w z. z ≡ makes (max (number v) (other_number w))) none chooser a b t given
+      (few_of g.faults chooser.faults s of_chooser.faults few)
+      (each_of g chooser.faults chooser of_chooser.faults of_chooser) made off
 
 -- the value of a tree that is read of a forest
-module _ (g : Graph) (release delay d : ℕ) (same_delay : delay ≡ d) (times read : TreeState (Option ℕ)) (is : times ≡ read) (of_times : IsTree g times) (chooser : TreeState Bool)
+module _ (g : Graph) (release delay d : ℕ) (same_delay : delay ≡ d) (times read : TreeState (Option ℕ))
+    (is : times ≡ read) (of_times : IsTree g times) (chooser : TreeState Bool)
     (of_chooser : IsTree g chooser) where
   abbrev start_of : ℕ → Option ℕ
   start_of n = Some (max n release)
 
   -- the value of a tree that is read of a forest and of another tree
-  pub read_where : (wait : TreeState ℕ) (t : TreeState (Option ℕ)) → IsTree g wait → IsJoinWhere (λ x y z. z ≡ Some (max (max x (time_later delay y)) release)) None chooser wait times t →
+  pub read_where : (wait : TreeState ℕ) (t : TreeState (Option ℕ)) → IsTree g wait →
+      IsJoinWhere (λ x y z. z ≡ Some (max (max x (time_later delay y)) release)) None chooser wait times t →
       IsReleasedWhere g.faults chooser wait (later_by d read) release t
   read_where wait t of_wait made = record {
     on = λ s few given first second x y on has_value there.
-        made_where g (λ n. n) (time_later delay) start_of None chooser wait times t of_chooser of_wait of_times made s few given first second x y on has_value
+        made_where g (λ n. n) (time_later delay) start_of None chooser wait times t of_chooser of_wait of_times made s
+        few given first second x y on has_value
         (as_read g start_of delay d same_delay times read is of_times s second y there);
-    off = λ s few given off. made_elsewhere g (λ n. n) (time_later delay) start_of None chooser wait times t of_chooser of_wait of_times made s few given off;
+    off = λ s few given off. made_elsewhere g (λ n. n)
+        (time_later delay) start_of None chooser wait times t of_chooser of_wait of_times made s few given off;
   }
 
   -- the value of a tree that is read of a forest and of ends
   pub ends_where : (end read_end t : TreeState (Option ℕ)) → end ≡ read_end → IsTree g end →
-      IsJoinWhere (λ x y z. z ≡ Some (max (max (time_later delay x) (time_later 0 y)) release)) None chooser times end t →
+      IsJoinWhere (λ x y z. z ≡ Some (max (max (time_later delay x) (time_later 0 y)) release)) None
+      chooser times end t →
       IsReleasedWhere g.faults chooser (later_tree read_end) (later_by d read) release t
   ends_where end read_end t is_end of_end made = record {
     on = λ s few given first second x y on has_value there.
-        made_where_turned g (time_later delay) (time_later 0) start_of None chooser times end t of_chooser of_times of_end made s few given second first y x on
+        made_where_turned g (time_later delay) (time_later 0) start_of None chooser times end t of_chooser of_times
+        of_end made s few given second first y x on
         (as_read g start_of delay d same_delay times read is of_times s second y there)
-        (from_ends s end first x (subst (λ (u : TreeState (Option ℕ)). HasValueFrom s first x (later_tree u)) (sym is_end) has_value));
-    off = λ s few given off. made_elsewhere g (time_later delay) (time_later 0) start_of None chooser times end t of_chooser of_times of_end made s few given off;
+        (from_ends s end first x
+        (subst (λ (u : TreeState (Option ℕ)). HasValueFrom s first x (later_tree u)) (sym is_end) has_value));
+    off = λ s few given off. made_elsewhere g (time_later delay)
+        (time_later 0) start_of None chooser times end t of_chooser of_times of_end made s few given off;
   }
 
 -- a frame that brings an input
-pub input_where : (g : Graph) (f : ForestState) (e release : ℕ) (chooser : TreeState Bool) (wait : TreeState ℕ) (t : TreeState (Option ℕ)) → is_message g e ≡ true →
-    IsReleasedWhere g.faults chooser wait (later_by (slot_length g (home g (message_item g e))) (times_of g f (message_item g e))) release t →
+pub input_where : (g : Graph) (f : ForestState) (e release : ℕ) (chooser : TreeState Bool) (wait : TreeState ℕ)
+    (t : TreeState (Option ℕ)) →
+    is_message g e ≡ true →
+    IsReleasedWhere g.faults chooser wait
+    (later_by (slot_length g (home g (message_item g e))) (times_of g f (message_item g e))) release t →
     IsReleasedWhere g.faults chooser wait (later_by (input_delay g e) (input_tree g f e)) release t
 input_where g f e release chooser wait t message starts =
     subst (λ (d : Bool). IsReleasedWhere g.faults chooser wait
-    (later_by (if d then slot_length g (home g (message_item g e)) else 0) (if d then times_of g f (message_item g e) else ends_of g f (source g e))) release t) (sym message) starts
+    (later_by (if d then slot_length g (home g (message_item g e)) else 0)
+    (if d then times_of g f (message_item g e) else ends_of g f (source g e))) release t) (sym message) starts
 
 -- ---- starts after inputs
 
-module _ (g : Graph) (f : ForestState) (chooser : TreeState Bool) (wait : TreeState ℕ) (t : TreeState (Option ℕ)) (release : ℕ) where
+module _ (g : Graph) (f : ForestState) (chooser : TreeState Bool) (wait : TreeState ℕ) (t : TreeState (Option ℕ))
+    (release : ℕ) where
   -- none
-  pub picked_where : (start never : TreeState (Option ℕ)) → IsTree g chooser → IsTree g start → IsTree g never → IsStartAfter g f wait release [] start → IsConstant None g.faults never →
+  pub picked_where : (start never : TreeState (Option ℕ)) → IsTree g chooser → IsTree g start → IsTree g never →
+      IsStartAfter g f wait release [] start →
+      IsConstant None g.faults never →
       IsPick chooser start never t →
       IsStartWhere g f chooser wait release [] t
   picked_where start never of_chooser of_start of_never starts none made = record {
-    on = λ s few given of_c base x has_value support time there heard. picked s few true given (base ++ []) (Some (max (max x release) 0)) of_c
+    on = λ s few given of_c base x has_value support time there heard.
+        picked s few true given (base ++ []) (Some (max (max x release) 0)) of_c
         (starts s few base x has_value support time there heard);
     off = λ s few given of_c. agrees_weaker s t (given ++ []) given (λ y. y ≡ None) (λ y. y ≡ None)
         (λ l j. elim (Contains-append_cases given [] l j) [ inl i ↦ i | inr i ↦ absurd (Contains-nil l i) ]) (λ y e. e)
         (picked s few false given [] None of_c (agrees_constant s None g.faults never (λ y. y ≡ None) refl none));
   }
     where
-      picked : (s : Scenario) → HasAtMostFaults g.faults s → (b : Bool) (given second : List Literal) (y : Option ℕ) → HasValueFrom s given b chooser
+      picked : (s : Scenario) → HasAtMostFaults g.faults s → (b : Bool) (given second : List Literal) (y : Option ℕ) →
+          HasValueFrom s given b chooser
           → HasValueFrom s second y (if b then start else never) →
           HasValueFrom s (given ++ second) y t
       picked s few b given second y of_c of_picked =
-          agrees_pick s chooser start never t b given second (λ z. z ≡ y) (few_of g.faults chooser.faults s of_chooser.faults few) (of_start.faults ∙ sym of_chooser.faults)
+          agrees_pick s chooser start never t b given second (λ z. z ≡ y)
+          (few_of g.faults chooser.faults s of_chooser.faults few) (of_start.faults ∙ sym of_chooser.faults)
           (of_never.faults ∙ sym of_chooser.faults)
-          (each_of g chooser.faults chooser of_chooser.faults of_chooser) (each_of g chooser.faults start of_chooser.faults of_start)
+          (each_of g chooser.faults chooser of_chooser.faults of_chooser)
+          (each_of g chooser.faults start of_chooser.faults of_start)
           (each_of g chooser.faults never of_chooser.faults of_never) made of_c of_picked
 
   -- one that the node sends itself
-  pub own_where : (e : ℕ) (es : List ℕ) → is_message g e ≡ false → IsStartWhere g f chooser wait release es t → IsStartWhere g f chooser wait release (e ∷ es) t
-  own_where e es own starts = record { on = λ s few given of_c. own_input g f s given wait t release e es own (starts.on s few given of_c); off = starts.off }
+  pub own_where : (e : ℕ) (es : List ℕ) → is_message g e ≡ false → IsStartWhere g f chooser wait release es t →
+      IsStartWhere g f chooser wait release (e ∷ es) t
+  own_where e es own starts = record {
+    on = λ s few given of_c. own_input g f s given wait t release e es own (starts.on s few given of_c);
+    off = starts.off;
+  }
 
   -- one that another node sends
-  pub one_where : (there both : TreeState ℕ) (e : ℕ) (es : List ℕ) → IsLaterTree g.faults (input_delay g e) (input_tree g f e) there → IsLatest g.faults wait there both →
+  pub one_where : (there both : TreeState ℕ) (e : ℕ) (es : List ℕ) →
+      IsLaterTree g.faults (input_delay g e) (input_tree g f e) there →
+      IsLatest g.faults wait there both →
       IsStartWhere g f chooser both release es t → IsStartWhere g f chooser wait release (e ∷ es) t
   one_where there both e es later latest starts =
-      record { on = λ s few given of_c. one_input g f s given few wait there both t release e es later latest (starts.on s few given of_c); off = starts.off }
+      record {
+        on = λ s few given of_c.
+            one_input g f s given few wait there both t release e es later latest (starts.on s few given of_c);
+        off = starts.off;
+      }
 
   -- the last that another node sends
-  pub last_where : (e : ℕ) (es : List ℕ) → All (λ d. is_message g d ≡ false) es → IsReleasedWhere g.faults chooser wait (later_by (input_delay g e) (input_tree g f e)) release t →
+  pub last_where : (e : ℕ) (es : List ℕ) → All (λ d. is_message g d ≡ false) es →
+      IsReleasedWhere g.faults chooser wait (later_by (input_delay g e) (input_tree g f e)) release t →
       IsStartWhere g f chooser wait release (e ∷ es) t
   last_where e es own starts = record {
-    on = λ s few given of_c. last_input g f s given wait t release e es own (λ base second x y has_value there. starts.on s few given base second x y of_c has_value there);
+    on = λ s few given of_c. last_input g f s given wait t release e es own
+        (λ base second x y has_value there. starts.on s few given base second x y of_c has_value there);
     off = starts.off;
   }
 
@@ -133,22 +183,27 @@ outcome_waits : (guard : Guard) (o : List Bool) → AreLeaves WaitsForAll guard 
 outcome_waits (Leaf a) o all = all
 outcome_waits (Test c off on) o all = by (get_or o c false) (outcome_waits off o all.0) (outcome_waits on o all.1)
   where
-    by : (b : Bool) → WaitsForAll (outcome_at off o) → WaitsForAll (outcome_at on o) → WaitsForAll (if b then outcome_at on o else outcome_at off o)
+    by : (b : Bool) → WaitsForAll (outcome_at off o) → WaitsForAll (outcome_at on o) →
+        WaitsForAll (if b then outcome_at on o else outcome_at off o)
     by true low high = high
     by false low high = low
 
-pub active_starts : (g : Graph) (f : ForestState) (chooser : TreeState Bool) (wait : TreeState ℕ) (release : ℕ) (inputs : List ℕ) (guard : Guard) (t : TreeState (Option ℕ)) →
+pub active_starts : (g : Graph) (f : ForestState) (chooser : TreeState Bool) (wait : TreeState ℕ) (release : ℕ)
+    (inputs : List ℕ) (guard : Guard) (t : TreeState (Option ℕ)) →
     AreLeaves WaitsForAll guard → IsActiveTree g.faults guard chooser →
     IsStartWhere g f chooser wait release inputs t → IsStartTree g f wait release inputs guard t
-active_starts g f chooser wait release inputs guard t all actives starts s few base x has_value support time there given =
+active_starts g f chooser wait release inputs guard t all actives starts s few base x has_value support
+    time there given =
     by (outcome_at guard s.values) (outcome_waits guard s.values all) (actives s few) there given
   where
     values : List Literal
     values = values_known s (way guard s.values)
 
-    by : (a : Activation) → WaitsForAll a → HasValueFrom s values (is_active a) chooser → AreThere g time x (awaited inputs a) →
+    by : (a : Activation) → WaitsForAll a → HasValueFrom s values (is_active a) chooser →
+        AreThere g time x (awaited inputs a) →
         ((e : ℕ) → Contains (awaited inputs a) e → HasValueFrom s (support e) (time e) (input_tree g f e)) →
         HasValueFrom s (values ++ start_says base support inputs a) (start_at x release (input_delay g) time inputs a) t
     by Plain w active ready heard = starts.on s few values active base x has_value support time ready heard
-    by Inactive w active ready heard = agrees_weaker s t values (values ++ []) (λ y. y ≡ None) (λ y. y ≡ None) (λ l j. Contains-append_left values [] l j) (λ y e. e) (starts.off s few values active)
+    by Inactive w active ready heard = agrees_weaker s t values (values ++ []) (λ y. y ≡ None) (λ y. y ≡ None)
+        (λ l j. Contains-append_left values [] l j) (λ y e. e) (starts.off s few values active)
     by (By e) w active ready heard = absurd w

@@ -1,4 +1,5 @@
--- One process after another is gone over: it begins and sends all that it sends, and the trees are grown up to the next place.
+-- One process after another is gone over: it begins and sends all that it sends, and the trees are grown up to the next
+-- place.
 use Rattle.std.proofs.Common.{ℕ, ◌+◌, ◌<◌, ◌≡◌, Bool, List, length, get_or, Option, sym, ap, ◌∙◌, subst}
 use Rattle.cpg_base.specs.Graph.{Graph, process_count}
 use Rattle.cpg_bus.specs.Plan.{queue_of}
@@ -18,24 +19,35 @@ use Rattle.cpg_expand.proofs.GrownNext.{sent_grown}
 use Rattle.cpg_expand.proofs.SendingNext.{chosen_valued, all_sent}
 
 -- a process that begins and then sends all that it sends is gone over
-pub stepped : (g : Graph) (urgency : List ℕ) (guards : Guards) → IsAdmitted g urgency guards → (order : List ℕ) (p : ℕ) → p < process_count g →
+pub stepped : (g : Graph) (urgency : List ℕ) (guards : Guards) → IsAdmitted g urgency guards →
+    (order : List ℕ) (p : ℕ) →
+    p < process_count g →
     (old mid new : ForestState) (before between after : List (Option ℕ)) (chooser : TreeState Bool) →
-    IsBegun g order guards p old mid before between chooser → HasTrees g mid → AreItemsAdded g order chooser (queue_of g p) mid new between after → IsGrownBy g order p before old after new
+    IsBegun g order guards p old mid before between chooser → HasTrees g mid →
+    AreItemsAdded g order chooser (queue_of g p) mid new between after → IsGrownBy g order p before old after new
 stepped g urgency guards a order p l old mid new before between after chooser begun trees added = λ topological grown.
     let is_guard = a.guards.trees p l in
-    let sending : IsSending g order p 0 between mid = begun_sends g urgency guards a order topological p l old mid before between chooser grown trees begun in
+    let sending : IsSending g order p 0 between mid =
+    begun_sends g urgency guards a order topological p l old mid before between chooser grown trees begun in
     sent_grown g order topological p l after new
-    (all_sent g a.limits order topological p l (a.limits.processes p _ l).node chooser (chosen_valued g urgency a.urgency a.topological p (tree_of guards p) is_guard chooser begun.actives) mid new
+    (all_sent g a.limits order topological p l (a.limits.processes p _ l).node chooser
+    (chosen_valued g urgency a.urgency a.topological p (tree_of guards p) is_guard chooser begun.actives) mid new
     between after sending added)
 
 module _ (g : Graph) (order : List ℕ) (topological : IsTopological g order) where
   -- the process at a place is gone over
-  pub next_grown : IsOrder order → (k p : ℕ) → k < length order → p ≡ get_or order k 0 → (old new : ForestState) (before after : List (Option ℕ)) → IsGrown g order k before old →
+  pub next_grown : IsOrder order → (k p : ℕ) → k < length order → p ≡ get_or order k 0 →
+      (old new : ForestState) (before after : List (Option ℕ)) →
+      IsGrown g order k before old →
       IsGrownBy g order p before old after new → IsGrown g order (k + 1) after new
   next_grown lawful k p within at old new before after grown by =
       let stands : place order p ≡ k = ap (place order) at ∙ place_at order lawful k within in
-      subst (λ n. IsGrown g order (n + 1) after new) stands (by topological (subst (λ n. IsGrown g order n before old) (sym stands) grown))
+      subst (λ n. IsGrown g order (n + 1) after new) stands
+      (by topological (subst (λ n. IsGrown g order n before old) (sym stands) grown))
 
   -- all are gone over
-  pub all_grown : (k : ℕ) → k ≡ length order → (frozen : List (Option ℕ)) (f : ForestState) → IsGrown g order k frozen f → IsGrown g order (process_count g) frozen f
-  all_grown k end frozen f grown = subst (λ n. IsGrown g order n frozen f) (end ∙ length_order (process_count g) order topological.all) grown
+  pub all_grown : (k : ℕ) → k ≡ length order → (frozen : List (Option ℕ)) (f : ForestState) →
+      IsGrown g order k frozen f →
+      IsGrown g order (process_count g) frozen f
+  all_grown k end frozen f grown =
+      subst (λ n. IsGrown g order n frozen f) (end ∙ length_order (process_count g) order topological.all) grown

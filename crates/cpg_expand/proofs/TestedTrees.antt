@@ -1,5 +1,6 @@
 -- Where a guard tests a condition.
-use Rattle.std.proofs.Common.{ℕ, ◌≡◌, ◌==◌, ◌||◌, Bool, true, false, if◌then◌else◌, List, ◌∷◌, [], get_or, Contains, eq-eqb, eqb-true, refl, sym, ap, subst}
+use Rattle.std.proofs.Common.{ℕ, ◌≡◌, ◌==◌, ◌||◌, Bool, true, false, if◌then◌else◌, List, ◌∷◌, [], get_or, Contains}
+use Rattle.std.proofs.Common.{eq-eqb, eqb-true, refl, sym, ap, subst}
 use Rattle.std.specs.List.{list_any}
 use Rattle.std.proofs.lemmas.Bool.{ne_eqb}
 use Rattle.cpg_base.specs.declared.activation.Activation.{Activation}
@@ -10,32 +11,43 @@ use Rattle.cpg_expand.specs.Agreeing.{HasValueFrom}
 use Rattle.cpg_expand.specs.Guarded.{IsTestedOn, PicksByValue, is_tested, values_known}
 use Rattle.cpg_expand.proofs.AgreeingTrees.{agrees_constant, agrees_weaker}
 
-pub tested_leaf : (k : ℕ) (a : Activation) (c : ℕ) (t : TreeState Bool) → IsConstant false k t → IsTestedOn k (Leaf a) c t
+pub tested_leaf : (k : ℕ) (a : Activation) (c : ℕ) (t : TreeState Bool) → IsConstant false k t →
+    IsTestedOn k (Leaf a) c t
 tested_leaf k a c t is s few = agrees_constant s false k t (λ y. y ≡ false) refl is
 
 -- if the first test is of the condition, everywhere
-pub tested_first : (k c : ℕ) (off on : Guard) (wanted : ℕ) (t : TreeState Bool) → c ≡ wanted → IsConstant true k t → IsTestedOn k (Test c off on) wanted t
+pub tested_first : (k c : ℕ) (off on : Guard) (wanted : ℕ) (t : TreeState Bool) → c ≡ wanted → IsConstant true k t →
+    IsTestedOn k (Test c off on) wanted t
 tested_first k c off on wanted t same always s few =
-    agrees_weaker s t [] (values_known s (way (Test c off on) s.values)) (λ y. y ≡ is_tested (Test c off on) s.values wanted) (λ y. y ≡ is_tested (Test c off on) s.values wanted)
+    agrees_weaker s t [] (values_known s (way (Test c off on) s.values))
+    (λ y. y ≡ is_tested (Test c off on) s.values wanted) (λ y. y ≡ is_tested (Test c off on) s.values wanted)
     (λ l j. absurd (Contains-nil l j)) (λ y e. e)
     (agrees_constant s true k t (λ y. y ≡ is_tested (Test c off on) s.values wanted) (sym found) always)
   where
     found : list_any (λ d. d == wanted) (way (Test c off on) s.values) ≡ true
-    found = ap (λ (b : Bool). b || list_any (λ d. d == wanted) (if get_or s.values c false then way on s.values else way off s.values)) (eq-eqb c wanted same)
+    found = ap (λ (b : Bool). b || list_any (λ d. d == wanted)
+        (if get_or s.values c false then way on s.values else way off s.values)) (eq-eqb c wanted same)
 
 -- if it is of another one, as further down
-pub tested_further : (k c : ℕ) (off on : Guard) (wanted : ℕ) (f y t : TreeState Bool) → (c ≡ wanted → ⊥) → IsTestedOn k off wanted f → IsTestedOn k on wanted y → PicksByValue k c y f t →
+pub tested_further : (k c : ℕ) (off on : Guard) (wanted : ℕ) (f y t : TreeState Bool) → (c ≡ wanted → ⊥) →
+    IsTestedOn k off wanted f → IsTestedOn k on wanted y →
+    PicksByValue k c y f t →
     IsTestedOn k (Test c off on) wanted t
 tested_further k c off on wanted f y t other of_off of_on picks s few = go (get_or s.values c false) refl
   where
     go : (d : Bool) → get_or s.values c false ≡ d →
-        HasValueFrom s (values_known s (c ∷ (if d then way on s.values else way off s.values))) (list_any (λ e. e == wanted) (c ∷ (if d then way on s.values else way off s.values))) t
-    go true e = subst (λ (b : Bool). HasValueFrom s (values_known s (c ∷ way on s.values)) (b || list_any (λ e. e == wanted) (way on s.values)) t) (sym (ne_eqb c wanted other))
+        HasValueFrom s (values_known s (c ∷ (if d then way on s.values else way off s.values)))
+        (list_any (λ e. e == wanted) (c ∷ (if d then way on s.values else way off s.values))) t
+    go true e = subst (λ (b : Bool). HasValueFrom s (values_known s (c ∷ way on s.values))
+        (b || list_any (λ e. e == wanted) (way on s.values)) t) (sym (ne_eqb c wanted other))
         (picks s few (values_known s (way on s.values)) (is_tested on s.values wanted)
-        (subst (λ (d : Bool). HasValueFrom s (values_known s (way on s.values)) (is_tested on s.values wanted) (if d then y else f)) (sym e) (of_on s few)))
-    go false e = subst (λ (b : Bool). HasValueFrom s (values_known s (c ∷ way off s.values)) (b || list_any (λ e. e == wanted) (way off s.values)) t) (sym (ne_eqb c wanted other))
+        (subst (λ (d : Bool). HasValueFrom s (values_known s (way on s.values)) (is_tested on s.values wanted)
+        (if d then y else f)) (sym e) (of_on s few)))
+    go false e = subst (λ (b : Bool). HasValueFrom s (values_known s (c ∷ way off s.values))
+        (b || list_any (λ e. e == wanted) (way off s.values)) t) (sym (ne_eqb c wanted other))
         (picks s few (values_known s (way off s.values)) (is_tested off s.values wanted)
-        (subst (λ (d : Bool). HasValueFrom s (values_known s (way off s.values)) (is_tested off s.values wanted) (if d then y else f)) (sym e) (of_off s few)))
+        (subst (λ (d : Bool). HasValueFrom s (values_known s (way off s.values)) (is_tested off s.values wanted)
+        (if d then y else f)) (sym e) (of_off s few)))
 
 -- ---- what is tested is on the way
 

@@ -1,5 +1,6 @@
 -- The row of a tree that agrees with what is carried beside an item's time is a carrying row.
-use Rattle.std.proofs.Common.{ℕ, ◌≤◌, ◌≡◌, ◌+◌, Bool, true, false, cond, List, [], ◌∷◌, length, map, filter, get_or, Option, Some, None, option_to_list, All, Contains, IsPermutation, arith, refl, sym}
+use Rattle.std.proofs.Common.{ℕ, ◌≤◌, ◌≡◌, ◌+◌, Bool, true, false, cond, List, [], ◌∷◌, length, map, filter, get_or}
+use Rattle.std.proofs.Common.{Option, Some, None, option_to_list, All, Contains, IsPermutation, arith, refl, sym}
 use Rattle.std.proofs.Common.{ap, ◌∙◌, subst, inl, inr, length-append}
 use Rattle.std.proofs.lemmas.Bool.{cond-true, cond-false, false_from_ne_true}
 use Rattle.std.proofs.lemmas.List.{length-map}
@@ -7,7 +8,8 @@ use Rattle.std.proofs.lemmas.List.Elements.{All-contains, filter-append}
 use Rattle.std.proofs.lemmas.List.Sorted.{IsPermutation-sym, Contains-permutation}
 use Rattle.cpg_base.specs.Graph.{Graph, process_count}
 use Rattle.cpg_base.specs.Numbers.{numbers_below}
-use Rattle.cpg_base.proofs.Lists.{Contains-first, Contains-cases, Contains-nil, Contains-map, Contains-map_parts, Contains-filter, Contains-filter_parts, Contains-flat_map, Contains-flat_map_parts}
+use Rattle.cpg_base.proofs.Lists.{Contains-first, Contains-cases, Contains-nil, Contains-map, Contains-map_parts}
+use Rattle.cpg_base.proofs.Lists.{Contains-filter, Contains-filter_parts, Contains-flat_map, Contains-flat_map_parts}
 use Rattle.cpg_base.proofs.Lists.{filter_none}
 use Rattle.cpg_base.specs.Scenario.{Scenario, IsScenario}
 use Rattle.cpg_cube.specs.declared.literal.Literal.{Literal}
@@ -35,36 +37,57 @@ use Rattle.cpg_expand.specs.TreeRows.{AreListedOf, IsTreeOf}
 use Rattle.cpg_tree.proofs.OnePath.{scenario_few, the_path}
 
 -- what is listed as it is found
-pub listed_all : (g : Graph) (t : TreeState (Option ℕ)) (columns : List Column) → HasOnePathEach g.faults t.paths → columns ≡ columns_of_paths t.paths → All (IsTidyColumn g) columns →
+pub listed_all : (g : Graph) (t : TreeState (Option ℕ)) (columns : List Column) → HasOnePathEach g.faults t.paths →
+    columns ≡ columns_of_paths t.paths →
+    All (IsTidyColumn g) columns →
     AreListedOf g t columns
-listed_all g t columns each is tidy = record { each = each; all = permutation_of_equal (columns_of_paths t.paths) columns (sym is); tidy = tidy }
+listed_all g t columns each is tidy =
+    record { each = each; all = permutation_of_equal (columns_of_paths t.paths) columns (sym is); tidy = tidy }
 
 -- ---- no more columns match than paths
 
 matched : Scenario → Column → Bool
 matched s c = matches c.cube s
 
-one_more : (b : Bool) (x : Option ℕ) (cube : List Literal) (s : Scenario) → matches cube s ≡ b → length (filter (λ (c : Column). matches c.cube s) (column_of cube x)) ≤ cond b 1 0
+one_more : (b : Bool) (x : Option ℕ) (cube : List Literal) (s : Scenario) → matches cube s ≡ b →
+    length (filter (λ (c : Column). matches c.cube s) (column_of cube x)) ≤ cond b 1 0
 one_more b None cube s e = omega arith
-one_more true (Some t) cube s e = omega (arith, ap (λ (cs : List Column). length cs) (cond-true (matches cube s) ((record { time = t; cube = cube }) ∷ []) [] e))
-one_more false (Some t) cube s e = omega (arith, ap (λ (cs : List Column). length cs) (cond-false (matches cube s) ((record { time = t; cube = cube }) ∷ []) [] e))
+one_more true (Some t) cube s e = omega (
+  arith,
+  ap (λ (cs : List Column). length cs) (cond-true (matches cube s) ((record { time = t; cube = cube }) ∷ []) [] e),
+)
+one_more false (Some t) cube s e = omega (
+  arith,
+  ap (λ (cs : List Column). length cs) (cond-false (matches cube s) ((record { time = t; cube = cube }) ∷ []) [] e),
+)
 
-path_count : (b : Bool) (p : Path (Option ℕ)) (ps : List (Path (Option ℕ))) (s : Scenario) → matches p.0 s ≡ b → length (filter (is_on s) (p ∷ ps)) ≡ cond b 1 0 + length (filter (is_on s) ps)
-path_count true p ps s e = ap length (cond-true (matches p.0 s) (p ∷ filter (is_on s) ps) (filter (is_on s) ps) e) ∙ omega arith
-path_count false p ps s e = ap length (cond-false (matches p.0 s) (p ∷ filter (is_on s) ps) (filter (is_on s) ps) e) ∙ omega arith
+path_count : (b : Bool) (p : Path (Option ℕ)) (ps : List (Path (Option ℕ))) (s : Scenario) → matches p.0 s ≡ b →
+    length (filter (is_on s) (p ∷ ps)) ≡ cond b 1 0 + length (filter (is_on s) ps)
+path_count true p ps s e =
+    ap length (cond-true (matches p.0 s) (p ∷ filter (is_on s) ps) (filter (is_on s) ps) e) ∙ omega arith
+path_count false p ps s e =
+    ap length (cond-false (matches p.0 s) (p ∷ filter (is_on s) ps) (filter (is_on s) ps) e) ∙ omega arith
 
-no_more : (paths : List (Path (Option ℕ))) (s : Scenario) → length (filter (λ (c : Column). matches c.cube s) (columns_of_paths paths)) ≤ length (filter (is_on s) paths)
+no_more : (paths : List (Path (Option ℕ))) (s : Scenario) →
+    length (filter (λ (c : Column). matches c.cube s) (columns_of_paths paths)) ≤ length (filter (is_on s) paths)
 no_more [] s = omega arith
 no_more (p ∷ ps) s =
     let split = ap length (filter-append (λ (c : Column). matches c.cube s) (column_of p.0 p.1) (columns_of_paths ps))
-    ∙ length-append (filter (λ (c : Column). matches c.cube s) (column_of p.0 p.1)) (filter (λ (c : Column). matches c.cube s) (columns_of_paths ps)) in
+    ∙ length-append (filter (λ (c : Column). matches c.cube s) (column_of p.0 p.1))
+    (filter (λ (c : Column). matches c.cube s) (columns_of_paths ps)) in
     omega (arith, split, one_more (matches p.0 s) p.1 p.0 s refl, path_count (matches p.0 s) p ps s refl, no_more ps s)
 
-module _ (g : Graph) (few : process_count g ≤ 128) (urgency : List ℕ) (all : IsPermutation (numbers_below (process_count g)) urgency)
+module _ (g : Graph) (few : process_count g ≤ 128) (urgency : List ℕ)
+    (all : IsPermutation (numbers_below (process_count g)) urgency)
     (t : TreeState (Option ℕ)) (columns : List Column) (are : AreListedOf g t columns) where
   single : AreSingle g columns
   single = single_permuted g few (columns_of_paths t.paths) columns are.all
-      (λ s law. omega (arith, length-map (filter (λ (c : Column). matches c.cube s) (columns_of_paths t.paths)) (λ (c : Column). c.time), no_more t.paths s, are.each s (scenario_few g s law)))
+      (λ s law. omega (
+        arith,
+        length-map (filter (λ (c : Column). matches c.cube s) (columns_of_paths t.paths)) (λ (c : Column). c.time),
+        no_more t.paths s,
+        are.each s (scenario_few g s law),
+      ))
 
   tidy_at : (c : Column) → Contains columns c → IsTidyColumn g c
   tidy_at c j = All-contains (IsTidyColumn g) columns c are.tidy j
@@ -75,30 +98,38 @@ module _ (g : Graph) (few : process_count g ≤ 128) (urgency : List ℕ) (all :
       record {
         cube = tidy.cube;
         met = tidy.met;
-        narrow = every (λ (l : Literal). (is_whole g.faults l ≡ false) × (l.high ≤ top g.faults l.variable)) c.cube (λ l i.
-            (All-contains (λ (l : Literal). is_whole g.faults l ≡ false) c.cube l tidy.not_whole i, All-contains (λ (l : Literal). l.high ≤ top g.faults l.variable) c.cube l tidy.within i));
+        narrow =
+            every (λ (l : Literal). (is_whole g.faults l ≡ false) × (l.high ≤ top g.faults l.variable)) c.cube (λ l i. (
+              All-contains (λ (l : Literal). is_whole g.faults l ≡ false) c.cube l tidy.not_whole i,
+              All-contains (λ (l : Literal). l.high ≤ top g.faults l.variable) c.cube l tidy.within i,
+            ));
       })
 
   -- they can be merged
   pub mergeable : AreMergeable g columns
   mergeable = record {
     cubes = every (λ (c : Column). IsCube g c.cube) columns (λ c j. (tidy_at c j).cube);
-    within = every (λ (c : Column). All (λ (l : Literal). l.high ≤ top g.faults l.variable) c.cube) columns (λ c j. (tidy_at c j).within);
+    within = every (λ (c : Column). All (λ (l : Literal). l.high ≤ top g.faults l.variable) c.cube) columns
+        (λ c j. (tidy_at c j).within);
     met = every (λ (c : Column). (s : Scenario) × IsScenario g s × (matches c.cube s ≡ true)) columns (λ c j.
-        let least = All-contains (λ (c : Column). (s : Scenario) × IsLeastMatch g urgency c s) columns c (are_met g few urgency all columns good single) j in
+        let least = All-contains (λ (c : Column). (s : Scenario) × IsLeastMatch g urgency c s) columns c
+        (are_met g few urgency all columns good single) j in
         (least.0, least.1.lawful, least.1.holds));
     apart = single;
   }
 
   -- a column comes of a path
-  path_of : (c : Column) → Contains columns c → (x : Path (Option ℕ)) × Contains t.paths x × (x.1 ≡ Some c.time) × (x.0 ≡ c.cube)
+  path_of : (c : Column) → Contains columns c →
+      (x : Path (Option ℕ)) × Contains t.paths x × (x.1 ≡ Some c.time) × (x.0 ≡ c.cube)
   path_of c j =
-      let back = Contains-permutation columns (columns_of_paths t.paths) c (IsPermutation-sym (columns_of_paths t.paths) columns are.all) j in
+      let back = Contains-permutation columns (columns_of_paths t.paths) c
+      (IsPermutation-sym (columns_of_paths t.paths) columns are.all) j in
       let p = Contains-flat_map_parts (λ (p : Path (Option ℕ)). column_of p.0 p.1) t.paths c back in
       let is = from_column p.0.1 p.0.0 c p.2 in
       (p.0, p.1, is.0, is.1)
     where
-      from_column : (x : Option ℕ) (cube : List Literal) (c : Column) → Contains (column_of cube x) c → (x ≡ Some c.time) × (cube ≡ c.cube)
+      from_column : (x : Option ℕ) (cube : List Literal) (c : Column) → Contains (column_of cube x) c →
+          (x ≡ Some c.time) × (cube ≡ c.cube)
       from_column None cube c j = absurd (Contains-nil c j)
       from_column (Some n) cube c j = elim (Contains-cases (record { time = n; cube = cube }) [] c j) [
         | inl e ↦ (ap (λ (d : Column). Some d.time) e, ap (λ (d : Column). d.cube) e)
@@ -106,24 +137,31 @@ module _ (g : Graph) (few : process_count g ≤ 128) (urgency : List ℕ) (all :
       ]
 
   -- a path with a time gives a column
-  pub column_there : (x : Path (Option ℕ)) (time : ℕ) → Contains t.paths x → x.1 ≡ Some time → Contains columns (record { time = time; cube = x.0 })
+  pub column_there : (x : Path (Option ℕ)) (time : ℕ) → Contains t.paths x → x.1 ≡ Some time →
+      Contains columns (record { time = time; cube = x.0 })
   column_there x time j e =
       let column : Column = record { time = time; cube = x.0 } in
       Contains-permutation (columns_of_paths t.paths) columns column are.all
-      (Contains-flat_map (λ (p : Path (Option ℕ)). column_of p.0 p.1) t.paths x column j (subst (λ o. Contains (column_of x.0 o) column) (sym e) (Contains-first column [])))
+      (Contains-flat_map (λ (p : Path (Option ℕ)). column_of p.0 p.1) t.paths x column j
+      (subst (λ o. Contains (column_of x.0 o) column) (sym e) (Contains-first column [])))
 
-  module _ (order : List ℕ) (frozen : List (Option ℕ)) (timed : IsTimed g urgency order frozen) (rows : List (List Column)) (x : ℕ) (tree : IsTreeOf g order frozen rows x t)
+  module _ (order : List ℕ) (frozen : List (Option ℕ)) (timed : IsTimed g urgency order frozen)
+      (rows : List (List Column)) (x : ℕ) (tree : IsTreeOf g order frozen rows x t)
       (same_faults : t.faults ≡ g.faults) where
-    pub times : (s : Scenario) (run : Times) → IsScenario g s → IsRun g order frozen s run → times_in columns s ≡ option_to_list (get_or run.times x None)
+    pub times : (s : Scenario) (run : Times) → IsScenario g s → IsRun g order frozen s run →
+        times_in columns s ≡ option_to_list (get_or run.times x None)
     times s run law ran = by_time (get_or run.times x None) refl
       where
         agrees : Agrees s (carried g order rows s x) (λ time. time ≡ get_or run.times x None) t
         agrees = tree s run law ran
 
         by_time : (o : Option ℕ) → get_or run.times x None ≡ o → times_in columns s ≡ option_to_list o
-        by_time None e = ap (map (λ (c : Column). c.time)) (filter_none (λ (c : Column). matches c.cube s) columns (λ c j. false_from_ne_true (matches c.cube s) (λ m.
+        by_time None e = ap (map (λ (c : Column). c.time))
+            (filter_none (λ (c : Column). matches c.cube s) columns (λ c j. false_from_ne_true (matches c.cube s) (λ m.
             let p = path_of c j in
-            some_none c.time (sym p.2 ∙ agrees.value p.0 (record { stands = p.1; matched = subst (λ (ls : List Literal). matches ls s ≡ true) (sym p.3) m }) ∙ e))))
+            some_none c.time (sym p.2 ∙ agrees.value p.0
+            (record { stands = p.1; matched = subst (λ (ls : List Literal). matches ls s ≡ true) (sym p.3) m })
+            ∙ e))))
           where
             some_none : (n : ℕ) → Some n ≡ None → ⊥
             some_none n e = cc
@@ -131,26 +169,36 @@ module _ (g : Graph) (few : process_count g ≤ 128) (urgency : List ℕ) (all :
             let p = the_path g.faults t.paths are.each s (scenario_few g s law) in
             let value : p.0.1 ≡ Some n = agrees.value p.0 p.1 ∙ e in
             the_one (times_in columns s) n (single s law)
-            (Contains-map (λ (c : Column). c.time) (filter (λ (c : Column). matches c.cube s) columns) (record { time = n; cube = p.0.0 })
-            (Contains-filter (λ (c : Column). matches c.cube s) columns (record { time = n; cube = p.0.0 }) p.1.matched (column_there p.0 n p.1.stands value)))
+            (Contains-map (λ (c : Column). c.time) (filter (λ (c : Column). matches c.cube s) columns)
+            (record { time = n; cube = p.0.0 })
+            (Contains-filter (λ (c : Column). matches c.cube s) columns (record { time = n; cube = p.0.0 }) p.1.matched
+            (column_there p.0 n p.1.stands value)))
 
-    pub columns_carry : (s : Scenario) (c : Column) → IsScenario g s → Contains columns c → matches c.cube s ≡ true → ContainsKept g.faults c.cube (carried g order rows s x)
+    pub columns_carry : (s : Scenario) (c : Column) → IsScenario g s → Contains columns c → matches c.cube s ≡ true →
+        ContainsKept g.faults c.cube (carried g order rows s x)
     columns_carry s c law j m =
         let p = path_of c j in
         let r = a_run g order frozen s timed.admitted.topological in
-        let kept = (tree s r.0 law r.1).says p.0 (record { stands = p.1; matched = subst (λ (ls : List Literal). matches ls s ≡ true) (sym p.3) m }) in
-        subst (λ (ls : List Literal). ContainsKept g.faults ls (carried g order rows s x)) p.3 (subst (λ k. ContainsKept k p.0.0 (carried g order rows s x)) same_faults kept)
+        let kept = (tree s r.0 law r.1).says p.0
+        (record { stands = p.1; matched = subst (λ (ls : List Literal). matches ls s ≡ true) (sym p.3) m }) in
+        subst (λ (ls : List Literal). ContainsKept g.faults ls (carried g order rows s x)) p.3
+        (subst (λ k. ContainsKept k p.0.0 (carried g order rows s x)) same_faults kept)
 
     -- the row of a send
-    pub tree_row_carries : AreByLows (λ (c : Column). c.cube) g urgency columns → row_at rows x ≡ columns → IsCarryingRow g urgency order frozen rows x
+    pub tree_row_carries : AreByLows (λ (c : Column). c.cube) g urgency columns → row_at rows x ≡ columns →
+        IsCarryingRow g urgency order frozen rows x
     tree_row_carries by_lows is = record {
-      times = λ s run law ran. subst (λ (cs : List Column). times_in cs s ≡ option_to_list (get_or run.times x None)) (sym is) (times s run law ran);
+      times = λ s run law ran. subst (λ (cs : List Column). times_in cs s ≡ option_to_list (get_or run.times x None))
+          (sym is) (times s run law ran);
       carries = λ s c law j m. columns_carry s c law (subst (λ (cs : List Column). Contains cs c) is j) m;
-      cubes = subst (All (λ (c : Column). IsCube g c.cube)) (sym is) (every (λ (c : Column). IsCube g c.cube) columns (λ c j. (tidy_at c j).cube));
+      cubes = subst (All (λ (c : Column). IsCube g c.cube)) (sym is)
+          (every (λ (c : Column). IsCube g c.cube) columns (λ c j. (tidy_at c j).cube));
       within = subst (All (λ (c : Column). All (λ (l : Literal). l.high ≤ top g.faults l.variable) c.cube)) (sym is)
-          (every (λ (c : Column). All (λ (l : Literal). l.high ≤ top g.faults l.variable) c.cube) columns (λ c j. (tidy_at c j).within));
+          (every (λ (c : Column). All (λ (l : Literal). l.high ≤ top g.faults l.variable) c.cube) columns
+          (λ c j. (tidy_at c j).within));
       not_whole = subst (All (λ (c : Column). All (λ (l : Literal). is_whole g.faults l ≡ false) c.cube)) (sym is)
-          (every (λ (c : Column). All (λ (l : Literal). is_whole g.faults l ≡ false) c.cube) columns (λ c j. (tidy_at c j).not_whole));
+          (every (λ (c : Column). All (λ (l : Literal). is_whole g.faults l ≡ false) c.cube) columns
+          (λ c j. (tidy_at c j).not_whole));
       met = subst (AreMet g urgency) (sym is) (are_met g few urgency all columns good single);
       ordered = subst (AreOrdered g urgency) (sym is) (are_ordered g few urgency all columns good single by_lows);
     }
@@ -160,12 +208,17 @@ module _ (g : Graph) (few : process_count g ≤ 128) (urgency : List ℕ) (all :
     merged_row_carries merge = record {
       times = λ s run law ran. merge.times s law ∙ times s run law ran;
       carries = λ s c law j m.
-          let there = Contains-map (λ (c : Column). c.time) (filter (λ (c : Column). matches c.cube s) (row_at rows x)) c (Contains-filter (λ (c : Column). matches c.cube s) (row_at rows x) c m j) in
-          let r = Contains-map_parts (λ (c : Column). c.time) (filter (λ (c : Column). matches c.cube s) columns) c.time (subst (λ ns. Contains ns c.time) (merge.times s law) there) in
+          let there = Contains-map (λ (c : Column). c.time) (filter (λ (c : Column). matches c.cube s) (row_at rows x))
+          c (Contains-filter (λ (c : Column). matches c.cube s) (row_at rows x) c m j) in
+          let r = Contains-map_parts (λ (c : Column). c.time) (filter (λ (c : Column). matches c.cube s) columns) c.time
+          (subst (λ ns. Contains ns c.time) (merge.times s law) there) in
           let q = Contains-filter_parts (λ (c : Column). matches c.cube s) columns r.0 r.1 in
           let kept = columns_carry s r.0 law q.0 q.1 in
           let wide = merge.wider s r.0 c law q.0 j q.1 m in
-          record { low = λ v. omega (arith, (wide v).0, kept.low v); high = λ v. omega (arith, (wide v).1, kept.high v) };
+          record {
+            low = λ v. omega (arith, (wide v).0, kept.low v);
+            high = λ v. omega (arith, (wide v).1, kept.high v);
+          };
       cubes = merge.cubes;
       within = merge.within;
       not_whole = merge.not_whole;

@@ -1,5 +1,6 @@
 -- Rows that are counted as they are made.
-use Rattle.std.proofs.Common.{ℕ, ◌+◌, ◌*◌, ◌<◌, ◌≤◌, ◌≡◌, ◌∙◌, List, [], ◌∷◌, ◌++◌, All, Option, None, Some, length, get_or, sum_by, arith, rules, refl, sym, ap, ap₂, subst, inl, inr, ◌⊎◌}
+use Rattle.std.proofs.Common.{ℕ, ◌+◌, ◌*◌, ◌<◌, ◌≤◌, ◌≡◌, ◌∙◌, List, [], ◌∷◌, ◌++◌, All, Option, None, Some, length}
+use Rattle.std.proofs.Common.{get_or, sum_by, arith, rules, refl, sym, ap, ap₂, subst, inl, inr, ◌⊎◌}
 use Rattle.std.specs.Prelude.{IfNone, IfSome}
 use Rattle.std.proofs.lemmas.List.{get_or_append_left}
 use Rattle.std.proofs.lemmas.List.Elements.{All-append, All-get_or}
@@ -33,14 +34,16 @@ use Rattle.cpg_expand.specs.WideRows.{AreFewIf, DoTablesFit, HaveWideRows, IsLoa
 use Rattle.cpg_expand.proofs.RowsMade.{rows_more}
 
 -- sums of equal numbers are equal
-same_sum : (f h : ℕ → ℕ) (n : ℕ) → ((x : ℕ) → x < n → f x ≡ h x) → sum_by f (numbers_below n) ≡ sum_by h (numbers_below n)
+same_sum : (f h : ℕ → ℕ) (n : ℕ) → ((x : ℕ) → x < n → f x ≡ h x) →
+    sum_by f (numbers_below n) ≡ sum_by h (numbers_below n)
 same_sum f h n same = omega (
   arith,
   sum_by-le_each f h (numbers_below n) (λ x c. let e = same x (numbers-Contains n x c) in omega (arith, e)),
   sum_by-le_each h f (numbers_below n) (λ x c. let e = same x (numbers-Contains n x c) in omega (arith, e)),
 )
 
-module _ (g : Graph) (rows more : List Row) (row : Row) (n : ℕ) (long : length rows ≡ n) (is : more ≡ rows ++ row ∷ []) where
+module _ (g : Graph) (rows more : List Row) (row : Row) (n : ℕ) (long : length rows ≡ n)
+    (is : more ≡ rows ++ row ∷ []) where
   row_before : (x : ℕ) → x < n → row_for more x ≡ row_for rows x
   row_before x l = ap (λ rs. row_for rs x) is ∙ get_or_append_left rows (row ∷ []) no_row x (omega (arith, l, long))
 
@@ -49,16 +52,19 @@ module _ (g : Graph) (rows more : List Row) (row : Row) (n : ℕ) (long : length
 
   pub load_more : rows_load g more (n + 1) ≡ rows_load g rows n + length row.columns * rows_of_item g (item_at g n)
   load_more = ap (sum_by (row_load g more)) (below_push n) ∙ sum_by_push (row_load g more) (numbers_below n) n
-      ∙ ap₂ ◌+◌ (same_sum (row_load g more) (row_load g rows) n (λ x l. ap (λ (r : Row). length r.columns * rows_of_item g (item_at g x)) (row_before x l)))
+      ∙ ap₂ ◌+◌ (same_sum (row_load g more) (row_load g rows) n
+      (λ x l. ap (λ (r : Row). length r.columns * rows_of_item g (item_at g x)) (row_before x l)))
       (ap (λ (r : Row). length r.columns * rows_of_item g (item_at g n)) row_last)
 
   one_few : length row.columns ≤ MOST_COLUMNS → All (λ (r : Row). length r.columns ≤ MOST_COLUMNS) (row ∷ [])
   one_few h = search rules
 
-  pub few_more : (wide : Option ℕ) (load sum : ℕ) → AreFewIf wide g rows n load → IsLoadIf wide g row n load sum → AreFewIf wide g more (n + 1) sum
+  pub few_more : (wide : Option ℕ) (load sum : ℕ) → AreFewIf wide g rows n load → IsLoadIf wide g row n load sum →
+      AreFewIf wide g more (n + 1) sum
   few_more None load sum a new = tt
   few_more (Some item) load sum a new = record {
-    few = subst (All (λ (r : Row). length r.columns ≤ MOST_COLUMNS)) (sym is) (All-append (λ (r : Row). length r.columns ≤ MOST_COLUMNS) rows (row ∷ []) a.few (one_few new.few));
+    few = subst (All (λ (r : Row). length r.columns ≤ MOST_COLUMNS)) (sym is)
+        (All-append (λ (r : Row). length r.columns ≤ MOST_COLUMNS) rows (row ∷ []) a.few (one_few new.few));
     is = new.is ∙ ap (λ m. m + length row.columns * rows_of_item g (item_at g n)) a.is ∙ sym load_more;
     within = new.within;
   }
@@ -66,18 +72,26 @@ module _ (g : Graph) (rows more : List Row) (row : Row) (n : ℕ) (long : length
 -- no rows are few
 pub few_first : (wide : Option ℕ) (g : Graph) (rows : List Row) → length rows ≡ 0 → AreFewIf wide g rows 0 0
 few_first None g rows none = tt
-few_first (Some item) g rows none = record { few = λ i d l. absurd (omega (arith, l, none)); is = refl; within = omega arith }
+few_first (Some item) g rows none =
+    record { few = λ i d l. absurd (omega (arith, l, none)); is = refl; within = omega arith }
 
 -- all rows are
-pub few_all : (wide : Option ℕ) (g : Graph) (rows : List Row) (n load : ℕ) → n ≡ item_count g → AreFewIf wide g rows n load → IfSome wide (λ item. DoRowsFit g rows)
+pub few_all : (wide : Option ℕ) (g : Graph) (rows : List Row) (n load : ℕ) → n ≡ item_count g →
+    AreFewIf wide g rows n load →
+    IfSome wide (λ item. DoRowsFit g rows)
 few_all None g rows n load end a = tt
-few_all (Some item) g rows n load end a = record { few = a.few; loads = subst (λ m. rows_load g rows m ≤ MOST_LOAD) end (omega (arith, a.is, a.within)) }
+few_all (Some item) g rows n load end a =
+    record { few = a.few; loads = subst (λ m. rows_load g rows m ≤ MOST_LOAD) end (omega (arith, a.is, a.within)) }
 
 -- a row more is too many
-pub wide_rows : (g : Graph) (urgency : List ℕ) (times : List (TreeState (Option ℕ))) (rows : List Row) (row : Row) (n item load : ℕ) → n < item_count g → AreFirstRows g urgency times n rows →
+pub wide_rows : (g : Graph) (urgency : List ℕ) (times : List (TreeState (Option ℕ))) (rows : List Row) (row : Row)
+    (n item load : ℕ) → n < item_count g →
+    AreFirstRows g urgency times n rows →
     IsRowOf g urgency (get_or times n (no_tree g.faults)) n row → AreFewIf (Some item) g rows n load →
-    (MOST_COLUMNS < length row.columns) ⊎ (MOST_LOAD < load + length row.columns * rows_of_item g (item_at g n)) → HaveWideRows g urgency times
-wide_rows g urgency times rows row n item load l made new few (inl many) = inl (record { item = n; within = l; row = row; made = new; many = many })
+    (MOST_COLUMNS < length row.columns) ⊎ (MOST_LOAD < load + length row.columns * rows_of_item g (item_at g n)) →
+    HaveWideRows g urgency times
+wide_rows g urgency times rows row n item load l made new few (inl many) =
+    inl (record { item = n; within = l; row = row; made = new; many = many })
 wide_rows g urgency times rows row n item load l made new few (inr many) = inr (record {
   count = n + 1;
   within = omega (arith, l);
@@ -86,34 +100,46 @@ wide_rows g urgency times rows row n item load l made new few (inr many) = inr (
   many = omega (arith, many, few.is, load_more g rows (rows ++ row ∷ []) row n made.count refl);
 })
 
-pub wide_shown : (wide : Option ℕ) (fault : BuildFault) (g : Graph) (urgency : List ℕ) (times : List (TreeState (Option ℕ))) (rows : List Row) (row : Row) (n load : ℕ) → n < item_count g →
+pub wide_shown : (wide : Option ℕ) (fault : BuildFault) (g : Graph) (urgency : List ℕ)
+    (times : List (TreeState (Option ℕ))) (rows : List Row) (row : Row) (n load : ℕ) →
+    n < item_count g →
     AreFirstRows g urgency times n rows →
     IsRowOf g urgency (get_or times n (no_tree g.faults)) n row → AreFewIf wide g rows n load →
-    ShowsLarge wide ((MOST_COLUMNS < length row.columns) ⊎ (MOST_LOAD < load + length row.columns * rows_of_item g (item_at g n))) fault → ShowsLarge wide (HaveWideRows g urgency times) fault
+    ShowsLarge wide ((MOST_COLUMNS < length row.columns) ⊎
+    (MOST_LOAD < load + length row.columns * rows_of_item g (item_at g n))) fault →
+    ShowsLarge wide (HaveWideRows g urgency times) fault
 wide_shown None fault g urgency times rows row n load l made new few h = none_shown fault h
   where
     no_name : (x : ℕ) → None ≡ Some x → ⊥
     no_name x e = cc
 
-    none_shown : (fault : BuildFault) → ShowsLarge None ((MOST_COLUMNS < length row.columns) ⊎ (MOST_LOAD < load + length row.columns * rows_of_item g (item_at g n))) fault →
+    none_shown : (fault : BuildFault) →
+        ShowsLarge None ((MOST_COLUMNS < length row.columns) ⊎
+        (MOST_LOAD < load + length row.columns * rows_of_item g (item_at g n))) fault →
         ShowsLarge None (HaveWideRows g urgency times) fault
     none_shown (TooWide x) h = absurd (no_name x h.0)
     none_shown OutOfMemory h = tt
-wide_shown (Some item) (TooWide x) g urgency times rows row n load l made new few h = (h.0, wide_rows g urgency times rows row n item load l made new few h.1)
+wide_shown (Some item) (TooWide x) g urgency times rows row n load l made new few h =
+    (h.0, wide_rows g urgency times rows row n item load l made new few h.1)
 wide_shown (Some item) OutOfMemory g urgency times rows row n load l made new few h = tt
 
 -- ---- tables of rows
 
-module _ (g : Graph) (urgency order : List ℕ) (frozen : List (Option ℕ)) (rows : List Row) (limits : IsWithinLimits g) (admitted : Admitted g urgency order)
+module _ (g : Graph) (urgency order : List ℕ) (frozen : List (Option ℕ)) (rows : List Row) (limits : IsWithinLimits g)
+    (admitted : Admitted g urgency order)
     (found : AreRowsFound g urgency order frozen rows) where
   -- if nothing is too wide, they fit
   pub rows_fit : (wide : Option ℕ) → IsWidth g order wide → IfSome wide (λ item. DoRowsFit g rows) → DoRowsFit g rows
-  rows_fit None narrow few = found_rows_fit g urgency order frozen rows limits admitted found (none_too_wide g order narrow)
+  rows_fit None narrow few =
+      found_rows_fit g urgency order frozen rows limits admitted found (none_too_wide g order narrow)
   rows_fit (Some item) least few = few
 
-pub tables_fit : (g : Graph) (rows : List Row) (tables : Tables) → length rows ≡ item_count g → DoRowsFit g rows → AreTablesWith g rows tables → DoTablesFit g tables.nodes
+pub tables_fit : (g : Graph) (rows : List Row) (tables : Tables) → length rows ≡ item_count g → DoRowsFit g rows →
+    AreTablesWith g rows tables →
+    DoTablesFit g tables.nodes
 tables_fit g rows tables long fits written = record {
-  few = λ x l. subst (λ cs. length cs ≤ MOST_COLUMNS) (sym (written.columns x)) (All-get_or (λ (r : Row). length r.columns ≤ MOST_COLUMNS) rows x no_row (omega (arith, l, long)) fits.few);
+  few = λ x l. subst (λ cs. length cs ≤ MOST_COLUMNS) (sym (written.columns x))
+      (All-get_or (λ (r : Row). length r.columns ≤ MOST_COLUMNS) rows x no_row (omega (arith, l, long)) fits.few);
   loads = omega (
     arith,
     fits.loads,
@@ -123,18 +149,23 @@ tables_fit g rows tables long fits written = record {
 }
 
 -- the least item that is too wide, or none
-pub width_of : (g : Graph) (order : List ℕ) (wide : Option ℕ) → IfSome wide (IsLeastWide g order) → IfNone wide (IsNarrow g order) → IsWidth g order wide
+pub width_of : (g : Graph) (order : List ℕ) (wide : Option ℕ) → IfSome wide (IsLeastWide g order) →
+    IfNone wide (IsNarrow g order) →
+    IsWidth g order wide
 width_of g order None some none = none
 width_of g order (Some x) some none = some
 
 -- what is named is the least item that is too wide
-pub named_least : (A : Type 0) (g : Graph) (order : List ℕ) (wide : Option ℕ) (fault : BuildFault) → IsWidth g order wide → ShowsLarge wide A fault →
+pub named_least : (A : Type 0) (g : Graph) (order : List ℕ) (wide : Option ℕ) (fault : BuildFault) →
+    IsWidth g order wide →
+    ShowsLarge wide A fault →
     ShowsBuildFault (λ x. IsLeastWide g order x × A) fault
 named_least A g order wide (TooWide x) is h = (subst (IsWidth g order) h.0 is, h.1)
 named_least A g order wide OutOfMemory is h = tt
 
 -- if none is, nothing is named
-pub narrow_unnamed : (A : Type 0) (g : Graph) (order : List ℕ) (fault : BuildFault) (x : ℕ) → IsNarrow g order → fault ≡ TooWide x → ShowsBuildFault (λ y. IsLeastWide g order y × A) fault → ⊥
+pub narrow_unnamed : (A : Type 0) (g : Graph) (order : List ℕ) (fault : BuildFault) (x : ℕ) → IsNarrow g order →
+    fault ≡ TooWide x → ShowsBuildFault (λ y. IsLeastWide g order y × A) fault → ⊥
 narrow_unnamed A g order fault x narrow is h =
     let shown : IsLeastWide g order x × A = subst (ShowsBuildFault (λ y. IsLeastWide g order y × A)) is h in
     narrow x shown.0.wide

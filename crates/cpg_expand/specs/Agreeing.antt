@@ -1,4 +1,5 @@
--- Trees that agree with what is carried in a scenario: their value there has a fact, and their path says no more than literals.
+-- Trees that agree with what is carried in a scenario: their value there has a fact, and their path says no more than
+-- literals.
 use Rattle.std.specs.Prelude.{◌≡◌, List}
 use Rattle.cpg_base.specs.Scenario.{Scenario}
 use Rattle.cpg_cube.specs.declared.literal.Literal.{Literal}
@@ -7,7 +8,8 @@ use Rattle.cpg_tree.specs.Tree.{Path, TreeState, IsOnPath, HasOnePathEach, DoPat
 use Rattle.cpg_tree.specs.Variables.{is_variable}
 use Rattle.cpg_run.specs.Carrying.{ContainsKept}
 
-pub record Agrees {T : Type 0} (s : Scenario) (literals : List Literal) (fact : T → Type 0) (t : TreeState T) : Type 0 where
+pub record Agrees {T : Type 0} (s : Scenario) (literals : List Literal) (fact : T → Type 0)
+    (t : TreeState T) : Type 0 where
   pub value : (x : Path T) → IsOnPath t.paths s x → fact x.1
   pub says : (x : Path T) → IsOnPath t.paths s x → ContainsKept t.faults x.0 literals
 

@@ -16,9 +16,10 @@ use Rattle.cpg_expand.specs.Waited.{IsReadyIfWaited}
 use Rattle.cpg_expand.specs.Waiting.{IsWaitTree}
 use Rattle.cpg_expand.specs.declared.forest.Ready.{Ready}
 
--- if it is active, its start and its end, and when its node goes on after it, if a later process waits for that; the start comes
--- about somehow, by where it is active
-pub record IsBegunBy (how : TreeState Bool → TreeState (Option ℕ) → Type 0) (g : Graph) (order : List ℕ) (p : ℕ) (guard : Guard)
+-- if it is active, its start and its end, and when its node goes on after it, if a later process waits for that; the
+-- start comes about somehow, by where it is active
+pub record IsBegunBy (how : TreeState Bool → TreeState (Option ℕ) → Type 0) (g : Graph) (order : List ℕ)
+    (p : ℕ) (guard : Guard)
     (old new : ForestState) (chooser : TreeState Bool) : Type 0 where
   pub chooser_tree : IsTree g chooser
   pub actives : IsActiveTree g.faults guard chooser
@@ -38,7 +39,8 @@ pub record IsBegunBy (how : TreeState Bool → TreeState (Option ℕ) → Type 0
   }
 
 -- by all that it waits for in each scenario
-pub record IsThawedStart (g : Graph) (p : ℕ) (f : ForestState) (guard : Guard) (start : TreeState (Option ℕ)) : Type 0 where
+pub record IsThawedStart (g : Graph) (p : ℕ) (f : ForestState) (guard : Guard)
+    (start : TreeState (Option ℕ)) : Type 0 where
   pub wait : TreeState ℕ
   pub waits : IsWaitTree g f (node_of g p) guard wait
   pub is : IsStartTree g f wait (process_at g p).release (inputs g p) guard start
@@ -47,25 +49,32 @@ abbrev pub thawed_start : Graph → ℕ → ForestState → Guard → TreeState 
 thawed_start g p f guard chooser start = IsThawedStart g p f guard start
 
 -- at the latest time of all
-pub record IsFrozenStart (g : Graph) (order : List ℕ) (guards : Guards) (p : ℕ) (f : ForestState) (before after : List (Option ℕ))
+pub record IsFrozenStart (g : Graph) (order : List ℕ) (guards : Guards) (p : ℕ) (f : ForestState)
+    (before after : List (Option ℕ))
     (chooser : TreeState Bool) (start : TreeState (Option ℕ)) : Type 0 where
   pub from : ℕ
   pub cut : IsCut g order guards (node_of g p) (place order p) from
   pub latest : Option ℕ
-  pub top : IsLatestStart g order guards f (node_of g p) from (place order p) (process_at g p).release (inputs g p) chooser latest
+  pub top : IsLatestStart g order guards f (node_of g p) from (place order p) (process_at g p).release
+      (inputs g p) chooser latest
   pub frozen : IsFrozenBy p latest chooser before after start
 
-abbrev pub any_start : Graph → List ℕ → Guards → ℕ → ForestState → List (Option ℕ) → List (Option ℕ) → TreeState Bool → TreeState (Option ℕ) → Type 0
+abbrev pub any_start : Graph → List ℕ → Guards → ℕ → ForestState → List (Option ℕ) → List (Option ℕ) → TreeState Bool →
+    TreeState (Option ℕ) → Type 0
 any_start g order guards p f before after chooser start =
-    ((is_frozen g p ≡ false) × (after ≡ before) × thawed_start g p f (tree_of guards p) chooser start) ⊎ ((is_frozen g p ≡ true) ×
+    ((is_frozen g p ≡ false) × (after ≡ before) × thawed_start g p f (tree_of guards p) chooser start) ⊎
+    ((is_frozen g p ≡ true) ×
     IsFrozenStart g order guards p f before after chooser start)
 
 abbrev pub IsBegunThawed : Graph → List ℕ → ℕ → Guard → ForestState → ForestState → TreeState Bool → Type 0
 IsBegunThawed g order p guard old new chooser = IsBegunBy (thawed_start g p old guard) g order p guard old new chooser
 
-abbrev pub IsBegunFrozen : Graph → List ℕ → Guards → ℕ → ForestState → ForestState → List (Option ℕ) → List (Option ℕ) → TreeState Bool → Type 0
+abbrev pub IsBegunFrozen : Graph → List ℕ → Guards → ℕ → ForestState → ForestState → List (Option ℕ) → List (Option ℕ) →
+    TreeState Bool → Type 0
 IsBegunFrozen g order guards p old new before after chooser =
     IsBegunBy (IsFrozenStart g order guards p old before after) g order p (tree_of guards p) old new chooser
 
-abbrev pub IsBegun : Graph → List ℕ → Guards → ℕ → ForestState → ForestState → List (Option ℕ) → List (Option ℕ) → TreeState Bool → Type 0
-IsBegun g order guards p old new before after chooser = IsBegunBy (any_start g order guards p old before after) g order p (tree_of guards p) old new chooser
+abbrev pub IsBegun : Graph → List ℕ → Guards → ℕ → ForestState → ForestState → List (Option ℕ) → List (Option ℕ) →
+    TreeState Bool → Type 0
+IsBegun g order guards p old new before after chooser =
+    IsBegunBy (any_start g order guards p old before after) g order p (tree_of guards p) old new chooser

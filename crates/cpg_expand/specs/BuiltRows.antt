@@ -8,8 +8,8 @@ use Rattle.cpg_run.specs.Finish.{IsWorst, IsExcess}
 use Rattle.cpg_run.specs.Found.{AreRowsFound, DoRowsFit}
 use Rattle.cpg_expand.specs.declared.built_rows.BuiltRows.{BuiltRows}
 
--- The rows are those of the order's runs, with the frozen times and the measures. No row has too many columns, nor have all rows of
--- all tables together.
+-- The rows are those of the order's runs, with the frozen times and the measures. No row has too many columns, nor have
+-- all rows of all tables together.
 pub record AreBuiltRows (g : Graph) (urgency order : List ℕ) (r : BuiltRows) : Type 0 where
   pub same : r.order ≡ order
   pub found : AreRowsFound g urgency order r.frozen r.rows.items

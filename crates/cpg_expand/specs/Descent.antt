@@ -14,7 +14,8 @@ AreLeaves fact (Leaf a) = fact a
 AreLeaves fact (Test c off on) = AreLeaves fact off × AreLeaves fact on
 
 -- each tree is made, and fits its guard
-abbrev pub AreKnown : {T : Type 0} → (TreeState T → Type 0) → (Guard → TreeState T → Type 0) → List (KnownGuard T) → Type 0
+abbrev pub AreKnown : {T : Type 0} → (TreeState T → Type 0) → (Guard → TreeState T → Type 0) → List (KnownGuard T) →
+    Type 0
 AreKnown {T} made fits known = All (λ (k : KnownGuard T). made k.tree × fits k.guard.now k.tree) known
 
 -- a guard is at a place
@@ -36,11 +37,13 @@ IsTreeOf {T} known (At i) r = HoldsAt (λ (k : KnownGuard T). r ≡ k.tree) know
 IsTreeOf known (Alone t) r = r ≡ t
 
 -- a tree of a guard is found
-abbrev pub IsFound : {T : Type 0} → (TreeState T → Type 0) → (Guard → TreeState T → Type 0) → List (KnownGuard T) → Guard → Source T → Type 0
+abbrev pub IsFound : {T : Type 0} → (TreeState T → Type 0) → (Guard → TreeState T → Type 0) → List (KnownGuard T) →
+    Guard → Source T → Type 0
 IsFound made fits known g (At i) = IsAt known i g
 IsFound made fits known g (Alone t) = made t × fits g t
 
 -- a guard and its tree are added, or the tree is given back
 abbrev pub IsAdded : {T : Type 0} → List (KnownGuard T) → List (KnownGuard T) → Guard → TreeState T → Source T → Type 0
-IsAdded {T} old new g tree (At i) = (i ≡ length old) × (k : KnownGuard T) × (new ≡ old ++ (k ∷ [])) × (k.guard.now ≡ g) × (k.tree ≡ tree)
+IsAdded {T} old new g tree (At i) =
+    (i ≡ length old) × (k : KnownGuard T) × (new ≡ old ++ (k ∷ [])) × (k.guard.now ≡ g) × (k.tree ≡ tree)
 IsAdded old new g tree (Alone t) = (new ≡ old) × (t ≡ tree)

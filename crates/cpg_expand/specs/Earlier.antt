@@ -31,10 +31,12 @@ is_always (Test c off on) = is_always off && is_always on
 
 -- nothing stands before a place, or a process from there on is always active: what stands before waits for that one
 abbrev pub IsCut : Graph → List ℕ → Guards → ℕ → ℕ → ℕ → Type 0
-IsCut g order guards node to from = (from ≡ 0) ⊎ ((z : ℕ) × IsBetween g order node from to z × (is_always (tree_of guards z) ≡ true))
+IsCut g order guards node to from =
+    (from ≡ 0) ⊎ ((z : ℕ) × IsBetween g order node from to z × (is_always (tree_of guards z) ≡ true))
 
 -- one of the first k processes is between two places, and its guard tests a condition
-pub record IsAskedOf (g : Graph) (order : List ℕ) (guards : Guards) (node from to c k : ℕ) (o : List Bool) : Type 0 where
+pub record IsAskedOf (g : Graph) (order : List ℕ) (guards : Guards) (node from to c k : ℕ)
+    (o : List Bool) : Type 0 where
   pub process : ℕ
   pub below : process < k
   pub between : IsBetween g order node from to process
@@ -42,9 +44,12 @@ pub record IsAskedOf (g : Graph) (order : List ℕ) (guards : Guards) (node from
 
 -- a tree is true exactly where one does
 abbrev pub IsAskedTree : Graph → List ℕ → Guards → ℕ → ℕ → ℕ → ℕ → ℕ → TreeState Bool → Type 0
-IsAskedTree g order guards node from to c k t = (s : Scenario) → HasAtMostFaults g.faults s → (x : Path Bool) → IsOnPath t.paths s x →
-    (x.1 ≡ true → IsAskedOf g order guards node from to c k s.values) × (IsAskedOf g order guards node from to c k s.values → x.1 ≡ true)
+IsAskedTree g order guards node from to c k t =
+    (s : Scenario) → HasAtMostFaults g.faults s → (x : Path Bool) → IsOnPath t.paths s x →
+    (x.1 ≡ true → IsAskedOf g order guards node from to c k s.values) ×
+    (IsAskedOf g order guards node from to c k s.values → x.1 ≡ true)
 
 -- a tree is true exactly where two others are
 abbrev pub IsBothTree : ℕ → TreeState Bool → TreeState Bool → TreeState Bool → Type 0
-IsBothTree k a b t = (s : Scenario) → HasAtMostFaults k s → (x y z : Path Bool) → IsOnPath a.paths s x → IsOnPath b.paths s y → IsOnPath t.paths s z → z.1 ≡ (x.1 && y.1)
+IsBothTree k a b t = (s : Scenario) → HasAtMostFaults k s → (x y z : Path Bool) → IsOnPath a.paths s x →
+    IsOnPath b.paths s y → IsOnPath t.paths s z → z.1 ≡ (x.1 && y.1)

@@ -20,13 +20,16 @@ durations_of g p = map (duration g p) (numbers_below (g.faults + 1))
 
 -- the ends of a process, by its starts and its count
 abbrev pub IsEndTree : Graph → ℕ → TreeState (Option ℕ) → TreeState (Option ℕ) → Type 0
-IsEndTree g p start t = (s : Scenario) → HasAtMostFaults g.faults s → (literals : List Literal) (x : Option ℕ) → HasValueFrom s literals x start →
+IsEndTree g p start t = (s : Scenario) → HasAtMostFaults g.faults s → (literals : List Literal) (x : Option ℕ) →
+    HasValueFrom s literals x start →
     HasValueFrom s (literals ++ number_known s p ∷ []) (ended (durations_of g p) (number_of s p) x) t
 
 -- the end if a process is active, and else the time for which it would have waited
 abbrev pub IsReadyTree : ℕ → TreeState Bool → TreeState (Option ℕ) → TreeState ℕ → TreeState ℕ → Type 0
-IsReadyTree k active end wait t = (s : Scenario) → HasAtMostFaults k s → (b : Bool) (first second : List Literal) (x : Option ℕ) (w v : ℕ) → HasValueFrom s first b active →
-    (b ≡ true → HasValueFrom s second x end × (v ≡ time_later 0 x)) → (b ≡ false → HasValueFrom s second w wait × (v ≡ w)) → HasValueFrom s (first ++ second) v t
+IsReadyTree k active end wait t = (s : Scenario) → HasAtMostFaults k s →
+    (b : Bool) (first second : List Literal) (x : Option ℕ) (w v : ℕ) → HasValueFrom s first b active →
+    (b ≡ true → HasValueFrom s second x end × (v ≡ time_later 0 x)) →
+    (b ≡ false → HasValueFrom s second w wait × (v ≡ w)) → HasValueFrom s (first ++ second) v t
 
 -- from when on a node is ready after a process: by its ends or by a tree
 abbrev pub IsReadyAfter : Graph → ℕ → Ready → Type 0

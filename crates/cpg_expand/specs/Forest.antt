@@ -1,7 +1,8 @@
 -- The trees that are found along an order.
 use Rattle.std.specs.Prelude.{ℕ, ◌≡◌, ◌==◌, List, [], Option, length, get_or, All, ◌<◌, if◌then◌else◌}
 use Rattle.cpg_base.specs.Bus.{slot_length}
-use Rattle.cpg_base.specs.Graph.{Graph, process_count, item_count, node_of, source, process_of, is_message, message_item, broadcast_item, home}
+use Rattle.cpg_base.specs.Graph.{Graph, process_count, item_count, node_of, source, process_of, is_message}
+use Rattle.cpg_base.specs.Graph.{message_item, broadcast_item, home}
 use Rattle.cpg_tree.specs.Read.{later_by}
 use Rattle.cpg_tree.specs.Tree.{TreeState}
 use Rattle.cpg_expand.specs.Agreeing.{IsTree}
@@ -64,7 +65,8 @@ input_delay g e = if is_message g e then slot_length g (home g (message_item g e
 
 -- what tells when a node has heard a condition, and how long after
 abbrev pub heard_tree : Graph → ForestState → ℕ → ℕ → TreeState (Option ℕ)
-heard_tree g f node c = if node_of g (process_of g c) == node then ends_of g f (process_of g c) else times_of g f (broadcast_item g c)
+heard_tree g f node c = if node_of g (process_of g c) == node then ends_of g f (process_of g c)
+    else times_of g f (broadcast_item g c)
 
 abbrev pub heard_delay : Graph → ℕ → ℕ → ℕ
 heard_delay g node c = if node_of g (process_of g c) == node then 0 else slot_length g (home g (broadcast_item g c))

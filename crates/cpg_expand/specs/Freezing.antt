@@ -9,6 +9,7 @@ set_if old x None = old
 set_if old x (Some time) = slice_set old x (Some time)
 
 -- the latest time is set, if there is one, and stands wherever the item is active
-pub record IsFrozenBy (x : ℕ) (latest : Option ℕ) (goes : TreeState Bool) (old new : List (Option ℕ)) (t : TreeState (Option ℕ)) : Type 0 where
+pub record IsFrozenBy (x : ℕ) (latest : Option ℕ) (goes : TreeState Bool) (old new : List (Option ℕ))
+    (t : TreeState (Option ℕ)) : Type 0 where
   pub set : new ≡ set_if old x latest
   pub made : IsMap (λ b z. z ≡ time_if (unwrap_or latest 0) b) goes t

@@ -1,5 +1,7 @@
--- What is kept along an order: the trees so far tell each run under the frozen times so far, whatever rows hold what they list.
-use Rattle.std.specs.Prelude.{ℕ, ◌+◌, ◌≡◌, ◌≢◌, ◌<◌, ◌≤◌, ◌⊎◌, true, false, List, Option, Some, None, All, Contains, take, length, get_or}
+-- What is kept along an order: the trees so far tell each run under the frozen times so far, whatever rows hold what
+-- they list.
+use Rattle.std.specs.Prelude.{ℕ, ◌+◌, ◌≡◌, ◌≢◌, ◌<◌, ◌≤◌, ◌⊎◌, true, false, List, Option, Some, None, All, Contains}
+use Rattle.std.specs.Prelude.{take, length, get_or}
 use Rattle.std.specs.List.{flat_map}
 use Rattle.cpg_base.specs.Graph.{Graph, process_count, item_count, node_of, is_frozen, is_sent, producer}
 use Rattle.cpg_base.specs.Scenario.{Scenario, IsScenario}
@@ -24,29 +26,37 @@ use Rattle.cpg_expand.specs.declared.forest.Ready.TheVariants.{After, At}
 
 -- rows in which what is sent for the processes before the place i has the columns that its tree lists
 pub record RowsHold (g : Graph) (order : List ℕ) (i : ℕ) (f : ForestState) (rows : List (List Column)) : Type 0 where
-  pub sends : (x : ℕ) → x < item_count g → process_count g ≤ x → place order (producer g x) < i → (path : Path (Option ℕ)) (time : ℕ) →
+  pub sends : (x : ℕ) → x < item_count g → process_count g ≤ x → place order (producer g x) < i →
+      (path : Path (Option ℕ)) (time : ℕ) →
       Contains (times_of g f x).paths path → path.1 ≡ Some time →
       (c : Column) × Contains (row_at rows x) c × (c.cube ≡ path.0)
 
 -- a tree tells when a node is ready, and no more than what the node carries on
-pub record IsReadyLine (g : Graph) (order : List ℕ) (rows : List (List Column)) (s : Scenario) (t : Times) (i node : ℕ) (tree : TreeState ℕ) : Type 0 where
+pub record IsReadyLine (g : Graph) (order : List ℕ) (rows : List (List Column)) (s : Scenario) (t : Times) (i node : ℕ)
+    (tree : TreeState ℕ) : Type 0 where
   pub time : ℕ
   pub is : IsReady g order s t i node time
   pub has_value : HasValueFrom s (flat_map (passed g rows s) (on_node g order i node)) time tree
 
 -- a tree tells when its slots are free, and no more than what is sent leaves to those behind it
-pub record IsFreeLine (g : Graph) (order : List ℕ) (rows : List (List Column)) (s : Scenario) (t : Times) (i node : ℕ) (tree : TreeState ℕ) : Type 0 where
+pub record IsFreeLine (g : Graph) (order : List ℕ) (rows : List (List Column)) (s : Scenario) (t : Times) (i node : ℕ)
+    (tree : TreeState ℕ) : Type 0 where
   pub time : ℕ
   pub is : IsFree g order s t i node time
   pub has_value : HasValueFrom s (flat_map (queued g order rows s) (sent_before g order i node)) time tree
 
--- in one scenario with its run the trees tell the times and ends before the place i, and when nodes are ready there and slots are free,
--- if that is waited for
-pub record Lines (g : Graph) (order : List ℕ) (rows : List (List Column)) (s : Scenario) (t : Times) (i : ℕ) (f : ForestState) : Type 0 where
-  pub times : (x : ℕ) → x < item_count g → place order (producer g x) < i → HasValueFrom s (carried g order rows s x) (get_or t.times x None) (times_of g f x)
-  pub ends : (q : ℕ) → q < process_count g → place order q < i → HasValueFrom s (carried_at_end g order rows s q) (get_or t.ends q None) (ends_of g f q)
-  pub ready : (node : ℕ) → node < length g.nodes → IsWaitedFor g order i node → IsReadyLine g order rows s t i node (ready_of g f node)
-  pub free : (node : ℕ) → node < length g.nodes → IsQueuedFor g order i node → IsFreeLine g order rows s t i node (free_of g f node)
+-- in one scenario with its run the trees tell the times and ends before the place i, and when nodes are ready there and
+-- slots are free, if that is waited for
+pub record Lines (g : Graph) (order : List ℕ) (rows : List (List Column)) (s : Scenario) (t : Times) (i : ℕ)
+    (f : ForestState) : Type 0 where
+  pub times : (x : ℕ) → x < item_count g → place order (producer g x) < i →
+      HasValueFrom s (carried g order rows s x) (get_or t.times x None) (times_of g f x)
+  pub ends : (q : ℕ) → q < process_count g → place order q < i →
+      HasValueFrom s (carried_at_end g order rows s q) (get_or t.ends q None) (ends_of g f q)
+  pub ready : (node : ℕ) → node < length g.nodes → IsWaitedFor g order i node →
+      IsReadyLine g order rows s t i node (ready_of g f node)
+  pub free : (node : ℕ) → node < length g.nodes → IsQueuedFor g order i node →
+      IsFreeLine g order rows s t i node (free_of g f node)
 
 -- an item of a process before the place i
 abbrev pub IsEarlier : Graph → List ℕ → ℕ → ℕ → Type 0
@@ -57,8 +67,10 @@ abbrev pub IsDone : Graph → List ℕ → ℕ → ℕ → ℕ → Type 0
 IsDone g order p k x = IsEarlier g order (place order p) x ⊎ ((x ≡ p) ⊎ Contains (take k (queue_of g p)) x)
 
 -- the trees tell of all processes before one, of its start and its end, and of the first k items that it sends
-pub record SendLines (g : Graph) (order : List ℕ) (rows : List (List Column)) (s : Scenario) (t : Times) (p k : ℕ) (f : ForestState) : Type 0 where
-  pub times : (x : ℕ) → x < item_count g → IsDone g order p k x → HasValueFrom s (carried g order rows s x) (get_or t.times x None) (times_of g f x)
+pub record SendLines (g : Graph) (order : List ℕ) (rows : List (List Column)) (s : Scenario) (t : Times) (p k : ℕ)
+    (f : ForestState) : Type 0 where
+  pub times : (x : ℕ) → x < item_count g → IsDone g order p k x →
+      HasValueFrom s (carried g order rows s x) (get_or t.times x None) (times_of g f x)
   pub ends : (q : ℕ) → q < process_count g → place order q < place order p + 1 →
       HasValueFrom s (carried_at_end g order rows s q) (get_or t.ends q None) (ends_of g f q)
   pub ready : (node : ℕ) → node < length g.nodes → IsWaitedFor g order (place order p + 1) node →
@@ -76,7 +88,8 @@ pub record AreSettledOf (g : Graph) (order : List ℕ) (Done : ℕ → Type 0) (
 
 -- an edge within a node has no times
 abbrev pub LeavesUnsent : Graph → ForestState → Type 0
-LeavesUnsent g f = (x : ℕ) → process_count g ≤ x → x < item_count g → is_sent g x ≡ false → IsConstant None g.faults (times_of g f x)
+LeavesUnsent g f =
+    (x : ℕ) → process_count g ≤ x → x < item_count g → is_sent g x ≡ false → IsConstant None g.faults (times_of g f x)
 
 -- the trees are grown up to the place i
 pub record IsGrown (g : Graph) (order : List ℕ) (i : ℕ) (frozen : List (Option ℕ)) (f : ForestState) : Type 0 where
@@ -91,12 +104,14 @@ pub record IsSending (g : Graph) (order : List ℕ) (p k : ℕ) (frozen : List (
   pub trees : HasTrees g f
   pub unsent : LeavesUnsent g f
   pub settled : AreSettledOf g order (IsDone g order p k) frozen
-  pub lines : (rows : List (List Column)) → RowsHold g order (place order p) f rows → (s : Scenario) → IsScenario g s → (t : Times) →
+  pub lines : (rows : List (List Column)) → RowsHold g order (place order p) f rows → (s : Scenario) → IsScenario g s →
+      (t : Times) →
       IsRun g order frozen s t → SendLines g order rows s t p k f
 
 -- a process whose place is next is gone over: the trees are grown up to the place behind it
 abbrev pub IsGrownBy : Graph → List ℕ → ℕ → List (Option ℕ) → ForestState → List (Option ℕ) → ForestState → Type 0
-IsGrownBy g order p before old after new = IsTopological g order → IsGrown g order (place order p) before old → IsGrown g order (place order p + 1) after new
+IsGrownBy g order p before old after new =
+    IsTopological g order → IsGrown g order (place order p) before old → IsGrown g order (place order p + 1) after new
 
 -- a node is ready from the beginning
 abbrev pub IsReadyFirst : ℕ → Ready → Type 0

@@ -1,5 +1,6 @@
 -- Trees down guards.
-use Rattle.std.specs.Prelude.{ℕ, ◌<◌, ◌≤◌, ◌≡◌, ◌==◌, max, Bool, false, true, List, [], ◌∷◌, ◌++◌, Option, Some, None, map, if◌then◌else◌, Contains, get_or}
+use Rattle.std.specs.Prelude.{ℕ, ◌<◌, ◌≤◌, ◌≡◌, ◌==◌, max, Bool, false, true, List, [], ◌∷◌, ◌++◌, Option, Some, None}
+use Rattle.std.specs.Prelude.{map, if◌then◌else◌, Contains, get_or}
 use Rattle.std.specs.List.{flat_map, list_any}
 use Rattle.cpg_base.specs.Numbers.{greatest}
 use Rattle.cpg_base.specs.Graph.{Graph, is_message, value_variable}
@@ -27,11 +28,13 @@ values_known s cs = map (value_known s) cs
 -- the tree that the value of a condition picks
 abbrev pub PicksByValue : {T : Type 0} → ℕ → ℕ → TreeState T → TreeState T → TreeState T → Type 0
 PicksByValue {T} k c high low t = (s : Scenario) → HasAtMostFaults k s → (literals : List Literal) (x : T) →
-    HasValueFrom s literals x (if get_or s.values c false then high else low) → HasValueFrom s (value_known s c ∷ literals) x t
+    HasValueFrom s literals x (if get_or s.values c false then high else low) →
+    HasValueFrom s (value_known s c ∷ literals) x t
 
 -- where a guard comes to an activation
 abbrev pub IsActiveTree : ℕ → Guard → TreeState Bool → Type 0
-IsActiveTree k guard t = (s : Scenario) → HasAtMostFaults k s → HasValueFrom s (values_known s (way guard s.values)) (is_active (outcome_at guard s.values)) t
+IsActiveTree k guard t = (s : Scenario) → HasAtMostFaults k s →
+    HasValueFrom s (values_known s (way guard s.values)) (is_active (outcome_at guard s.values)) t
 
 -- whether a guard tests a condition on an outcome's way
 abbrev pub is_tested : Guard → List Bool → ℕ → Bool
@@ -39,7 +42,8 @@ is_tested guard o c = list_any (λ d. d == c) (way guard o)
 
 -- where it does
 abbrev pub IsTestedOn : ℕ → Guard → ℕ → TreeState Bool → Type 0
-IsTestedOn k guard c t = (s : Scenario) → HasAtMostFaults k s → HasValueFrom s (values_known s (way guard s.values)) (is_tested guard s.values c) t
+IsTestedOn k guard c t = (s : Scenario) → HasAtMostFaults k s →
+    HasValueFrom s (values_known s (way guard s.values)) (is_tested guard s.values c) t
 
 -- the literals by which these conditions are heard, and their values
 abbrev pub support_of : Scenario → (ℕ → List Literal) → List ℕ → List Literal
@@ -51,28 +55,37 @@ latest_of delay time xs = greatest (map (λ x. time_later (delay x) (time x)) xs
 
 -- when a node has heard all that a guard tests, by what tells when it hears each condition on the way
 abbrev pub IsHeardTree : Graph → ForestState → ℕ → Guard → TreeState ℕ → Type 0
-IsHeardTree g f node guard t = (s : Scenario) → HasAtMostFaults g.faults s → (support : ℕ → List Literal) (time : ℕ → Option ℕ) →
+IsHeardTree g f node guard t =
+    (s : Scenario) → HasAtMostFaults g.faults s → (support : ℕ → List Literal) (time : ℕ → Option ℕ) →
     ((c : ℕ) → Contains (way guard s.values) c → HasValueFrom s (support c) (time c) (heard_tree g f node c)) →
-    HasValueFrom s (support_of s support (way guard s.values)) (latest_of (heard_delay g node) time (way guard s.values)) t
+    HasValueFrom s (support_of s support (way guard s.values))
+    (latest_of (heard_delay g node) time (way guard s.values)) t
 
 -- inputs that are no messages, those within the node, are there once it is ready
 abbrev pub AreThere : Graph → (ℕ → Option ℕ) → ℕ → List ℕ → Type 0
 AreThere g time ready edges = (e : ℕ) → Contains edges e → is_message g e ≡ false → time_later 0 (time e) ≤ ready
 
 -- the starts of a scenario after a release and after these inputs are there, too, with other literals first
-abbrev pub StartsAfter : Graph → ForestState → Scenario → List Literal → TreeState ℕ → ℕ → List ℕ → TreeState (Option ℕ) → Type 0
-StartsAfter g f s first wait release edges t = (base : List Literal) (x : ℕ) → HasValueFrom s base x wait → (support : ℕ → List Literal) (time : ℕ → Option ℕ) →
+abbrev pub StartsAfter : Graph → ForestState → Scenario → List Literal → TreeState ℕ → ℕ → List ℕ →
+    TreeState (Option ℕ) → Type 0
+StartsAfter g f s first wait release edges t =
+    (base : List Literal) (x : ℕ) → HasValueFrom s base x wait → (support : ℕ → List Literal) (time : ℕ → Option ℕ) →
     AreThere g time x edges → ((e : ℕ) → Contains edges e → HasValueFrom s (support e) (time e) (input_tree g f e)) →
-    HasValueFrom s (first ++ (base ++ flat_map support edges)) (Some (max (max x release) (latest_of (input_delay g) time edges))) t
+    HasValueFrom s (first ++ (base ++ flat_map support edges))
+    (Some (max (max x release) (latest_of (input_delay g) time edges))) t
 
 abbrev pub IsStartAfter : Graph → ForestState → TreeState ℕ → ℕ → List ℕ → TreeState (Option ℕ) → Type 0
-IsStartAfter g f wait release edges t = (s : Scenario) → HasAtMostFaults g.faults s → StartsAfter g f s [] wait release edges t
+IsStartAfter g f wait release edges t =
+    (s : Scenario) → HasAtMostFaults g.faults s → StartsAfter g f s [] wait release edges t
 
 -- the starts after a release and after these inputs are there, if a chooser is true, and no starts if it is false
-pub record IsStartWhere (g : Graph) (f : ForestState) (chooser : TreeState Bool) (wait : TreeState ℕ) (release : ℕ) (edges : List ℕ)
+pub record IsStartWhere (g : Graph) (f : ForestState) (chooser : TreeState Bool) (wait : TreeState ℕ) (release : ℕ)
+    (edges : List ℕ)
     (t : TreeState (Option ℕ)) : Type 0 where
-  pub on : (s : Scenario) → HasAtMostFaults g.faults s → (given : List Literal) → HasValueFrom s given true chooser → StartsAfter g f s given wait release edges t
-  pub off : (s : Scenario) → HasAtMostFaults g.faults s → (given : List Literal) → HasValueFrom s given false chooser → HasValueFrom s given None t
+  pub on : (s : Scenario) → HasAtMostFaults g.faults s → (given : List Literal) → HasValueFrom s given true chooser →
+      StartsAfter g f s given wait release edges t
+  pub off : (s : Scenario) → HasAtMostFaults g.faults s → (given : List Literal) → HasValueFrom s given false chooser →
+      HasValueFrom s given None t
 
 -- the inputs that a process with an activation waits for
 abbrev pub awaited : List ℕ → Activation → List ℕ
@@ -85,19 +98,24 @@ abbrev pub start_says : List Literal → (ℕ → List Literal) → List ℕ →
 start_says base support inputs a = if is_active a then base ++ flat_map support (awaited inputs a) else []
 
 abbrev pub start_at : ℕ → ℕ → (ℕ → ℕ) → (ℕ → Option ℕ) → List ℕ → Activation → Option ℕ
-start_at wait release delay time inputs a = if is_active a then Some (max (max wait release) (latest_of delay time (awaited inputs a))) else None
+start_at wait release delay time inputs a = if is_active a
+    then Some (max (max wait release) (latest_of delay time (awaited inputs a))) else None
 
 abbrev pub IsStartBy : Graph → ForestState → TreeState ℕ → ℕ → List ℕ → Activation → TreeState (Option ℕ) → Type 0
-IsStartBy g f wait release inputs a t = (s : Scenario) → HasAtMostFaults g.faults s → (base : List Literal) (x : ℕ) → HasValueFrom s base x wait →
+IsStartBy g f wait release inputs a t =
+    (s : Scenario) → HasAtMostFaults g.faults s → (base : List Literal) (x : ℕ) → HasValueFrom s base x wait →
     (support : ℕ → List Literal) (time : ℕ → Option ℕ) → AreThere g time x (awaited inputs a) →
     ((e : ℕ) → Contains (awaited inputs a) e → HasValueFrom s (support e) (time e) (input_tree g f e)) →
     HasValueFrom s (start_says base support inputs a) (start_at x release (input_delay g) time inputs a) t
 
 -- the starts of a process with a guard
 abbrev pub IsStartTree : Graph → ForestState → TreeState ℕ → ℕ → List ℕ → Guard → TreeState (Option ℕ) → Type 0
-IsStartTree g f wait release inputs guard t = (s : Scenario) → HasAtMostFaults g.faults s → (base : List Literal) (x : ℕ) → HasValueFrom s base x wait →
-    (support : ℕ → List Literal) (time : ℕ → Option ℕ) → AreThere g time x (awaited inputs (outcome_at guard s.values)) →
-    ((e : ℕ) → Contains (awaited inputs (outcome_at guard s.values)) e → HasValueFrom s (support e) (time e) (input_tree g f e)) →
+IsStartTree g f wait release inputs guard t =
+    (s : Scenario) → HasAtMostFaults g.faults s → (base : List Literal) (x : ℕ) → HasValueFrom s base x wait →
+    (support : ℕ → List Literal) (time : ℕ → Option ℕ) →
+    AreThere g time x (awaited inputs (outcome_at guard s.values)) →
+    ((e : ℕ) → Contains (awaited inputs (outcome_at guard s.values)) e →
+    HasValueFrom s (support e) (time e) (input_tree g f e)) →
     HasValueFrom s (values_known s (way guard s.values) ++ start_says base support inputs (outcome_at guard s.values))
     (start_at x release (input_delay g) time inputs (outcome_at guard s.values)) t
 

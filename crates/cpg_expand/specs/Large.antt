@@ -1,4 +1,5 @@
--- Trees that have too many leaves, where they are counted: what such a one tells, and where along an order it comes about.
+-- Trees that have too many leaves, where they are counted: what such a one tells, and where along an order it comes
+-- about.
 use Rattle.std.specs.Prelude.{ℕ, ◌+◌, ◌≡◌, ◌<◌, ◌⊎◌, false, true, List, [], ◌∷◌, Option, Some, Contains, length}
 use Rattle.cpg_base.specs.Graph.{Graph, process_at, process_count, item_count, node_of, inputs, is_frozen, is_message}
 use Rattle.cpg_base.specs.Order.{place}
@@ -43,13 +44,15 @@ IsLargeHeard g f node guard = IsLargeDown (λ a. ⊥) (IsHeardTree g f node) gua
 -- a tree has too many leaves that tells when a node is ready, or has heard what a guard tests, or both
 abbrev pub IsLargeWait : Graph → ForestState → ℕ → Guard → Type 0
 IsLargeWait g f node guard =
-    IsLarge (ready_of g f node) ⊎ (IsLargeHeard g f node guard ⊎ ((wait : TreeState ℕ) × IsWaitTree g f node guard wait × IsLarge wait))
+    IsLarge (ready_of g f node) ⊎
+    (IsLargeHeard g f node guard ⊎ ((wait : TreeState ℕ) × IsWaitTree g f node guard wait × IsLarge wait))
 
 -- a tree has too many leaves that tells when the wait is over and the first of these inputs are there, taken one by one
 abbrev pub IsLargeWith : Graph → ForestState → TreeState ℕ → List ℕ → Type 0
 IsLargeWith g f wait [] = ⊥
 IsLargeWith g f wait (e ∷ es) = ((is_message g e ≡ false) × IsLargeWith g f wait es)
-    ⊎ ((both : TreeState ℕ) × IsLatest g.faults wait (later_by (input_delay g e) (input_tree g f e)) both × (IsLarge both ⊎ IsLargeWith g f both es))
+    ⊎ ((both : TreeState ℕ) × IsLatest g.faults wait (later_by (input_delay g e) (input_tree g f e)) both ×
+    (IsLarge both ⊎ IsLargeWith g f both es))
 
 -- a tree has too many leaves that tells the starts with a guard, or with a part of it
 abbrev pub IsLargeStart : Graph → ForestState → TreeState ℕ → ℕ → List ℕ → Guard → Type 0
@@ -62,7 +65,8 @@ IsLargeEnd g p start = IsLarge start ⊎ ((end : TreeState (Option ℕ)) × IsEn
 
 abbrev pub IsLargeOf : Graph → ℕ → ForestState → Guard → TreeState ℕ → Type 0
 IsLargeOf g p f guard wait =
-    (start : TreeState (Option ℕ)) × IsStartTree g f wait (process_at g p).release (inputs g p) guard start × IsLargeEnd g p start
+    (start : TreeState (Option ℕ)) × IsStartTree g f wait (process_at g p).release (inputs g p) guard start ×
+    IsLargeEnd g p start
 
 -- a tree has too many leaves after what a process waits for: that with its inputs, or that of its starts or its ends
 pub record IsLargeAfter (g : Graph) (p : ℕ) (f : ForestState) (guard : Guard) : Type 0 where
@@ -75,12 +79,14 @@ IsLargeThawed g p f guard = IsLargeWait g f (node_of g p) guard ⊎ IsLargeAfter
 
 -- a tree of what a frozen process would wait for has too many leaves, and a later process of its node waits
 abbrev pub IsLargeFrozen : Graph → List ℕ → ℕ → ForestState → Guard → Type 0
-IsLargeFrozen g order p f guard = IsWaitedFor g order (place order p + 1) (node_of g p) × IsLargeWait g f (node_of g p) guard
+IsLargeFrozen g order p f guard =
+    IsWaitedFor g order (place order p + 1) (node_of g p) × IsLargeWait g f (node_of g p) guard
 
 -- a tree has too many leaves on the way to the start and the end of a process
 abbrev pub IsLargeBegun : Graph → List ℕ → Guards → ℕ → ForestState → Type 0
 IsLargeBegun g order guards p f =
-    ((is_frozen g p ≡ false) × IsLargeThawed g p f (tree_of guards p)) ⊎ ((is_frozen g p ≡ true) × IsLargeFrozen g order p f (tree_of guards p))
+    ((is_frozen g p ≡ false) × IsLargeThawed g p f (tree_of guards p)) ⊎
+    ((is_frozen g p ≡ true) × IsLargeFrozen g order p f (tree_of guards p))
 
 -- the tree of an item that a process sends has too many leaves
 pub record HasLargeSend (g : Graph) (p : ℕ) (f : ForestState) : Type 0 where
@@ -93,7 +99,8 @@ pub record HasLargeSend (g : Graph) (p : ℕ) (f : ForestState) : Type 0 where
 abbrev pub HasLargeFree : Graph → List ℕ → ℕ → ℕ → ForestState → Type 0
 HasLargeFree g order i node f = IsQueuedFor g order i node × IsLarge (free_of g f node)
 
--- once a process has sent, the tree of an item that it sends, or that of when its node's slots are free, has too many leaves
+-- once a process has sent, the tree of an item that it sends, or that of when its node's slots are free, has too many
+-- leaves
 abbrev pub IsLargeLeft : Graph → List ℕ → ℕ → ForestState → Type 0
 IsLargeLeft g order p f = HasLargeSend g p f ⊎ HasLargeFree g order (place order p + 1) (node_of g p) f
 

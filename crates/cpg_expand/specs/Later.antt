@@ -8,25 +8,33 @@ use Rattle.cpg_expand.specs.Agreeing.{HasValueFrom}
 use Rattle.cpg_expand.specs.Values.{time_later}
 
 abbrev pub IsLaterTree : ℕ → ℕ → TreeState (Option ℕ) → TreeState ℕ → Type 0
-IsLaterTree k delay tree t = (s : Scenario) → HasAtMostFaults k s → (literals : List Literal) (x : Option ℕ) → HasValueFrom s literals x tree →
+IsLaterTree k delay tree t =
+    (s : Scenario) → HasAtMostFaults k s → (literals : List Literal) (x : Option ℕ) → HasValueFrom s literals x tree →
     HasValueFrom s literals (time_later delay x) t
 
 -- a tree has the values of another one
 abbrev pub IsNoMore : ℕ → TreeState ℕ → TreeState ℕ → Type 0
-IsNoMore k tree t = (s : Scenario) → HasAtMostFaults k s → (literals : List Literal) (x : ℕ) → HasValueFrom s literals x tree → HasValueFrom s literals x t
+IsNoMore k tree t = (s : Scenario) → HasAtMostFaults k s → (literals : List Literal) (x : ℕ) →
+    HasValueFrom s literals x tree → HasValueFrom s literals x t
 
 -- the later of the times of two trees
 abbrev pub IsLatest : ℕ → TreeState ℕ → TreeState ℕ → TreeState ℕ → Type 0
-IsLatest k one two t = (s : Scenario) → HasAtMostFaults k s → (first second : List Literal) (x y : ℕ) → HasValueFrom s first x one → HasValueFrom s second y two →
+IsLatest k one two t = (s : Scenario) → HasAtMostFaults k s → (first second : List Literal) (x y : ℕ) →
+    HasValueFrom s first x one → HasValueFrom s second y two →
     HasValueFrom s (first ++ second) (max x y) t
 
 -- the later of the times of two trees or a release, whichever is later, as a time
 abbrev pub IsReleased : ℕ → TreeState ℕ → TreeState ℕ → ℕ → TreeState (Option ℕ) → Type 0
-IsReleased k one two release t = (s : Scenario) → HasAtMostFaults k s → (first second : List Literal) (x y : ℕ) → HasValueFrom s first x one → HasValueFrom s second y two →
+IsReleased k one two release t = (s : Scenario) → HasAtMostFaults k s → (first second : List Literal) (x y : ℕ) →
+    HasValueFrom s first x one → HasValueFrom s second y two →
     HasValueFrom s (first ++ second) (Some (max (max x y) release)) t
 
 -- where a chooser is true, they are, and elsewhere there are none
-pub record IsReleasedWhere (k : ℕ) (chooser : TreeState Bool) (one two : TreeState ℕ) (release : ℕ) (t : TreeState (Option ℕ)) : Type 0 where
-  pub on : (s : Scenario) → HasAtMostFaults k s → (given first second : List Literal) (x y : ℕ) → HasValueFrom s given true chooser → HasValueFrom s first x one →
+pub record IsReleasedWhere (k : ℕ) (chooser : TreeState Bool) (one two : TreeState ℕ) (release : ℕ)
+    (t : TreeState (Option ℕ)) : Type 0 where
+  pub on : (s : Scenario) → HasAtMostFaults k s → (given first second : List Literal) (x y : ℕ) →
+      HasValueFrom s given true chooser →
+      HasValueFrom s first x one →
       HasValueFrom s second y two → HasValueFrom s (given ++ (first ++ second)) (Some (max (max x y) release)) t
-  pub off : (s : Scenario) → HasAtMostFaults k s → (given : List Literal) → HasValueFrom s given false chooser → HasValueFrom s given None t
+  pub off : (s : Scenario) → HasAtMostFaults k s → (given : List Literal) → HasValueFrom s given false chooser →
+      HasValueFrom s given None t

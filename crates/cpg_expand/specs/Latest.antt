@@ -28,18 +28,22 @@ pub record HasLater (tree : TreeState (Option ℕ)) (wanted : TreeState Bool) (d
   pub is : n ≡ time_later delay (Some time)
 
 -- in a scenario in which a process is active one of a node between two places has ended
-pub record HasEnded (g : Graph) (order : List ℕ) (f : ForestState) (active : TreeState Bool) (node from to q n : ℕ) (s : Scenario) : Type 0 where
+pub record HasEnded (g : Graph) (order : List ℕ) (f : ForestState) (active : TreeState Bool) (node from to q n : ℕ)
+    (s : Scenario) : Type 0 where
   pub between : IsBetween g order node from to q
   pub there : HasLater (ends_of g f q) active 0 n s
 
 -- one of the first k processes has
-pub record HasEndedOf (g : Graph) (order : List ℕ) (f : ForestState) (active : TreeState Bool) (node from to k n : ℕ) (s : Scenario) : Type 0 where
+pub record HasEndedOf (g : Graph) (order : List ℕ) (f : ForestState) (active : TreeState Bool) (node from to k n : ℕ)
+    (s : Scenario) : Type 0 where
   pub process : ℕ
   pub below : process < k
   pub there : HasEnded g order f active node from to process n s
 
--- in a scenario in which a process is active a node has heard a condition that a guard of one of its processes between two places tests
-pub record HasHeard (g : Graph) (order : List ℕ) (guards : Guards) (f : ForestState) (active : TreeState Bool) (node from to c n : ℕ)
+-- in a scenario in which a process is active a node has heard a condition that a guard of one of its processes between
+-- two places tests
+pub record HasHeard (g : Graph) (order : List ℕ) (guards : Guards) (f : ForestState) (active : TreeState Bool)
+    (node from to c n : ℕ)
     (s : Scenario) : Type 0 where
   pub asked : IsAskedOf g order guards node from to c (process_count g) s.values
   pub acts : HasValueAt active.paths true s
@@ -48,7 +52,8 @@ pub record HasHeard (g : Graph) (order : List ℕ) (guards : Guards) (f : Forest
   pub is : n ≡ time_later (heard_delay g node c) (Some time)
 
 -- one of the first k conditions
-pub record HasHeardOf (g : Graph) (order : List ℕ) (guards : Guards) (f : ForestState) (active : TreeState Bool) (node from to k n : ℕ)
+pub record HasHeardOf (g : Graph) (order : List ℕ) (guards : Guards) (f : ForestState) (active : TreeState Bool)
+    (node from to k n : ℕ)
     (s : Scenario) : Type 0 where
   pub condition : ℕ
   pub below : condition < k
@@ -62,7 +67,8 @@ pub record HasInput (g : Graph) (f : ForestState) (active : TreeState Bool) (e n
   pub is : n ≡ time_later (input_delay g e) (Some time)
 
 -- one of these inputs is
-pub record HasInputOf (g : Graph) (f : ForestState) (active : TreeState Bool) (edges : List ℕ) (n : ℕ) (s : Scenario) : Type 0 where
+pub record HasInputOf (g : Graph) (f : ForestState) (active : TreeState Bool) (edges : List ℕ) (n : ℕ)
+    (s : Scenario) : Type 0 where
   pub edge : ℕ
   pub of : Contains edges edge
   pub there : HasInput g f active edge n s
@@ -73,9 +79,10 @@ pub record IsRaised (g : Graph) (has : ℕ → Scenario → Type 0) (old new : �
   pub above : (n : ℕ) (s : Scenario) → IsScenario g s → has n s → n ≤ new
   pub found : (new ≡ old) ⊎ ((s : Scenario) × IsScenario g s × has new s)
 
--- the greatest of a release, of when each process before the place i has ended, of when the node has heard each condition that such a
--- one or the process itself tests, and of when each input is there
-pub record IsLatestAt (g : Graph) (order : List ℕ) (guards : Guards) (f : ForestState) (node from i : ℕ) (ready : TreeState (Option ℕ))
+-- the greatest of a release, of when each process before the place i has ended, of when the node has heard each
+-- condition that such a one or the process itself tests, and of when each input is there
+pub record IsLatestAt (g : Graph) (order : List ℕ) (guards : Guards) (f : ForestState) (node from i : ℕ)
+    (ready : TreeState (Option ℕ))
     (edges : List ℕ) (active : TreeState Bool) (latest : ℕ) : Type 0 where
   pub first : ℕ
   pub top : IsTopAt g (HasWhere ready active) first
@@ -86,12 +93,15 @@ pub record IsLatestAt (g : Graph) (order : List ℕ) (guards : Guards) (f : Fore
   pub raised : IsRaised g (HasInputOf g f active edges) heard latest
 
 -- the greatest time at which all that a process waits for is there, and none if it is never active
-abbrev pub IsLatestOf : Graph → List ℕ → Guards → ForestState → ℕ → ℕ → ℕ → TreeState (Option ℕ) → List ℕ → TreeState Bool → Option ℕ → Type 0
+abbrev pub IsLatestOf : Graph → List ℕ → Guards → ForestState → ℕ → ℕ → ℕ → TreeState (Option ℕ) → List ℕ →
+    TreeState Bool → Option ℕ → Type 0
 IsLatestOf g order guards f node from i ready edges active None = IsTop g (HasWhere ready active) None
-IsLatestOf g order guards f node from i ready edges active (Some latest) = IsLatestAt g order guards f node from i ready edges active latest
+IsLatestOf g order guards f node from i ready edges active (Some latest) =
+    IsLatestAt g order guards f node from i ready edges active latest
 
 -- by a tree of a release
-pub record IsLatestStart (g : Graph) (order : List ℕ) (guards : Guards) (f : ForestState) (node from i release : ℕ) (edges : List ℕ)
+pub record IsLatestStart (g : Graph) (order : List ℕ) (guards : Guards) (f : ForestState) (node from i release : ℕ)
+    (edges : List ℕ)
     (active : TreeState Bool) (latest : Option ℕ) : Type 0 where
   pub ready : TreeState (Option ℕ)
   pub each : HasOnePathEach g.faults ready.paths
@@ -101,23 +111,27 @@ pub record IsLatestStart (g : Graph) (order : List ℕ) (guards : Guards) (f : F
 -- ---- sends
 
 -- in a scenario in which an item goes one that stands before it in the queue of its node was sent a round before
-pub record HasQueued (g : Graph) (order : List ℕ) (f : ForestState) (goes : TreeState Bool) (x y n : ℕ) (s : Scenario) : Type 0 where
+pub record HasQueued (g : Graph) (order : List ℕ) (f : ForestState) (goes : TreeState Bool) (x y n : ℕ)
+    (s : Scenario) : Type 0 where
   pub before : stands_before g order y x ≡ true
   pub there : HasLater (times_of g f y) goes (round g) n s
 
 -- one of the first k items
-pub record HasQueuedOf (g : Graph) (order : List ℕ) (f : ForestState) (goes : TreeState Bool) (x k n : ℕ) (s : Scenario) : Type 0 where
+pub record HasQueuedOf (g : Graph) (order : List ℕ) (f : ForestState) (goes : TreeState Bool) (x k n : ℕ)
+    (s : Scenario) : Type 0 where
   pub item : ℕ
   pub below : item < k
   pub there : HasQueued g order f goes x item n s
 
 -- the first slot from the greatest end on, or a round after what stands before it, whichever is later
-pub record IsSlotAt (g : Graph) (order : List ℕ) (f : ForestState) (share : ShareState) (goes : TreeState Bool) (end : TreeState (Option ℕ))
+pub record IsSlotAt (g : Graph) (order : List ℕ) (f : ForestState) (share : ShareState) (goes : TreeState Bool)
+    (end : TreeState (Option ℕ))
     (x latest : ℕ) : Type 0 where
   pub last : ℕ
   pub ends : IsTopAt g (HasWhere end goes) last
   pub raised : IsRaised g (HasQueuedOf g order f goes x (item_count g)) (slot_at share (Some last)) latest
 
-abbrev pub IsLatestSend : Graph → List ℕ → ForestState → ShareState → TreeState Bool → TreeState (Option ℕ) → ℕ → Option ℕ → Type 0
+abbrev pub IsLatestSend : Graph → List ℕ → ForestState → ShareState → TreeState Bool → TreeState (Option ℕ) → ℕ →
+    Option ℕ → Type 0
 IsLatestSend g order f share goes end x None = IsTop g (HasWhere end goes) None
 IsLatestSend g order f share goes end x (Some latest) = IsSlotAt g order f share goes end x latest

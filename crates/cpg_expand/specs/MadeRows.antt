@@ -27,7 +27,8 @@ pub record IsRowOf (g : Graph) (urgency : List ℕ) (t : TreeState (Option ℕ))
   pub send : process_count g ≤ x → AreEntriesOf g urgency t row.columns
 
 -- by number the rows of the first n items, each by its tree
-pub record AreFirstRows (g : Graph) (urgency : List ℕ) (times : List (TreeState (Option ℕ))) (n : ℕ) (rows : List Row) : Type 0 where
+pub record AreFirstRows (g : Graph) (urgency : List ℕ) (times : List (TreeState (Option ℕ))) (n : ℕ)
+    (rows : List Row) : Type 0 where
   pub count : length rows ≡ n
   pub each : (x : ℕ) (row : Row) → x < n → IsRowOf g urgency (get_or times x (no_tree g.faults)) x (get_or rows x row)
 

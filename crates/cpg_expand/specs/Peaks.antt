@@ -1,5 +1,7 @@
--- The greatest of times that processes have in scenarios, the least scenario that has it, and the least process that has it there.
-use Rattle.std.specs.Prelude.{ℕ, ◌≡◌, ◌==◌, ◌≤◌, ◌<◌, ◌⊎◌, nat_lt, Bool, true, List, Option, Some, None, All, get_or, if◌then◌else◌}
+-- The greatest of times that processes have in scenarios, the least scenario that has it, and the least process that
+-- has it there.
+use Rattle.std.specs.Prelude.{ℕ, ◌≡◌, ◌==◌, ◌≤◌, ◌<◌, ◌⊎◌, nat_lt, Bool, true, List, Option, Some, None, All, get_or}
+use Rattle.std.specs.Prelude.{if◌then◌else◌}
 use Rattle.cpg_base.specs.Graph.{Graph, process_count}
 use Rattle.cpg_base.specs.Duration.{due}
 use Rattle.cpg_base.specs.Scenario.{zero_scenario, IsLeast, is_before, Scenario, IsScenario}
@@ -28,7 +30,8 @@ EndsPast g trees q excess s = (end : ℕ) × EndsAt g trees q end s × (time_pas
 
 -- each tree tells when its process ends in every run
 abbrev pub GiveEnds : Graph → List ℕ → List (Option ℕ) → List (TreeState (Option ℕ)) → Type 0
-GiveEnds g order frozen trees = (s : Scenario) (t : Times) → IsScenario g s → IsRun g order frozen s t → (q : ℕ) → q < process_count g →
+GiveEnds g order frozen trees =
+    (s : Scenario) (t : Times) → IsScenario g s → IsRun g order frozen s t → (q : ℕ) → q < process_count g →
     (x : Path (Option ℕ)) → IsOnPath (tree_at g trees q).paths s x → x.1 ≡ get_or t.ends q None
 
 -- ---- peaks
@@ -44,7 +47,8 @@ pub record IsNoPeak (g : Graph) (n : ℕ) (has : ℕ → ℕ → Scenario → Ty
   pub none : (q time : ℕ) (s : Scenario) → q < n → IsScenario g s → has q time s → ⊥
 
 -- the time of the peak is the greatest, its scenario the least that has it, and p the least process that has it there
-pub record IsPeakOf (g : Graph) (urgency : List ℕ) (n : ℕ) (has : ℕ → ℕ → Scenario → Type 0) (peak : Peak) (p : ℕ) : Type 0 where
+pub record IsPeakOf (g : Graph) (urgency : List ℕ) (n : ℕ) (has : ℕ → ℕ → Scenario → Type 0) (peak : Peak)
+    (p : ℕ) : Type 0 where
   pub most : (q time : ℕ) (s : Scenario) → q < n → IsScenario g s → has q time s → time ≤ peak.time
   pub least : IsLeast g urgency (SomeHas n has peak.time) peak.scenario
   pub there : p < n
@@ -64,13 +68,15 @@ IsPeak g urgency n has peak = IsPeakBy g urgency n has peak peak.process
 -- whether a time that a later process has goes before a peak: it is greater, or its scenario comes first
 abbrev pub goes_before_by : Graph → List ℕ → Peak → ℕ → Scenario → Option ℕ → Bool
 goes_before_by g urgency peak time s None = true
-goes_before_by g urgency peak time s (Some p) = if peak.time == time then is_before g urgency s peak.scenario else nat_lt peak.time time
+goes_before_by g urgency peak time s (Some p) = if peak.time == time then is_before g urgency s peak.scenario
+    else nat_lt peak.time time
 
 abbrev pub goes_before : Graph → List ℕ → Peak → ℕ → Scenario → Bool
 goes_before g urgency peak time s = goes_before_by g urgency peak time s peak.process
 
 abbrev pub or_time : Graph → List ℕ → Peak → ℕ → Scenario → ℕ → Peak
-or_time g urgency peak time s p = if goes_before g urgency peak time s then record { time = time; scenario = s; process = Some p } else peak
+or_time g urgency peak time s p = if goes_before g urgency peak time s
+    then record { time = time; scenario = s; process = Some p } else peak
 
 -- no scenario has a time, and the peak stays
 pub record IsSamePeak (paths : List (Path (Option ℕ))) (old new : Peak) : Type 0 where
@@ -78,7 +84,8 @@ pub record IsSamePeak (paths : List (Path (Option ℕ))) (old new : Peak) : Type
   pub same : new ≡ old
 
 -- the greatest time, if it goes before the peak
-pub record IsLaterPeak (g : Graph) (urgency : List ℕ) (paths : List (Path (Option ℕ))) (p : ℕ) (old new : Peak) : Type 0 where
+pub record IsLaterPeak (g : Graph) (urgency : List ℕ) (paths : List (Path (Option ℕ))) (p : ℕ)
+    (old new : Peak) : Type 0 where
   pub time : ℕ
   pub scenario : Scenario
   pub greatest : IsGreatestOf g urgency paths time scenario
@@ -89,7 +96,8 @@ abbrev pub IsNextPeak : Graph → List ℕ → List (Path (Option ℕ)) → ℕ 
 IsNextPeak g urgency paths p old new = IsSamePeak paths old new ⊎ IsLaterPeak g urgency paths p old new
 
 -- with how far the times of the tree are past the due of the process too
-pub record IsNextExcess (g : Graph) (urgency : List ℕ) (end : TreeState (Option ℕ)) (p : ℕ) (old new : Peak) : Type 0 where
+pub record IsNextExcess (g : Graph) (urgency : List ℕ) (end : TreeState (Option ℕ)) (p : ℕ)
+    (old new : Peak) : Type 0 where
   pub tree : TreeState (Option ℕ)
   pub of : IsTree g tree
   pub made : IsMap (λ x z. z ≡ time_past (due g p) x) end tree
@@ -99,10 +107,12 @@ pub record IsNextExcess (g : Graph) (urgency : List ℕ) (end : TreeState (Optio
 
 -- the greatest finish, under any order and frozen times whose runs end as the trees tell
 abbrev pub IsWorstOfTrees : Graph → List ℕ → List (TreeState (Option ℕ)) → Peak → Type 0
-IsWorstOfTrees g urgency trees peak = (order : List ℕ) (frozen : List (Option ℕ)) → IsTopological g order → GiveEnds g order frozen trees →
+IsWorstOfTrees g urgency trees peak =
+    (order : List ℕ) (frozen : List (Option ℕ)) → IsTopological g order → GiveEnds g order frozen trees →
     IsWorst g urgency order frozen peak.time peak.scenario peak.process
 
 -- the greatest excess, likewise
 abbrev pub IsExcessOfTrees : Graph → List ℕ → List (TreeState (Option ℕ)) → Peak → Type 0
-IsExcessOfTrees g urgency trees peak = (order : List ℕ) (frozen : List (Option ℕ)) → IsTopological g order → GiveEnds g order frozen trees →
+IsExcessOfTrees g urgency trees peak =
+    (order : List ℕ) (frozen : List (Option ℕ)) → IsTopological g order → GiveEnds g order frozen trees →
     IsExcess g urgency order frozen peak.time peak.scenario peak.process

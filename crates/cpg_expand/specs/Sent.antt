@@ -1,5 +1,6 @@
 -- What a node has sent so far, along an order; and what is found when an item is sent.
-use Rattle.std.specs.Prelude.{ℕ, ◌≡◌, ◌==◌, ◌⊎◌, Bool, true, false, List, [], ◌∷◌, ◌++◌, Option, filter, take, slice_set}
+use Rattle.std.specs.Prelude.{ℕ, ◌≡◌, ◌==◌, ◌⊎◌, Bool, true, false, List, [], ◌∷◌, ◌++◌, Option, filter, take}
+use Rattle.std.specs.Prelude.{slice_set}
 use Rattle.std.specs.List.{flat_map}
 use Rattle.cpg_base.specs.Bus.{round}
 use Rattle.cpg_base.specs.Graph.{Graph, is_frozen, node_of, home, producer}
@@ -29,14 +30,18 @@ sent_before g order i node = flat_map (queue_of g) (filter (λ q. node_of g q ==
 abbrev pub sent_so_far : Graph → List ℕ → ℕ → ℕ → List ℕ
 sent_so_far g order p k = sent_before g order (place order p) (node_of g p) ++ take k (queue_of g p)
 
--- from when on the slots are free then, in one scenario: the run's time, and no more than is carried from all that is sent
-pub record IsFreeOnce (g : Graph) (order : List ℕ) (rows : List (List Column)) (s : Scenario) (t : Times) (p k : ℕ) (f : ForestState) : Type 0 where
+-- from when on the slots are free then, in one scenario: the run's time, and no more than is carried from all that is
+-- sent
+pub record IsFreeOnce (g : Graph) (order : List ℕ) (rows : List (List Column)) (s : Scenario) (t : Times) (p k : ℕ)
+    (f : ForestState) : Type 0 where
   pub time : ℕ
   pub is : IsMost (IsSentBy g order s p k) (free_after g t) time
-  pub has_value : HasValueFrom s (flat_map (queued g order rows s) (sent_so_far g order p k)) time (free_of g f (node_of g p))
+  pub has_value : HasValueFrom s (flat_map (queued g order rows s) (sent_so_far g order p k)) time
+      (free_of g f (node_of g p))
 
 -- the times of a frozen item that is sent: the latest of all
-pub record IsFrozenSend (g : Graph) (order : List ℕ) (goes : TreeState Bool) (x : ℕ) (f : ForestState) (before after : List (Option ℕ))
+pub record IsFrozenSend (g : Graph) (order : List ℕ) (goes : TreeState Bool) (x : ℕ) (f : ForestState)
+    (before after : List (Option ℕ))
     (sent : TreeState (Option ℕ)) : Type 0 where
   pub latest : Option ℕ
   pub top : IsLatestSend g order f (share_of g (home g x)) goes (ends_of g f (producer g x)) x latest
@@ -44,13 +49,16 @@ pub record IsFrozenSend (g : Graph) (order : List ℕ) (goes : TreeState Bool) (
 
 -- the times of an item that is sent: those of a frozen one, or those by its producer's end and when the slots are
 -- free in each scenario
-abbrev pub IsSentFor : Graph → List ℕ → TreeState Bool → ℕ → ForestState → List (Option ℕ) → List (Option ℕ) → TreeState (Option ℕ) → Type 0
+abbrev pub IsSentFor : Graph → List ℕ → TreeState Bool → ℕ → ForestState → List (Option ℕ) → List (Option ℕ) →
+    TreeState (Option ℕ) → Type 0
 IsSentFor g order goes x f before after sent =
-    ((is_frozen g x ≡ false) × (after ≡ before) × IsSentTree g.faults (share_of g (home g x)) goes (ends_of g f (producer g x)) (free_of g f (home g x)) sent)
+    ((is_frozen g x ≡ false) × (after ≡ before) ×
+    IsSentTree g.faults (share_of g (home g x)) goes (ends_of g f (producer g x)) (free_of g f (home g x)) sent)
     ⊎ ((is_frozen g x ≡ true) × IsFrozenSend g order goes x f before after sent)
 
 -- an item is added to the trees: its times, and when the slots of its node are free then, if one waits for that
-pub record IsItemAdded (g : Graph) (order : List ℕ) (chooser : TreeState Bool) (x : ℕ) (old new : ForestState) (before after : List (Option ℕ)) : Type 0 where
+pub record IsItemAdded (g : Graph) (order : List ℕ) (chooser : TreeState Bool) (x : ℕ) (old new : ForestState)
+    (before after : List (Option ℕ)) : Type 0 where
   pub goes : TreeState Bool
   pub goes_tree : IsTree g goes
   pub goes_where : IsGoesTree g x chooser goes
@@ -59,11 +67,19 @@ pub record IsItemAdded (g : Graph) (order : List ℕ) (chooser : TreeState Bool)
   pub sends : IsSentFor g order goes x old before after sent
   pub freed : TreeState ℕ
   pub freed_tree : IsTree g freed
-  pub frees : IsQueuedFor g order (place order (producer g x)) (home g x) → IsFreeTree g.faults (round g) goes sent (free_of g old (home g x)) freed
-  pub is : new ≡ record { times = slice_set old.times x sent; ends = old.ends; ready = old.ready; free = slice_set old.free (home g x) freed; wide = old.wide }
+  pub frees : IsQueuedFor g order (place order (producer g x)) (home g x) →
+      IsFreeTree g.faults (round g) goes sent (free_of g old (home g x)) freed
+  pub is : new ≡ record {
+    times = slice_set old.times x sent;
+    ends = old.ends;
+    ready = old.ready;
+    free = slice_set old.free (home g x) freed;
+    wide = old.wide;
+  }
 
 -- these are added one after another
-abbrev pub AreItemsAdded : Graph → List ℕ → TreeState Bool → List ℕ → ForestState → ForestState → List (Option ℕ) → List (Option ℕ) → Type 0
+abbrev pub AreItemsAdded : Graph → List ℕ → TreeState Bool → List ℕ → ForestState → ForestState → List (Option ℕ) →
+    List (Option ℕ) → Type 0
 AreItemsAdded g order chooser [] old new before after = (new ≡ old) × (after ≡ before)
 AreItemsAdded g order chooser (x ∷ xs) old new before after = (mid : ForestState) × (between : List (Option ℕ)) ×
     IsItemAdded g order chooser x old mid before between × AreItemsAdded g order chooser xs mid new between after

@@ -1,5 +1,6 @@
 -- The greatest times of trees, and a bar under which a tree has no peak.
-use Rattle.std.specs.Prelude.{ℕ, ◌≡◌, ◌≤◌, ◌<◌, nat_le, Bool, false, List, Option, Some, None, All, get_or, length, map, unwrap_or}
+use Rattle.std.specs.Prelude.{ℕ, ◌≡◌, ◌≤◌, ◌<◌, nat_le, Bool, false, List, Option, Some, None, All, get_or, length, map}
+use Rattle.std.specs.Prelude.{unwrap_or}
 use Rattle.cpg_base.specs.Graph.{Graph, process_count}
 use Rattle.cpg_base.specs.Duration.{due}
 use Rattle.cpg_base.specs.Numbers.{greatest, numbers_below}

@@ -33,12 +33,15 @@ stands_before g order y x = (is_sent g y && (home g y == home g x))
     || ((producer g y == producer g x) && nat_lt (rank_of_item (item_at g y)) (rank_of_item (item_at g x))))
 
 -- a tree of when a node is ready after a process with a guard, by what that one waited for
-pub record IsReadyOnce (g : Graph) (f : ForestState) (node : ℕ) (guard : Guard) (chooser : TreeState Bool) (end : TreeState (Option ℕ))
+pub record IsReadyOnce (g : Graph) (f : ForestState) (node : ℕ) (guard : Guard) (chooser : TreeState Bool)
+    (end : TreeState (Option ℕ))
     (t : TreeState ℕ) : Type 0 where
   pub wait : TreeState ℕ
   pub waits : IsWaitTree g f node guard wait
   pub is : IsReadyTree g.faults chooser end wait t
 
 -- it is one after a process p, if one behind p that isn't frozen waits for the node
-abbrev pub IsReadyIfWaited : Graph → List ℕ → ForestState → ℕ → Guard → TreeState Bool → TreeState (Option ℕ) → TreeState ℕ → Type 0
-IsReadyIfWaited g order f p guard chooser end t = IsWaitedFor g order (place order p + 1) (node_of g p) → IsReadyOnce g f (node_of g p) guard chooser end t
+abbrev pub IsReadyIfWaited : Graph → List ℕ → ForestState → ℕ → Guard → TreeState Bool → TreeState (Option ℕ) →
+    TreeState ℕ → Type 0
+IsReadyIfWaited g order f p guard chooser end t =
+    IsWaitedFor g order (place order p + 1) (node_of g p) → IsReadyOnce g f (node_of g p) guard chooser end t

@@ -24,7 +24,9 @@ wait_of g f node (Some wait) = wait
 
 -- until the node is ready and has heard all that a guard tests
 abbrev pub IsWaitTree : Graph → ForestState → ℕ → Guard → TreeState ℕ → Type 0
-IsWaitTree g f node guard t = (s : Scenario) → HasAtMostFaults g.faults s → (base : List Literal) (x : ℕ) → HasValueFrom s base x (ready_of g f node) →
+IsWaitTree g f node guard t = (s : Scenario) → HasAtMostFaults g.faults s → (base : List Literal) (x : ℕ) →
+    HasValueFrom s base x (ready_of g f node) →
     (support : ℕ → List Literal) (time : ℕ → Option ℕ) →
     ((c : ℕ) → Contains (way guard s.values) c → HasValueFrom s (support c) (time c) (heard_tree g f node c)) →
-    HasValueFrom s (base ++ support_of s support (way guard s.values)) (max x (latest_of (heard_delay g node) time (way guard s.values))) t
+    HasValueFrom s (base ++ support_of s support (way guard s.values))
+    (max x (latest_of (heard_delay g node) time (way guard s.values))) t

@@ -39,8 +39,8 @@ HaveWideRows g urgency times = IsWideRow g urgency times ⊎ AreWideRows g urgen
 
 -- ---- rows within the limits
 
--- The rows of the first n items are within the limits, and `load` counts their columns in all tables. If there is no item,
--- nothing is required.
+-- The rows of the first n items are within the limits, and `load` counts their columns in all tables. If there is no
+-- item, nothing is required.
 pub record AreFewSoFar (g : Graph) (rows : List Row) (n load : ℕ) : Type 0 where
   pub few : All (λ row. length row.columns ≤ MOST_COLUMNS) rows
   pub is : load ≡ rows_load g rows n
@@ -63,4 +63,5 @@ IsLoadIf (Some item) g row x before after = IsLoadWith g row x before after
 -- each row of the tables has few enough columns, and so have all rows of all tables together
 pub record DoTablesFit (g : Graph) (nodes : List NodeTable) : Type 0 where
   pub few : (x : ℕ) → x < item_count g → length (columns_of nodes x) ≤ MOST_COLUMNS
-  pub loads : sum_by (λ x. length (columns_of nodes x) * rows_of_item g (item_at g x)) (numbers_below (item_count g)) ≤ MOST_LOAD
+  pub loads : sum_by (λ x. length (columns_of nodes x) * rows_of_item g (item_at g x)) (numbers_below (item_count g))
+      ≤ MOST_LOAD

@@ -1,5 +1,6 @@
 -- A play is followed by each of its nodes on the records of what it is told.
-use Rattle.std.proofs.Common.{◌≡◌, ◌≢◌, ℕ, ◌<◌, ◌≤◌, true, false, ◌==◌, List, [], ◌∷◌, ◌++◌, length, map, fold, get_or, Contains, Option, Some, None, refl, sym, ap, ◌∙◌, subst, arith, inl, inr, ◌⊎◌}
+use Rattle.std.proofs.Common.{◌≡◌, ◌≢◌, ℕ, ◌<◌, ◌≤◌, true, false, ◌==◌, List, [], ◌∷◌, ◌++◌, length, map, fold, get_or}
+use Rattle.std.proofs.Common.{Contains, Option, Some, None, refl, sym, ap, ◌∙◌, subst, arith, inl, inr, ◌⊎◌}
 use Rattle.std.proofs.Common.{eq-eqb, ne_eqb}
 use Rattle.std.proofs.lemmas.Bool.{cases_eq, cond-true, cond-false}
 use Rattle.std.proofs.lemmas.List.{get_or-set_same, get_or-set_other, get_or-replicate}
@@ -12,11 +13,14 @@ use Rattle.cpg_cube.specs.Cube.{holds}
 use Rattle.cpg_cube.specs.declared.literal.Literal.{Literal}
 use Rattle.cpg_table.specs.Table.{NodeTable, table_at, empty_table}
 use Rattle.cpg_table.proofs.Told.{Learnt, learnt_true}
-use Rattle.cpg_node.specs.Dispatcher.{Dispatcher, Range, Ended, Frame, Act, next, hear, hear_all, hear_frame, frame_literals, turn, acts_of_turn, due_reports, AllFine, EndFits, ValueFits, own_of}
+use Rattle.cpg_node.specs.Dispatcher.{Dispatcher, Range, Ended, Frame, Act, next, hear, hear_all, hear_frame}
+use Rattle.cpg_node.specs.Dispatcher.{frame_literals, turn, acts_of_turn, due_reports, AllFine, EndFits, ValueFits}
+use Rattle.cpg_node.specs.Dispatcher.{own_of}
 use Rattle.cpg_node.specs.Dispatcher.{initial_dispatcher, finished, is_after}
 use Rattle.cpg_node.proofs.Kept.{Keeps, keeps_cut_all, keeps_frames, within_kept, LearntBy, IsTrueEnd}
 use Rattle.cpg_node.proofs.Next.{by}
-use Rattle.cpg_cluster.specs.Cluster.{World, Cluster, Answer, Took, Waits, Done as IsDone, own_table, initial_cluster, dispatcher_at, answer, reports_now, reported, frames_now, waits_on, take_turn}
+use Rattle.cpg_cluster.specs.Cluster.{World, Cluster, Answer, Took, Waits, Done as IsDone, own_table, initial_cluster}
+use Rattle.cpg_cluster.specs.Cluster.{dispatcher_at, answer, reports_now, reported, frames_now, waits_on, take_turn}
 use Rattle.cpg_cluster.specs.Cluster.{step_by, step, play}
 use Rattle.cpg_cluster.specs.Correct.{IsDue, asked_of, due_key}
 use Rattle.cpg_cluster.proofs.Dues.{precedes, in_order_sorted}
@@ -34,38 +38,53 @@ use Rattle.cpg_live.specs.Stream.{NodeProgress, Step, lawful, start}
 use Rattle.cpg_live.specs.Told.{follow_one, follow, after_last, HasCome, after_reports, IsFollowed}
 use Rattle.cpg_live.proofs.Told.{turns_are_followed, closes_are_followed}
 use Rattle.cpg_live.proofs.Turns.{floor_after, turned_zero}
-use Rattle.cpg_follow_laws.specs.Follow.{by_time, records_at, records_by, records_in_step, records_in, opened, PlaysAreFollowed, stream_of, StreamsGiveWhatIsDue}
+use Rattle.cpg_follow_laws.specs.Follow.{by_time, records_at, records_by, records_in_step, records_in, opened}
+use Rattle.cpg_follow_laws.specs.Follow.{PlaysAreFollowed, stream_of, StreamsGiveWhatIsDue}
 use Rattle.cpg_follow_laws.proofs.Reports.{told_by_time, tells_by_time}
 
 -- the frames of a turn are fine, one after another
-module _ {g : Graph} {tables : List NodeTable} {w : World} (k : Played g tables w) (c : Cluster) (r : Reached g tables w c) (a : ℕ) (l : a < length g.nodes) (time : ℕ) where
-  fine : (fs : List Frame) (d : Dispatcher) (table : d.table ≡ own_table g a (table_at tables a)) (known : Literal → Type 0) → Keeps g.faults d.heard known →
+module _ {g : Graph} {tables : List NodeTable} {w : World} (k : Played g tables w) (c : Cluster)
+    (r : Reached g tables w c) (a : ℕ) (l : a < length g.nodes) (time : ℕ) where
+  fine : (fs : List Frame) (d : Dispatcher) (table : d.table ≡ own_table g a (table_at tables a))
+      (known : Literal → Type 0) →
+      Keeps g.faults d.heard known →
       ((m : Literal) → known m → holds w.scenario m ≡ true) →
       ((f : Frame) → Contains fs f → Contains (frames_now g w c d time) f) → AllFine d time fs
   fine [] d table known keeps sound there = tt
   fine (f ∷ fs) d table known keeps sound there = (
-    frame_fine k c r.holds a l d table time f (frame_parts k c r.holds a l d table time f (there f (Contains-first f fs))) known keeps sound,
-    fine fs (hear d f) table (λ m. Contains (frame_literals d.table f) m ⊎ known m) (keeps_cut_all g.faults (frame_literals d.table f) d.heard known keeps)
+    frame_fine k c r.holds a l d table time f
+        (frame_parts k c r.holds a l d table time f (there f (Contains-first f fs))) known keeps sound,
+    fine fs (hear d f) table (λ m. Contains (frame_literals d.table f) m ⊎ known m)
+        (keeps_cut_all g.faults (frame_literals d.table f) d.heard known keeps)
         (λ m q. elim q [
           | inl n ↦ learnt_true {g = g} {tables = tables} {s = w.scenario} {node = a} {when = λ t. t == time} m
-              (inr (told_of k c r.holds a l d table time f (frame_parts k c r.holds a l d table time f (there f (Contains-first f fs))) m (subst (λ t. Contains (frame_literals t f) m) table n)))
+              (inr (told_of k c r.holds a l d table time f (frame_parts k c r.holds a l d table time f
+              (there f (Contains-first f fs))) m (subst (λ t. Contains (frame_literals t f) m) table n)))
           | inr n ↦ sound m n
         ]) (λ e n. there e (Contains-rest f fs e n)),
   )
 
   -- an end that is true fits what is kept, where that is true
-  fits : (ranges : List Range) (known : Literal → Type 0) → Keeps g.faults ranges known → ((m : Literal) → known m → holds w.scenario m ≡ true) → (e : Ended) →
-      IsTrueEnd g w.scenario (own_table g a (table_at tables a)) e → EndFits (own_table g a (table_at tables a)) ranges e
+  fits : (ranges : List Range) (known : Literal → Type 0) → Keeps g.faults ranges known →
+      ((m : Literal) → known m → holds w.scenario m ≡ true) → (e : Ended) →
+      IsTrueEnd g w.scenario (own_table g a (table_at tables a)) e →
+      EndFits (own_table g a (table_at tables a)) ranges e
   fits ranges known keeps sound e t = (
-    (let b = within_kept k.setting ranges known keeps sound e.process t.within in (omega (arith, b.0, t.count), omega (arith, b.1, t.count))),
+    (let b = within_kept k.setting ranges known keeps sound e.process t.within in
+        (omega (arith, b.0, t.count), omega (arith, b.1, t.count))),
     value (own_of (own_table g a (table_at tables a)) e.process).condition (λ d is. t.value d (sym t.condition ∙ is)),
   )
     where
-      value : (o : Option ℕ) → ((d : ℕ) → o ≡ Some d → (value_variable d < 160) × (number_of_value e.value ≡ number_of w.scenario (value_variable d))) → ValueFits ranges o e.value
+      value : (o : Option ℕ) → ((d : ℕ) → o ≡ Some d →
+          (value_variable d < 160) × (number_of_value e.value ≡ number_of w.scenario (value_variable d))) →
+          ValueFits ranges o e.value
       value None h = tt
-      value (Some d) h = let q = h d refl in let b = within_kept k.setting ranges known keeps sound (value_variable d) q.0 in (omega (arith, b.0, q.1), omega (arith, b.1, q.1))
+      value (Some d) h = let q = h d refl in
+          let b = within_kept k.setting ranges known keeps sound (value_variable d) q.0 in
+          (omega (arith, b.0, q.1), omega (arith, b.1, q.1))
 
-  heard_all : (frames : List Frame) (d : Dispatcher) → (hear_all d frames).heard ≡ fold (hear_frame d.table) d.heard frames
+  heard_all : (frames : List Frame) (d : Dispatcher) →
+      (hear_all d frames).heard ≡ fold (hear_frame d.table) d.heard frames
   heard_all [] d = refl
   heard_all (f ∷ fs) d = heard_all fs (hear d f)
 
@@ -73,7 +92,8 @@ module _ {g : Graph} {tables : List NodeTable} {w : World} (k : Played g tables 
   heard_finished [] d = refl
   heard_finished (e ∷ es) d = heard_finished es (finished d e)
 
-  module _ (e : next (dispatcher_at c a) ≡ Some time) (free : (b : ℕ) → b < length g.nodes → waits_on g c a time b ≡ false) where
+  module _ (e : next (dispatcher_at c a) ≡ Some time)
+      (free : (b : ℕ) → b < length g.nodes → waits_on g c a time b ≡ false) where
     abbrev ready : Dispatcher
     ready = reported g w (dispatcher_at c a) time
 
@@ -85,38 +105,49 @@ module _ {g : Graph} {tables : List NodeTable} {w : World} (k : Played g tables 
 
     pub keeps_ready : Keeps g.faults ready.heard (Learnt g tables w.scenario a (by (r.holds a l).last))
     keeps_ready = subst (λ h. Keeps g.faults h (Learnt g tables w.scenario a (by (r.holds a l).last)))
-        (sym (heard_finished (map (λ (q : ℕ × Ended). q.1) (reports_now g w (dispatcher_at c a) time)) (dispatcher_at c a) ∙ ap (λ (d : Dispatcher). d.heard) (r.holds a l).is)) (r.holds a l).keeps
+        (sym (heard_finished (map (λ (q : ℕ × Ended). q.1) (reports_now g w (dispatcher_at c a) time))
+        (dispatcher_at c a) ∙ ap (λ (d : Dispatcher). d.heard) (r.holds a l).is)) (r.holds a l).keeps
 
     all_fine : AllFine ready time frames
-    all_fine = fine frames ready table_is (Learnt g tables w.scenario a (by (r.holds a l).last)) keeps_ready learnt_true (λ f m. m)
+    all_fine = fine frames ready table_is
+        (Learnt g tables w.scenario a (by (r.holds a l).last)) keeps_ready learnt_true (λ f m. m)
 
     all_fit : (z : Ended) → Contains (due_reports ready time) z → EndFits ready.table (hear_all ready frames).heard z
     all_fit z m =
-        let q = ends_parts k a l (r.holds a l).heard (r.holds a l).last time (coming k c r a l time e free) z (subst (λ es. Contains es z) (ends_are k c r a l time e free) m) in
-        let known = subst (IsTrueEnd g w.scenario (own_table g a (table_at tables a))) (sym q.is) (true_end k a l q.process q.on) in
+        let q = ends_parts k a l (r.holds a l).heard (r.holds a l).last time (coming k c r a l time e free) z
+        (subst (λ es. Contains es z) (ends_are k c r a l time e free) m) in
+        let known = subst (IsTrueEnd g w.scenario (own_table g a (table_at tables a))) (sym q.is)
+        (true_end k a l q.process q.on) in
         subst (λ t. EndFits t (hear_all ready frames).heard z) (sym table_is)
         (subst (λ h. EndFits (own_table g a (table_at tables a)) h z) (sym (heard_all frames ready))
-        (subst (λ t. EndFits (own_table g a (table_at tables a)) (fold (hear_frame t) ready.heard frames) z) (sym table_is)
+        (subst (λ t. EndFits (own_table g a (table_at tables a)) (fold (hear_frame t) ready.heard frames) z)
+        (sym table_is)
         (fits (fold (hear_frame (own_table g a (table_at tables a))) ready.heard frames)
-        (λ m. LearntBy (own_table g a (table_at tables a)) frames m ⊎ Learnt g tables w.scenario a (by (r.holds a l).last) m)
-        (keeps_frames g.faults (own_table g a (table_at tables a)) frames ready.heard (Learnt g tables w.scenario a (by (r.holds a l).last)) keeps_ready)
+        (λ m. LearntBy (own_table g a (table_at tables a)) frames m ⊎
+        Learnt g tables w.scenario a (by (r.holds a l).last) m)
+        (keeps_frames g.faults (own_table g a (table_at tables a)) frames ready.heard
+        (Learnt g tables w.scenario a (by (r.holds a l).last)) keeps_ready)
         (λ m q. elim q [
-          | inl n ↦ learnt_true {g = g} {tables = tables} {s = w.scenario} {node = a} {when = λ t. t == time} m (inr (frames_told k c r.holds a l ready table_is time m n))
+          | inl n ↦ learnt_true {g = g} {tables = tables} {s = w.scenario} {node = a} {when = λ t. t == time} m
+              (inr (frames_told k c r.holds a l ready table_is time m n))
           | inr n ↦ learnt_true m n
         ]) z known)))
 
     -- the turn of a play is followed
     followed : (p : NodeProgress) → HasCome p (dispatcher_at c a) (get_or c.acts a []) →
-        IsFollowed p (dispatcher_at c a) (get_or c.acts a []) time (by_time (reports_now g w (dispatcher_at c a) time)) frames
+        IsFollowed p (dispatcher_at c a) (get_or c.acts a []) time
+        (by_time (reports_now g w (dispatcher_at c a) time)) frames
     followed p h =
         let d : Dispatcher = dispatcher_at c a in
         let reports : List (ℕ × Ended) = reports_now g w d time in
         let apart = reports_apart k c r a l time in
         let same : after_reports d (by_time reports) ≡ ready = told_by_time reports d apart in
         turns_are_followed p d (get_or c.acts a []) time (by_time reports) frames h e
-        (tells_by_time reports d (after_last d.last) (may_finish k c r a l time e) apart (λ q m. after_is d.last q.0 m.later))
+        (tells_by_time reports d (after_last d.last) (may_finish k c r a l time e) apart
+        (λ q m. after_is d.last q.0 m.later))
         (subst (λ z. AllFine z time frames) (sym same) all_fine)
-        (λ z m. subst (λ q. EndFits q.table (hear_all q frames).heard z) (sym same) (all_fit z (subst (λ q. Contains (due_reports q time) z) same m)))
+        (λ z m. subst (λ q. EndFits q.table (hear_all q frames).heard z) (sym same)
+        (all_fit z (subst (λ q. Contains (due_reports q time) z) same m)))
       where
         after_is : (last : Option ℕ) (moment : ℕ) → is_after last moment ≡ true → after_last last ≤ moment
         after_is None moment h = omega arith
@@ -124,7 +155,9 @@ module _ {g : Graph} {tables : List NodeTable} {w : World} (k : Played g tables 
 
     -- if a turn of a play is followed, the stream comes to the cluster's next state
     turn_followed : (p : NodeProgress) → HasCome p (dispatcher_at c a) (get_or c.acts a []) →
-        let s = follow (lawful p) (records_at g w c a time) in (s.fault ≡ None) × HasCome s.progress (dispatcher_at (take_turn g w c a time) a) (get_or (take_turn g w c a time).acts a [])
+        let s = follow (lawful p) (records_at g w c a time) in
+        (s.fault ≡ None) ×
+        HasCome s.progress (dispatcher_at (take_turn g w c a time) a) (get_or (take_turn g w c a time).acts a [])
     turn_followed p h =
         let d : Dispatcher = dispatcher_at c a in
         let reports : List (ℕ × Ended) = reports_now g w d time in
@@ -133,11 +166,16 @@ module _ {g : Graph} {tables : List NodeTable} {w : World} (k : Played g tables 
         let f = followed p h in
         let node =
         ap (λ z. turn z time [] frames) same
-        ∙ sym (get_or-set_same c.nodes a _ (initial_dispatcher (record { faults = 0; first_broadcast = 0; own = []; starts = []; sends = []; hears = [] })) (omega (arith, r.nodes))) in
-        let acts = ap (λ z. get_or c.acts a [] ++ acts_of_turn z time [] frames) same ∙ sym (get_or-set_same c.acts a _ [] (omega (arith, r.acts))) in (
+        ∙ sym (get_or-set_same c.nodes a _ (initial_dispatcher
+        (record { faults = 0; first_broadcast = 0; own = []; starts = []; sends = []; hears = [] }))
+        (omega (arith, r.nodes))) in
+        let acts = ap (λ z. get_or c.acts a [] ++ acts_of_turn z time [] frames) same
+        ∙ sym (get_or-set_same c.acts a _ [] (omega (arith, r.acts))) in (
           f.none,
-          subst (λ z. HasCome (follow (lawful p) (records_at g w c a time)).progress z (get_or (take_turn g w c a time).acts a [])) node
-              (subst (HasCome (follow (lawful p) (records_at g w c a time)).progress (turn (after_reports d (by_time reports)) time [] frames)) acts f.comes),
+          subst (λ z. HasCome (follow (lawful p) (records_at g w c a time)).progress z
+              (get_or (take_turn g w c a time).acts a [])) node
+              (subst (HasCome (follow (lawful p) (records_at g w c a time)).progress
+              (turn (after_reports d (by_time reports)) time [] frames)) acts f.comes),
         )
 
 abbrev Comes : Graph → Cluster → ℕ → Step → Type 0
@@ -146,18 +184,25 @@ Comes g c node s = (s.fault ≡ None) × HasCome s.progress (dispatcher_at c nod
 whole : (s : Step) → s.fault ≡ None → lawful s.progress ≡ s
 whole s e = ap (λ o. record { progress = s.progress; fault = o }) (sym e)
 
-module _ {g : Graph} {tables : List NodeTable} {w : World} (k : Played g tables w) (node : ℕ) (l : node < length g.nodes) where
-  step_followed : (c : Cluster) → Reached g tables w c → (a : ℕ) (p : NodeProgress) → HasCome p (dispatcher_at c node) (get_or c.acts node []) →
+module _ {g : Graph} {tables : List NodeTable} {w : World} (k : Played g tables w) (node : ℕ)
+    (l : node < length g.nodes) where
+  step_followed : (c : Cluster) → Reached g tables w c → (a : ℕ) (p : NodeProgress) →
+      HasCome p (dispatcher_at c node) (get_or c.acts node []) →
       Comes g (step g w c a) node (follow (lawful p) (records_in_step g w c a node))
   step_followed c r a p h = elim (cases_eq a node) [
-    | inl is ↦ subst (λ es. Comes g (step g w c a) node (follow (lawful p) es)) (sym (cond-true (a == node) _ _ (eq-eqb a node is)))
-        (subst (λ a. Comes g (step g w c a) node (follow (lawful p) (records_by g w c a (answer g c a) (next (dispatcher_at c a))))) (sym is)
+    | inl is ↦ subst (λ es. Comes g (step g w c a) node (follow (lawful p) es))
+        (sym (cond-true (a == node) _ _ (eq-eqb a node is)))
+        (subst (λ a. Comes g (step g w c a) node
+        (follow (lawful p) (records_by g w c a (answer g c a) (next (dispatcher_at c a))))) (sym is)
         (here (answer g c node) (next (dispatcher_at c node)) refl refl))
     | inr ne ↦
-        subst (λ es. Comes g (step g w c a) node (follow (lawful p) es)) (sym (cond-false (a == node) _ _ (ne_eqb a node ne))) (other (answer g c a) (next (dispatcher_at c a)) (λ s. ne (sym s)))
+        subst (λ es. Comes g (step g w c a) node (follow (lawful p) es))
+        (sym (cond-false (a == node) _ _ (ne_eqb a node ne)))
+        (other (answer g c a) (next (dispatcher_at c a)) (λ s. ne (sym s)))
   ]
     where
-      here : (ans : Answer) (o : Option ℕ) → answer g c node ≡ ans → next (dispatcher_at c node) ≡ o → Comes g (step_by g w c node ans o) node (follow (lawful p) (records_by g w c node ans o))
+      here : (ans : Answer) (o : Option ℕ) → answer g c node ≡ ans → next (dispatcher_at c node) ≡ o →
+          Comes g (step_by g w c node ans o) node (follow (lawful p) (records_by g w c node ans o))
       here Took (Some time) q e = turn_followed k c r node l time e (free_from k c r node time q e) p h
       here Took None q e = (refl, h)
       here (Waits b) o q e = (refl, h)
@@ -167,54 +212,72 @@ module _ {g : Graph} {tables : List NodeTable} {w : World} (k : Played g tables 
       other Took (Some time) ne = (
         refl,
         subst (λ d. HasCome p d (get_or (take_turn g w c a time).acts node []))
-            (sym (get_or-set_other c.nodes a node _ (initial_dispatcher (record { faults = 0; first_broadcast = 0; own = []; starts = []; sends = []; hears = [] })) ne))
+            (sym (get_or-set_other c.nodes a node _ (initial_dispatcher
+            (record { faults = 0; first_broadcast = 0; own = []; starts = []; sends = []; hears = [] })) ne))
             (subst (HasCome p (dispatcher_at c node)) (sym (get_or-set_other c.acts a node _ [] ne)) h),
       )
       other Took None ne = (refl, h)
       other (Waits b) o ne = (refl, h)
       other IsDone o ne = (refl, h)
 
-  play_followed : (turns : List ℕ) (c : Cluster) → Reached g tables w c → (p : NodeProgress) → HasCome p (dispatcher_at c node) (get_or c.acts node []) →
+  play_followed : (turns : List ℕ) (c : Cluster) → Reached g tables w c → (p : NodeProgress) →
+      HasCome p (dispatcher_at c node) (get_or c.acts node []) →
       Comes g (play g w c turns) node (follow (lawful p) (records_in g w c node turns))
   play_followed [] c r p h = (refl, h)
   play_followed (a ∷ rest) c r p h =
       let one = step_followed c r a p h in
       let s : Step = follow (lawful p) (records_in_step g w c a node) in
-      let joined : follow (lawful p) (records_in g w c node (a ∷ rest)) ≡ follow s (records_in g w (step g w c a) node rest) =
+      let joined : follow (lawful p) (records_in g w c node (a ∷ rest))
+      ≡ follow s (records_in g w (step g w c a) node rest) =
       fold-append follow_one (lawful p) (records_in_step g w c a node) (records_in g w (step g w c a) node rest) in
       subst (Comes g (play g w (step g w c a) rest) node) (sym joined)
-      (subst (λ s. Comes g (play g w (step g w c a) rest) node (follow s (records_in g w (step g w c a) node rest))) (whole s one.0)
+      (subst (λ s. Comes g (play g w (step g w c a) rest) node (follow s (records_in g w (step g w c a) node rest)))
+      (whole s one.0)
       (play_followed rest (step g w c a) (reached_step k c r a) s.progress one.1))
 
-  open_come : HasCome (start (own_table g node (table_at tables node))) (dispatcher_at (initial_cluster g tables) node) (get_or (initial_cluster g tables).acts node [])
+  open_come : HasCome (start (own_table g node (table_at tables node))) (dispatcher_at (initial_cluster g tables) node)
+      (get_or (initial_cluster g tables).acts node [])
   open_come =
       let d =
-      dispatchers_at g 0 tables node node (initial_dispatcher (record { faults = 0; first_broadcast = 0; own = []; starts = []; sends = []; hears = [] })) empty_table
+      dispatchers_at g 0 tables node node (initial_dispatcher
+      (record { faults = 0; first_broadcast = 0; own = []; starts = []; sends = []; hears = [] })) empty_table
       (omega (arith, k.setting.shape.count, l)) (omega arith) in
       let none = get_or-replicate {A = List Act} (length tables) node [] [] (omega (arith, k.setting.shape.count, l)) in
-      subst (λ z. HasCome (start (own_table g node (table_at tables node))) z (get_or (initial_cluster g tables).acts node [])) (sym d)
-      (subst (HasCome (start (own_table g node (table_at tables node))) (initial_dispatcher (own_table g node (table_at tables node)))) (sym none) (turned_zero (start (own_table g node (table_at tables node)))))
+      subst (λ z. HasCome (start (own_table g node (table_at tables node))) z
+      (get_or (initial_cluster g tables).acts node [])) (sym d)
+      (subst (HasCome (start (own_table g node (table_at tables node)))
+      (initial_dispatcher (own_table g node (table_at tables node)))) (sym none)
+      (turned_zero (start (own_table g node (table_at tables node)))))
 
-  all_followed : (turns : List ℕ) → Comes g (play g w (initial_cluster g tables) turns) node (follow (opened g tables node) (records_in g w (initial_cluster g tables) node turns))
-  all_followed turns = play_followed turns (initial_cluster g tables) (reached_open k) (start (own_table g node (table_at tables node))) open_come
+  all_followed : (turns : List ℕ) →
+      Comes g (play g w (initial_cluster g tables) turns) node
+      (follow (opened g tables node) (records_in g w (initial_cluster g tables) node turns))
+  all_followed turns = play_followed turns (initial_cluster g tables) (reached_open k)
+      (start (own_table g node (table_at tables node))) open_come
 
 pub plays_are_followed : PlaysAreFollowed
-plays_are_followed g tables f h v w turns node is l = let c = all_followed (played_of g tables f h v w is) node l turns in record { none = c.0; comes = c.1 }
+plays_are_followed g tables f h v w turns node is l =
+    let c = all_followed (played_of g tables f h v w is) node l turns in
+    record { none = c.0; comes = c.1 }
 
 pub streams_give : StreamsGiveWhatIsDue
 streams_give g tables f h v w turns node close is l over late =
     let c : Cluster = play g w (initial_cluster g tables) turns in
     let q = all_followed (played_of g tables f h v w is) node l turns in
     let s : Step = follow (opened g tables node) (records_in g w (initial_cluster g tables) node turns) in
-    let closed : follow (opened g tables node) (stream_of g tables w turns node close) ≡ lawful (record { dispatcher = dispatcher_at c node; acts = get_or c.acts node [] }) =
-    fold-append follow_one (opened g tables node) (records_in g w (initial_cluster g tables) node turns) ((close, Close) ∷ [])
-    ∙ ap (λ z. follow_one z (close, Close)) (sym (whole s q.0)) ∙ closes_are_followed s.progress (dispatcher_at c node) (get_or c.acts node []) close q.1 (done_next g c node over) late in
+    let closed : follow (opened g tables node) (stream_of g tables w turns node close)
+    ≡ lawful (record { dispatcher = dispatcher_at c node; acts = get_or c.acts node [] }) =
+    fold-append follow_one (opened g tables node) (records_in g w (initial_cluster g tables) node turns)
+    ((close, Close) ∷ [])
+    ∙ ap (λ z. follow_one z (close, Close)) (sym (whole s q.0)) ∙ closes_are_followed s.progress (dispatcher_at c node)
+    (get_or c.acts node []) close q.1 (done_next g c node over) late in
     let acts : List Act = sorted (precedes (due_key g)) (asked_of tables w.scenario node) in
     let due : IsDue g tables w.scenario node acts = record {
       all = permutation_sorted (precedes (due_key g)) (asked_of tables w.scenario node);
       in_order = in_order_sorted (due_key g) (asked_of tables w.scenario node);
     } in
-    let done : get_or c.acts node [] ≡ acts = ((valid_tables_are_correct g tables f h v).plays w turns is).whole node acts l due over in
+    let done : get_or c.acts node [] ≡ acts =
+    ((valid_tables_are_correct g tables f h v).plays w turns is).whole node acts l due over in
     record {
       none = ap (λ (z : Step). z.fault) closed;
       acts = subst (IsDue g tables w.scenario node) (sym (ap (λ (z : Step). z.progress.acts) closed ∙ done)) due;

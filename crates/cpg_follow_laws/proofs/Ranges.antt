@@ -1,5 +1,6 @@
 -- No range that a live node holds is empty, since a frame that would leave an empty one is refused.
-use Rattle.std.proofs.Common.{◌≡◌, ◌≢◌, ℕ, zero, suc, ◌+◌, Bool, true, false, not, ◌&&◌, ◌||◌, ◌==◌, List, [], ◌∷◌, length, fold, get_or, Contains, All, Option, Some, None, refl, sym, ap, ◌∙◌, arith}
+use Rattle.std.proofs.Common.{◌≡◌, ◌≢◌, ℕ, zero, suc, ◌+◌, Bool, true, false, not, ◌&&◌, ◌||◌, ◌==◌, List, [], ◌∷◌}
+use Rattle.std.proofs.Common.{length, fold, get_or, Contains, All, Option, Some, None, refl, sym, ap, ◌∙◌, arith}
 use Rattle.std.proofs.Common.{inl, inr, true≢false, eq-eqb, eqb-true, ltb-true, ltb-false}
 use Rattle.std.specs.Prelude.{is_some, nat_lt}
 use Rattle.std.specs.List.{list_any}
@@ -12,14 +13,17 @@ use Rattle.cpg_base.specs.Scenario.{number_of_value}
 use Rattle.cpg_base.proofs.Lists.{Contains-first, Contains-rest, from_any_false, list_any_parts, list_any_true}
 use Rattle.cpg_cube.specs.declared.literal.Literal.{Literal}
 use Rattle.cpg_table.specs.Table.{Row, columns_in}
-use Rattle.cpg_node.specs.Dispatcher.{Dispatcher, Ended, Frame, OwnTable, Range, cut, cut_all, cut_range, due_reports, frame_literals, hear_end, hear_frame, is_contradicted, is_strange, know_value}
+use Rattle.cpg_node.specs.Dispatcher.{Dispatcher, Ended, Frame, OwnTable, Range, cut, cut_all, cut_range, due_reports}
+use Rattle.cpg_node.specs.Dispatcher.{frame_literals, hear_end, hear_frame, is_contradicted, is_strange, know_value}
 use Rattle.cpg_node.specs.Dispatcher.{next, no_column, own_of, range_of, variable_count, whole_range}
 use Rattle.cpg_live.specs.declared.event.Event.{Event}
 use Rattle.cpg_live.specs.declared.event.Event.TheVariants.{Frame as Arrival, End as Ending, Close}
 use Rattle.cpg_live.specs.declared.bad.Why.{Why}
 use Rattle.cpg_live.specs.declared.bad.Why.TheVariants.{Length, Order, Frame as StrangeFrame, End as FalseEnd}
 use Rattle.cpg_live.specs.Records.{cut as cut_bytes, event_of, record_of}
-use Rattle.cpg_live.specs.Stream.{LiveState, NodeProgress, Step, faulty, instant_below, judged, lawful, may_end, open_stream, refused, settled, step, stepped, take_record, turn_below, turn_if, turned}
+use Rattle.cpg_live.specs.Stream.{LiveState, NodeProgress, Step, faulty, instant_below, judged, lawful, may_end}
+use Rattle.cpg_live.specs.Stream.{open_stream, refused, settled, step, stepped, take_record, turn_below, turn_if}
+use Rattle.cpg_live.specs.Stream.{turned}
 use Rattle.cpg_live.specs.Stream.{turns_below, with_rest}
 use Rattle.cpg_follow_laws.specs.Ranges.{HasNumber, NoRangeIsEmpty, FramesContradictWhereTheyTell}
 
@@ -30,12 +34,15 @@ AllHave ranges = All HasNumber ranges
 
 value_has : (heard : List Range) (o : Option ℕ) (value : Bool) → AllHave heard → AllHave (know_value heard o value)
 value_has heard None value h = h
-value_has heard (Some c) value h = All-set HasNumber heard (value_variable c) (record { low = number_of_value value; high = number_of_value value }) (omega arith) h
+value_has heard (Some c) value h = All-set HasNumber heard (value_variable c)
+    (record { low = number_of_value value; high = number_of_value value }) (omega arith) h
 
-ends_have : (table : OwnTable) (es : List Ended) (heard : List Range) → AllHave heard → AllHave (fold (hear_end table) heard es)
+ends_have : (table : OwnTable) (es : List Ended) (heard : List Range) → AllHave heard →
+    AllHave (fold (hear_end table) heard es)
 ends_have table [] heard h = h
 ends_have table (e ∷ es) heard h = ends_have table es (hear_end table heard e)
-    (value_has _ (own_of table e.process).condition e.value (All-set HasNumber heard e.process (record { low = e.faults; high = e.faults }) (omega arith) h))
+    (value_has _ (own_of table e.process).condition e.value
+    (All-set HasNumber heard e.process (record { low = e.faults; high = e.faults }) (omega arith) h))
 
 -- ---- turns, in which a live node is told nothing
 
@@ -49,7 +56,8 @@ turn_has p (Some time) h = ends_have p.dispatcher.table (due_reports p.dispatche
 turns_have : (count limit : ℕ) (p : NodeProgress) → Has p → Has (turns_below count limit p)
 unfolding turns_below
 turns_have zero limit p h = h
-turns_have (suc count) limit p h = turns_have count limit (turn_below limit p) (turn_has p (instant_below limit (next p.dispatcher)) h)
+turns_have (suc count) limit p h =
+    turns_have count limit (turn_below limit p) (turn_has p (instant_below limit (next p.dispatcher)) h)
 
 -- ---- records
 
@@ -59,13 +67,16 @@ fine d time f e =
     let none : Bool = not (nat_lt f.column (length (columns_in d.table.hears f.item))) in
     let other : Bool = not ((get_or (columns_in d.table.hears f.item) f.column no_column).time == time) in
     let heard : List Range = hear_frame d.table d.heard f in
-    let q : list_any is_contradicted heard ≡ false = (or_parts (unknown || none || other) (list_any is_contradicted heard) e).1 in
-    λ k d l. ltb-false (get_or heard k d).high (get_or heard k d).low (from_any_false is_contradicted heard (get_or heard k d) q (Contains-get_or heard k d l))
+    let q : list_any is_contradicted heard ≡ false =
+    (or_parts (unknown || none || other) (list_any is_contradicted heard) e).1 in
+    λ k d l. ltb-false (get_or heard k d).high (get_or heard k d).low
+    (from_any_false is_contradicted heard (get_or heard k d) q (Contains-get_or heard k d l))
 
 step_has : (time : ℕ) (event : Event) (p : NodeProgress) → Has p → Has (step time event p).progress
 step_has time (Arrival f) p h =
     let q : NodeProgress = turned time p in
-    cond_both (is_strange q.dispatcher time f) (faulty q StrangeFrame) (lawful (record q { dispatcher = record q.dispatcher { heard = hear_frame q.dispatcher.table q.dispatcher.heard f } }))
+    cond_both (is_strange q.dispatcher time f) (faulty q StrangeFrame) (lawful
+    (record q { dispatcher = record q.dispatcher { heard = hear_frame q.dispatcher.table q.dispatcher.heard f } }))
     (λ (s : Step). Has s.progress) (λ e. turns_have time time p h) (λ e. fine q.dispatcher time f e)
 step_has time (Ending process faults value) p h =
     let q : NodeProgress = turned time p in
@@ -80,7 +91,8 @@ Holds s = Has s.progress
 judged_holds : (s : LiveState) (time : ℕ) (event : Option Event) → Holds s → Holds (judged s time event)
 judged_holds s time None h = h
 judged_holds s time (Some event) h =
-    cond_both (nat_lt time s.time) (refused s Order) (stepped s time event (step time event s.progress)) Holds (λ _. h) (λ _. settles (step time event s.progress) (step_has time event s.progress h))
+    cond_both (nat_lt time s.time) (refused s Order) (stepped s time event (step time event s.progress)) Holds (λ _. h)
+    (λ _. settles (step time event s.progress) (step_has time event s.progress h))
   where
     settles : (q : Step) → Has q.progress → Holds (stepped s time event q)
     settles q h = go q.fault
@@ -90,7 +102,8 @@ judged_holds s time (Some event) h =
         go (Some why) = h
 
 record_holds : (s : LiveState) (bytes : List ℕ) → Holds s → Holds (take_record s bytes)
-record_holds s bytes h = cond_both (is_some s.bad) s _ Holds (λ _. h) (λ _. cond_both s.closed (refused s Length) _ Holds (λ _. h)
+record_holds s bytes h =
+    cond_both (is_some s.bad) s _ Holds (λ _. h) (λ _. cond_both s.closed (refused s Length) _ Holds (λ _. h)
     (λ _. judged_holds s (record_of bytes).time (event_of s.progress.dispatcher.table (record_of bytes)) h))
 
 records_hold : (records : List (List ℕ)) (s : LiveState) → Holds s → Holds (fold take_record s records)
@@ -98,20 +111,24 @@ records_hold [] s h = h
 records_hold (r ∷ rs) s h = records_hold rs (take_record s r) (record_holds s r h)
 
 rest_holds : (s : LiveState) (rest : List ℕ) → Holds s → Holds (with_rest s rest)
-rest_holds s rest h = cond_both (is_some s.bad) s _ Holds (λ _. h) (λ _. cond_both (s.closed && nat_lt 0 (length rest)) (refused s Length) (record s { rest = rest }) Holds (λ _. h) (λ _. h))
+rest_holds s rest h = cond_both (is_some s.bad) s _ Holds (λ _. h) (λ _. cond_both (s.closed && nat_lt 0 (length rest))
+    (refused s Length) (record s { rest = rest }) Holds (λ _. h) (λ _. h))
 
 pub no_range_is_empty : NoRangeIsEmpty
-no_range_is_empty table bytes = rest_holds (fold take_record (open_stream table) (cut_bytes bytes).whole) (cut_bytes bytes).rest
+no_range_is_empty table bytes =
+    rest_holds (fold take_record (open_stream table) (cut_bytes bytes).whole) (cut_bytes bytes).rest
     (records_hold (cut_bytes bytes).whole (open_stream table)
     (All-map HasNumber (whole_range table.faults) (numbers_below variable_count) (λ k d l. omega arith)))
 
 -- ---- what a frame leaves
 
 -- the range of a variable of which no literal tells
-untold : (v : ℕ) (ls : List Literal) (heard : List Range) → ((l : Literal) → Contains ls l → l.variable ≢ v) → range_of (cut_all heard ls) v ≡ range_of heard v
+untold : (v : ℕ) (ls : List Literal) (heard : List Range) → ((l : Literal) → Contains ls l → l.variable ≢ v) →
+    range_of (cut_all heard ls) v ≡ range_of heard v
 untold v [] heard ne = refl
 untold v (l ∷ ls) heard ne = untold v ls (cut heard l) (λ m c. ne m (Contains-rest l ls m c))
-    ∙ get_or-set_other heard l.variable v (cut_range (range_of heard l.variable) l) (record { low = 0; high = 0 }) (λ e. ne l (Contains-first l ls) (sym e))
+    ∙ get_or-set_other heard l.variable v (cut_range (range_of heard l.variable) l) (record { low = 0; high = 0 })
+    (λ e. ne l (Contains-first l ls) (sym e))
 
 same_answer : (a b : Bool) → (a ≡ true → b ≡ true) → (b ≡ true → a ≡ true) → a ≡ b
 same_answer true b f e = sym (f refl)
@@ -122,16 +139,20 @@ module _ (heard : List Range) (ls : List Literal) (have : AllHave heard) where
   abbrev left : List Range
   left = cut_all heard ls
 
-  at_told : list_any is_contradicted left ≡ true → list_any (λ (l : Literal). is_contradicted (range_of left l.variable)) ls ≡ true
+  at_told : list_any is_contradicted left ≡ true →
+      list_any (λ (l : Literal). is_contradicted (range_of left l.variable)) ls ≡ true
   at_told e =
       let q = list_any_parts is_contradicted left e in
       let v : ℕ = q.1.0 in
-      let empty : is_contradicted (range_of left v) ≡ true = ap is_contradicted (get_or_default left v (record { low = 0; high = 0 }) q.0 q.1.1 ∙ q.1.2) ∙ q.2 in
+      let empty : is_contradicted (range_of left v) ≡ true =
+      ap is_contradicted (get_or_default left v (record { low = 0; high = 0 }) q.0 q.1.1 ∙ q.1.2) ∙ q.2 in
       elim (cases_Bool (list_any (λ (l : Literal). l.variable == v) ls)) [
         | inl told ↦ let l = list_any_parts (λ (l : Literal). l.variable == v) ls told in
-            list_any_true (λ (l : Literal). is_contradicted (range_of left l.variable)) ls l.0 l.1 (ap (λ v. is_contradicted (range_of left v)) (eqb-true l.0.variable v l.2) ∙ empty)
+            list_any_true (λ (l : Literal). is_contradicted (range_of left l.variable)) ls l.0 l.1
+            (ap (λ v. is_contradicted (range_of left v)) (eqb-true l.0.variable v l.2) ∙ empty)
         | inr none ↦
-            let same = untold v ls heard (λ l c is. true≢false (sym (eq-eqb l.variable v is) ∙ from_any_false (λ (l : Literal). l.variable == v) ls l none c)) in
+            let same = untold v ls heard (λ l c is. true≢false (sym (eq-eqb l.variable v is)
+            ∙ from_any_false (λ (l : Literal). l.variable == v) ls l none c)) in
             absurd (not_empty v (sym (ap is_contradicted same) ∙ empty))
       ]
     where
@@ -140,16 +161,20 @@ module _ (heard : List Range) (ls : List Literal) (have : AllHave heard) where
           let less = ltb-true (range_of heard v).high (range_of heard v).low e in
           elim (cases_lt v (length heard)) [
             | inl l ↦ let fine = have v (record { low = 0; high = 0 }) l in omega (arith, less, fine)
-            | inr past ↦ let none = get_or_past heard v (record { low = 0; high = 0 }) past in omega (arith, less, ap (λ (r : Range). r.low) none)
+            | inr past ↦ let none = get_or_past heard v (record { low = 0; high = 0 }) past in
+                omega (arith, less, ap (λ (r : Range). r.low) none)
           ]
 
-  at_all : list_any (λ (l : Literal). is_contradicted (range_of left l.variable)) ls ≡ true → list_any is_contradicted left ≡ true
+  at_all : list_any (λ (l : Literal). is_contradicted (range_of left l.variable)) ls ≡ true →
+      list_any is_contradicted left ≡ true
   at_all e =
       let q = list_any_parts (λ (l : Literal). is_contradicted (range_of left l.variable)) ls e in
       let v : ℕ = q.0.variable in
       elim (cases_lt v (length left)) [
-        | inl l ↦ list_any_true is_contradicted left (range_of left v) (Contains-get_or left v (record { low = 0; high = 0 }) l) q.2
-        | inr past ↦ absurd (true≢false (sym q.2 ∙ ap is_contradicted (get_or_past left v (record { low = 0; high = 0 }) past)))
+        | inl l ↦ list_any_true is_contradicted left (range_of left v)
+            (Contains-get_or left v (record { low = 0; high = 0 }) l) q.2
+        | inr past ↦
+            absurd (true≢false (sym q.2 ∙ ap is_contradicted (get_or_past left v (record { low = 0; high = 0 }) past)))
       ]
 
 pub frames_contradict_where_they_tell : FramesContradictWhereTheyTell

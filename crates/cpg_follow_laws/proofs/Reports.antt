@@ -1,5 +1,6 @@
 -- Reports of different processes may be told in any order, so also in that of time.
-use Rattle.std.proofs.Common.{◌≡◌, ◌≢◌, ℕ, ◌≤◌, Bool, true, false, cond, List, [], ◌∷◌, Contains, refl, sym, ap, ◌∙◌, subst, arith, inl, inr, ◌⊎◌, leb, leb-true}
+use Rattle.std.proofs.Common.{◌≡◌, ◌≢◌, ℕ, ◌≤◌, Bool, true, false, cond, List, [], ◌∷◌, Contains, refl, sym, ap, ◌∙◌}
+use Rattle.std.proofs.Common.{subst, arith, inl, inr, ◌⊎◌, leb, leb-true}
 use Rattle.std.proofs.lemmas.Bool.{leb-false}
 use Rattle.cpg_base.proofs.Lists.{Contains-first, Contains-rest, Contains-cases, Contains-nil}
 use Rattle.cpg_base.proofs.Ordered.{Rises}
@@ -17,29 +18,37 @@ Apart a b = a.1.process ≢ b.1.process
 abbrev pub NotLater : ℕ × Ended → ℕ × Ended → Type 0
 NotLater a b = a.0 ≤ b.0
 
-pub all_may : (es : List (ℕ × Ended)) (d : Dispatcher) → AllFinish d es → Rises Apart es → (e : ℕ × Ended) → Contains es e → MayFinish d e.0 e.1
+pub all_may : (es : List (ℕ × Ended)) (d : Dispatcher) → AllFinish d es → Rises Apart es → (e : ℕ × Ended) →
+    Contains es e →
+    MayFinish d e.0 e.1
 all_may [] d h r e c = absurd (Contains-nil e c)
 all_may (x ∷ es) d h r e c = elim (Contains-cases x es e c) [
   | inl s ↦ subst (λ (e : ℕ × Ended). MayFinish d e.0 e.1) s h.0
   | inr m ↦ may_before d x.1 e.0 e.1 (r.0 e m) (all_may es (finished d x.1) h.1 r.1 e m)
 ]
 
-may_tell : (es : List (ℕ × Ended)) (d : Dispatcher) (from : ℕ) → ((e : ℕ × Ended) → Contains es e → MayFinish d e.0 e.1) → Rises Apart es → Rises NotLater es →
+may_tell : (es : List (ℕ × Ended)) (d : Dispatcher) (from : ℕ) →
+    ((e : ℕ × Ended) → Contains es e → MayFinish d e.0 e.1) → Rises Apart es →
+    Rises NotLater es →
     ((e : ℕ × Ended) → Contains es e → from ≤ e.0) → MayReport d from es
 may_tell [] d from may r t lo = tt
 may_tell (x ∷ es) d from may r t lo = (
   lo x (Contains-first x es),
   may x (Contains-first x es),
-  may_tell es (finished d x.1) x.0 (λ e c. may_then d x.1 e.0 e.1 (r.0 e c) (may e (Contains-rest x es e c))) r.1 t.1 t.0,
+  may_tell es (finished d x.1) x.0
+      (λ e c. may_then d x.1 e.0 e.1 (r.0 e c) (may e (Contains-rest x es e c))) r.1 t.1 t.0,
 )
 
 -- Reports in order of time.
 
-in_inserted : (x : ℕ × Ended) (ys : List (ℕ × Ended)) (e : ℕ × Ended) → Contains (inserted x ys) e → (x ≡ e) ⊎ Contains ys e
+in_inserted : (x : ℕ × Ended) (ys : List (ℕ × Ended)) (e : ℕ × Ended) → Contains (inserted x ys) e →
+    (x ≡ e) ⊎ Contains ys e
 in_inserted x [] e c = elim (Contains-cases x [] e c) [ inl s ↦ inl s | inr n ↦ inr n ]
 in_inserted x (y ∷ ys) e c = go (leb x.0 y.0) c (in_inserted x ys e)
   where
-    go : (b : Bool) → Contains (cond b (x ∷ y ∷ ys) (y ∷ inserted x ys)) e → (Contains (inserted x ys) e → (x ≡ e) ⊎ Contains ys e) → (x ≡ e) ⊎ Contains (y ∷ ys) e
+    go : (b : Bool) → Contains (cond b (x ∷ y ∷ ys) (y ∷ inserted x ys)) e →
+        (Contains (inserted x ys) e → (x ≡ e) ⊎ Contains ys e) →
+        (x ≡ e) ⊎ Contains (y ∷ ys) e
     go true c ih = elim (Contains-cases x (y ∷ ys) e c) [ inl s ↦ inl s | inr n ↦ inr n ]
     go false c ih = elim (Contains-cases y (inserted x ys) e c) [
       | inl s ↦ inr (subst (Contains (y ∷ ys)) s (Contains-first y ys))
@@ -53,13 +62,21 @@ in_by_time (x ∷ es) e c = elim (in_inserted x (by_time es) e c) [
   | inr m ↦ Contains-rest x es e (in_by_time es e m)
 ]
 
-apart_inserted : (x : ℕ × Ended) (ys : List (ℕ × Ended)) → ((e : ℕ × Ended) → Contains ys e → Apart x e) → Rises Apart ys → Rises Apart (inserted x ys)
+apart_inserted : (x : ℕ × Ended) (ys : List (ℕ × Ended)) → ((e : ℕ × Ended) → Contains ys e → Apart x e) →
+    Rises Apart ys →
+    Rises Apart (inserted x ys)
 apart_inserted x [] h r = (h, r)
 apart_inserted x (y ∷ ys) h r = go (leb x.0 y.0) (apart_inserted x ys (λ e c. h e (Contains-rest y ys e c)) r.1)
   where
     go : (b : Bool) → Rises Apart (inserted x ys) → Rises Apart (cond b (x ∷ y ∷ ys) (y ∷ inserted x ys))
     go true ih = (h, r)
-    go false ih = (λ e c. elim (in_inserted x ys e c) [ inl s ↦ (λ z. h y (Contains-first y ys) (ap (λ (e : ℕ × Ended). e.1.process) s ∙ sym z)) | inr m ↦ r.0 e m ], ih)
+    go false ih = (
+      λ e c. elim (in_inserted x ys e c) [
+        | inl s ↦ (λ z. h y (Contains-first y ys) (ap (λ (e : ℕ × Ended). e.1.process) s ∙ sym z))
+        | inr m ↦ r.0 e m
+      ],
+      ih,
+    )
 
 apart_by_time : (es : List (ℕ × Ended)) → Rises Apart es → Rises Apart (by_time es)
 apart_by_time [] r = r
@@ -69,9 +86,22 @@ rises_inserted : (x : ℕ × Ended) (ys : List (ℕ × Ended)) → Rises NotLate
 rises_inserted x [] r = ((λ e c. absurd (Contains-nil e c)), r)
 rises_inserted x (y ∷ ys) r = go (leb x.0 y.0) refl (rises_inserted x ys r.1)
   where
-    go : (b : Bool) → leb x.0 y.0 ≡ b → Rises NotLater (inserted x ys) → Rises NotLater (cond b (x ∷ y ∷ ys) (y ∷ inserted x ys))
-    go true s ih = (λ e c. elim (Contains-cases y ys e c) [ inl z ↦ omega (arith, leb-true x.0 y.0 s, ap (λ (e : ℕ × Ended). e.0) z) | inr m ↦ omega (arith, leb-true x.0 y.0 s, r.0 e m) ], r)
-    go false s ih = (λ e c. elim (in_inserted x ys e c) [ inl z ↦ omega (arith, leb-false x.0 y.0 s, ap (λ (e : ℕ × Ended). e.0) z) | inr m ↦ r.0 e m ], ih)
+    go : (b : Bool) → leb x.0 y.0 ≡ b → Rises NotLater (inserted x ys) →
+        Rises NotLater (cond b (x ∷ y ∷ ys) (y ∷ inserted x ys))
+    go true s ih = (
+      λ e c. elim (Contains-cases y ys e c) [
+        | inl z ↦ omega (arith, leb-true x.0 y.0 s, ap (λ (e : ℕ × Ended). e.0) z)
+        | inr m ↦ omega (arith, leb-true x.0 y.0 s, r.0 e m)
+      ],
+      r,
+    )
+    go false s ih = (
+      λ e c. elim (in_inserted x ys e c) [
+        | inl z ↦ omega (arith, leb-false x.0 y.0 s, ap (λ (e : ℕ × Ended). e.0) z)
+        | inr m ↦ r.0 e m
+      ],
+      ih,
+    )
 
 rises_by_time : (es : List (ℕ × Ended)) → Rises NotLater (by_time es)
 rises_by_time [] = tt
@@ -79,19 +109,28 @@ rises_by_time (x ∷ es) = rises_inserted x (by_time es) (rises_by_time es)
 
 -- What they leave.
 
-told_inserted : (d : Dispatcher) (x : ℕ × Ended) (ys : List (ℕ × Ended)) → ((e : ℕ × Ended) → Contains ys e → Apart x e) → after_reports d (inserted x ys) ≡ after_reports (finished d x.1) ys
+told_inserted : (d : Dispatcher) (x : ℕ × Ended) (ys : List (ℕ × Ended)) →
+    ((e : ℕ × Ended) → Contains ys e → Apart x e) →
+    after_reports d (inserted x ys) ≡ after_reports (finished d x.1) ys
 told_inserted d x [] h = refl
-told_inserted d x (y ∷ ys) h = go (leb x.0 y.0) (told_inserted (finished d y.1) x ys (λ e c. h e (Contains-rest y ys e c)))
+told_inserted d x (y ∷ ys) h =
+    go (leb x.0 y.0) (told_inserted (finished d y.1) x ys (λ e c. h e (Contains-rest y ys e c)))
   where
-    go : (b : Bool) → after_reports (finished d y.1) (inserted x ys) ≡ after_reports (finished (finished d y.1) x.1) ys →
+    go : (b : Bool) →
+        after_reports (finished d y.1) (inserted x ys) ≡ after_reports (finished (finished d y.1) x.1) ys →
         after_reports d (cond b (x ∷ y ∷ ys) (y ∷ inserted x ys)) ≡ after_reports (finished d x.1) (y ∷ ys)
     go true ih = refl
     go false ih = ih ∙ ap (λ d. after_reports d ys) (sym (swap d x.1 y.1 (h y (Contains-first y ys))))
 
-pub told_by_time : (es : List (ℕ × Ended)) (d : Dispatcher) → Rises Apart es → after_reports d (by_time es) ≡ after_reports d es
+pub told_by_time : (es : List (ℕ × Ended)) (d : Dispatcher) → Rises Apart es →
+    after_reports d (by_time es) ≡ after_reports d es
 told_by_time [] d r = refl
-told_by_time (x ∷ es) d r = told_inserted d x (by_time es) (λ e c. r.0 e (in_by_time es e c)) ∙ told_by_time es (finished d x.1) r.1
+told_by_time (x ∷ es) d r =
+    told_inserted d x (by_time es) (λ e c. r.0 e (in_by_time es e c)) ∙ told_by_time es (finished d x.1) r.1
 
-pub tells_by_time : (es : List (ℕ × Ended)) (d : Dispatcher) (from : ℕ) → AllFinish d es → Rises Apart es → ((e : ℕ × Ended) → MayFinish d e.0 e.1 → from ≤ e.0) → MayReport d from (by_time es)
-tells_by_time es d from all r lo = may_tell (by_time es) d from (λ e c. all_may es d all r e (in_by_time es e c)) (apart_by_time es r) (rises_by_time es)
+pub tells_by_time : (es : List (ℕ × Ended)) (d : Dispatcher) (from : ℕ) → AllFinish d es → Rises Apart es →
+    ((e : ℕ × Ended) → MayFinish d e.0 e.1 → from ≤ e.0) →
+    MayReport d from (by_time es)
+tells_by_time es d from all r lo = may_tell (by_time es) d from (λ e c. all_may es d all r e (in_by_time es e c))
+    (apart_by_time es r) (rises_by_time es)
     (λ e c. lo e (all_may es d all r e (in_by_time es e c)))

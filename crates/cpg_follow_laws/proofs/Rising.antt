@@ -1,5 +1,6 @@
 -- The records of a play are in order of time.
-use Rattle.std.proofs.Common.{◌≡◌, ◌≢◌, ℕ, ◌+◌, ◌<◌, ◌≤◌, true, ◌==◌, List, [], ◌∷◌, ◌++◌, length, map, Option, Some, None, refl, sym, ap, ◌∙◌, subst, arith, inl, inr, eq-eqb, ne_eqb}
+use Rattle.std.proofs.Common.{◌≡◌, ◌≢◌, ℕ, ◌+◌, ◌<◌, ◌≤◌, true, ◌==◌, List, [], ◌∷◌, ◌++◌, length, map, Option, Some}
+use Rattle.std.proofs.Common.{None, refl, sym, ap, ◌∙◌, subst, arith, inl, inr, eq-eqb, ne_eqb}
 use Rattle.std.specs.Prelude.{IfSome}
 use Rattle.std.proofs.lemmas.Bool.{cases_eq, cond-true, cond-false}
 use Rattle.std.proofs.lemmas.List.{get_or-set_same, get_or-set_other}
@@ -7,7 +8,8 @@ use Rattle.cpg_base.specs.Graph.{Graph}
 use Rattle.cpg_table.specs.Table.{NodeTable}
 use Rattle.cpg_node.specs.Dispatcher.{Dispatcher, Ended, Frame, next, finished, initial_dispatcher, is_after}
 use Rattle.cpg_node.proofs.Next.{next_is}
-use Rattle.cpg_cluster.specs.Cluster.{World, Cluster, Answer, Took, Waits, Done as IsDone, initial_cluster, dispatcher_at, answer, reports_now, take_turn, step_by, step, play}
+use Rattle.cpg_cluster.specs.Cluster.{World, Cluster, Answer, Took, Waits, Done as IsDone, initial_cluster}
+use Rattle.cpg_cluster.specs.Cluster.{dispatcher_at, answer, reports_now, take_turn, step_by, step, play}
 use Rattle.cpg_cluster.proofs.Nodes.{Played}
 use Rattle.cpg_cluster.proofs.Reporting.{reports_apart}
 use Rattle.cpg_cluster.proofs.Finishing.{may_finish}
@@ -26,18 +28,26 @@ abbrev moment : Option ℕ → ℕ
 moment None = 0
 moment (Some last) = last
 
-rise_weaker : (from later to : ℕ) (es : List (ℕ × Event)) → from ≤ later → RiseWithin later to es → RiseWithin from to es
+rise_weaker : (from later to : ℕ) (es : List (ℕ × Event)) → from ≤ later → RiseWithin later to es →
+    RiseWithin from to es
 rise_weaker from later to [] le h = omega (arith, le, h)
 rise_weaker from later to (e ∷ es) le h = (omega (arith, le, h.0), h.1, h.2)
 
-rise_join : (xs ys : List (ℕ × Event)) (from middle to : ℕ) → RiseWithin from middle xs → RiseWithin middle to ys → RiseWithin from to (xs ++ ys)
+rise_join : (xs ys : List (ℕ × Event)) (from middle to : ℕ) → RiseWithin from middle xs → RiseWithin middle to ys →
+    RiseWithin from to (xs ++ ys)
 rise_join [] ys from middle to h k = rise_weaker from middle to ys h k
 rise_join (x ∷ xs) ys from middle to h k = (h.0, h.1, rise_join xs ys x.0 middle to h.2 k)
 
-reports_within : (time : ℕ) (es : List (ℕ × Ended)) (d : Dispatcher) (from : ℕ) → next d ≡ Some time → from ≤ time → MayReport d from es → RiseWithin from time (map end_event es)
+reports_within : (time : ℕ) (es : List (ℕ × Ended)) (d : Dispatcher) (from : ℕ) → next d ≡ Some time → from ≤ time →
+    MayReport d from es →
+    RiseWithin from time (map end_event es)
 reports_within time [] d from n le m = le
-reports_within time (e ∷ es) d from n le m =
-    (m.0, refl, reports_within time es (finished d e.1) e.0 (next_same d e.1 ∙ n) (subst (λ o. IfSome o (λ n. e.0 ≤ n)) n m.1.before) m.2)
+reports_within time (e ∷ es) d from n le m = (
+  m.0,
+  refl,
+  reports_within time es (finished d e.1) e.0 (next_same d e.1 ∙ n)
+      (subst (λ o. IfSome o (λ n. e.0 ≤ n)) n m.1.before) m.2,
+)
 
 frames_within : (time : ℕ) (fs : List Frame) → RiseWithin time time (map (frame_event time) fs)
 frames_within time [] = omega arith
@@ -52,44 +62,65 @@ by_moment : (last : Option ℕ) (close : ℕ) → after_last last ≤ close + 1 
 by_moment None close h = omega arith
 by_moment (Some last) close h = omega (arith, h)
 
-module _ {g : Graph} {tables : List NodeTable} {w : World} (k : Played g tables w) (node : ℕ) (l : node < length g.nodes) where
-  turn_within : (c : Cluster) → Reached g tables w c → (time : ℕ) → next (dispatcher_at c node) ≡ Some time → RiseWithin (moment (dispatcher_at c node).last) time (records_at g w c node time)
+module _ {g : Graph} {tables : List NodeTable} {w : World} (k : Played g tables w) (node : ℕ)
+    (l : node < length g.nodes) where
+  turn_within : (c : Cluster) → Reached g tables w c → (time : ℕ) → next (dispatcher_at c node) ≡ Some time →
+      RiseWithin (moment (dispatcher_at c node).last) time (records_at g w c node time)
   turn_within c r time e =
       let d : Dispatcher = dispatcher_at c node in
       let reports : List (ℕ × Ended) = reports_now g w d time in
-      let may = tells_by_time reports d (moment d.last) (may_finish k c r node l time e) (reports_apart k c r node l time) (λ q m. after_moment d.last q.0 m.later) in
+      let may = tells_by_time reports d (moment d.last) (may_finish k c r node l time e)
+      (reports_apart k c r node l time) (λ q m. after_moment d.last q.0 m.later) in
       rise_join (map end_event (by_time reports)) (map (frame_event time) _) (moment d.last) time time
-      (reports_within time (by_time reports) d (moment d.last) e (after_moment d.last time (next_is d time e).after) may) (frames_within time _)
+      (reports_within time (by_time reports) d (moment d.last) e
+      (after_moment d.last time (next_is d time e).after) may) (frames_within time _)
 
-  rise_play : (turns : List ℕ) (c : Cluster) → Reached g tables w c → (close : ℕ) → moment (dispatcher_at (play g w c turns) node).last ≤ close →
+  rise_play : (turns : List ℕ) (c : Cluster) → Reached g tables w c → (close : ℕ) →
+      moment (dispatcher_at (play g w c turns) node).last ≤ close →
       RiseWithin (moment (dispatcher_at c node).last) close (records_in g w c node turns)
   rise_play [] c r close le = le
   rise_play (a ∷ rest) c r close le = elim (cases_eq a node) [
-    | inl is ↦ subst (λ es. RiseWithin (moment (dispatcher_at c node).last) close (es ++ records_in g w (step g w c a) node rest)) (sym (cond-true (a == node) _ _ (eq-eqb a node is)))
-        (subst (λ a. RiseWithin (moment (dispatcher_at c node).last) close (records_by g w c a (answer g c a) (next (dispatcher_at c a)) ++ records_in g w (step g w c a) node rest)) (sym is)
+    | inl is ↦ subst
+        (λ es. RiseWithin (moment (dispatcher_at c node).last) close (es ++ records_in g w (step g w c a) node rest))
+        (sym (cond-true (a == node) _ _ (eq-eqb a node is)))
+        (subst (λ a. RiseWithin (moment (dispatcher_at c node).last) close (records_by g w c a (answer g c a)
+        (next (dispatcher_at c a)) ++ records_in g w (step g w c a) node rest)) (sym is)
         (here (answer g c node) (next (dispatcher_at c node)) refl
-        (rise_play rest (step g w c node) (reached_step k c r node) close (subst (λ a. moment (dispatcher_at (play g w (step g w c a) rest) node).last ≤ close) is le))))
-    | inr ne ↦ subst (λ es. RiseWithin (moment (dispatcher_at c node).last) close (es ++ records_in g w (step g w c a) node rest)) (sym (cond-false (a == node) _ _ (ne_eqb a node ne)))
-        (other (answer g c a) (next (dispatcher_at c a)) (λ s. ne (sym s)) (rise_play rest (step g w c a) (reached_step k c r a) close le))
+        (rise_play rest (step g w c node) (reached_step k c r node) close
+        (subst (λ a. moment (dispatcher_at (play g w (step g w c a) rest) node).last ≤ close) is le))))
+    | inr ne ↦ subst
+        (λ es. RiseWithin (moment (dispatcher_at c node).last) close (es ++ records_in g w (step g w c a) node rest))
+        (sym (cond-false (a == node) _ _ (ne_eqb a node ne)))
+        (other (answer g c a) (next (dispatcher_at c a)) (λ s. ne (sym s))
+        (rise_play rest (step g w c a) (reached_step k c r a) close le))
   ]
     where
       nobody : Dispatcher
-      nobody = initial_dispatcher (record { faults = 0; first_broadcast = 0; own = []; starts = []; sends = []; hears = [] })
+      nobody =
+          initial_dispatcher (record { faults = 0; first_broadcast = 0; own = []; starts = []; sends = []; hears = [] })
 
       here : (ans : Answer) (o : Option ℕ) → next (dispatcher_at c node) ≡ o →
-          RiseWithin (moment (dispatcher_at (step_by g w c node ans o) node).last) close (records_in g w (step_by g w c node ans o) node rest) →
-          RiseWithin (moment (dispatcher_at c node).last) close (records_by g w c node ans o ++ records_in g w (step_by g w c node ans o) node rest)
+          RiseWithin (moment (dispatcher_at (step_by g w c node ans o) node).last) close
+          (records_in g w (step_by g w c node ans o) node rest) →
+          RiseWithin (moment (dispatcher_at c node).last) close
+          (records_by g w c node ans o ++ records_in g w (step_by g w c node ans o) node rest)
       here Took (Some time) e h =
-          let last : (dispatcher_at (take_turn g w c node time) node).last ≡ Some time = ap (λ (d : Dispatcher). d.last) (get_or-set_same c.nodes node _ nobody (omega (arith, r.nodes, l))) in
-          rise_join (records_at g w c node time) (records_in g w (take_turn g w c node time) node rest) (moment (dispatcher_at c node).last) time close (turn_within c r time e)
+          let last : (dispatcher_at (take_turn g w c node time) node).last ≡ Some time =
+          ap (λ (d : Dispatcher). d.last) (get_or-set_same c.nodes node _ nobody (omega (arith, r.nodes, l))) in
+          rise_join (records_at g w c node time) (records_in g w (take_turn g w c node time) node rest)
+          (moment (dispatcher_at c node).last) time close (turn_within c r time e)
           (subst (λ o. RiseWithin (moment o) close (records_in g w (take_turn g w c node time) node rest)) last h)
       here Took None e h = h
       here (Waits b) o e h = h
       here IsDone o e h = h
 
-      other : (ans : Answer) (o : Option ℕ) → node ≢ a → RiseWithin (moment (dispatcher_at (step_by g w c a ans o) node).last) close (records_in g w (step_by g w c a ans o) node rest) →
+      other : (ans : Answer) (o : Option ℕ) → node ≢ a →
+          RiseWithin (moment (dispatcher_at (step_by g w c a ans o) node).last) close
+          (records_in g w (step_by g w c a ans o) node rest) →
           RiseWithin (moment (dispatcher_at c node).last) close (records_in g w (step_by g w c a ans o) node rest)
-      other Took (Some time) ne h = subst (λ (d : Dispatcher). RiseWithin (moment d.last) close (records_in g w (take_turn g w c a time) node rest)) (get_or-set_other c.nodes a node _ nobody ne) h
+      other Took (Some time) ne h = subst
+          (λ (d : Dispatcher). RiseWithin (moment d.last) close (records_in g w (take_turn g w c a time) node rest))
+          (get_or-set_other c.nodes a node _ nobody ne) h
       other Took None ne h = h
       other (Waits b) o ne h = h
       other IsDone o ne h = h
@@ -99,4 +130,5 @@ records_rise g tables f h v w turns node close is l late =
     let k = played_of g tables f h v w is in
     let c : Cluster = initial_cluster g tables in
     rise_weaker 0 (moment (dispatcher_at c node).last) close (records_in g w c node turns) (omega arith)
-    (rise_play k node l turns c (reached_open k) close (by_moment (dispatcher_at (play g w c turns) node).last close late))
+    (rise_play k node l turns c (reached_open k) close
+    (by_moment (dispatcher_at (play g w c turns) node).last close late))

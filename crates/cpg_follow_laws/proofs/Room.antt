@@ -1,5 +1,6 @@
 -- What a node is told in a play has room in records.
-use Rattle.std.proofs.Common.{◌≡◌, ℕ, ◌+◌, ◌-◌, ◌<◌, ◌≤◌, Bool, true, false, cond, not, ◌||◌, ◌==◌, List, [], ◌∷◌, ◌++◌, length, map, get_or, Contains, Option, Some, None, refl, sym, ap, ◌∙◌, subst}
+use Rattle.std.proofs.Common.{◌≡◌, ℕ, ◌+◌, ◌-◌, ◌<◌, ◌≤◌, Bool, true, false, cond, not, ◌||◌, ◌==◌, List, [], ◌∷◌, ◌++◌}
+use Rattle.std.proofs.Common.{length, map, get_or, Contains, Option, Some, None, refl, sym, ap, ◌∙◌, subst}
 use Rattle.std.proofs.Common.{arith, inl, inr, true≢false, ltb-true, lt-ltb, eq-eqb, ne_eqb}
 use Rattle.std.specs.Prelude.{nat_lt}
 use Rattle.std.specs.List.{list_any, AllByRecursion}
@@ -16,9 +17,11 @@ use Rattle.cpg_head.specs.GraphHead.{head_of}
 use Rattle.cpg_table.specs.Table.{Row, NodeTable, table_at, columns_in}
 use Rattle.cpg_table.specs.Lawful.{AreTablesOf, IsLawfulRow, rows_of, space_of}
 use Rattle.cpg_table.proofs.Told.{Learnt, learnt_true}
-use Rattle.cpg_node.specs.Dispatcher.{Dispatcher, Ended, Frame, Act, next, hear_frame, is_contradicted, is_strange, no_column}
+use Rattle.cpg_node.specs.Dispatcher.{Dispatcher, Ended, Frame, Act, next, hear_frame, is_contradicted, is_strange}
+use Rattle.cpg_node.specs.Dispatcher.{no_column}
 use Rattle.cpg_node.proofs.Next.{by}
-use Rattle.cpg_cluster.specs.Cluster.{World, Cluster, Answer, Took, Waits, Done as IsDone, own_table, dispatcher_at, answer, frame_of_item, reports_now, reported, frames_now, step}
+use Rattle.cpg_cluster.specs.Cluster.{World, Cluster, Answer, Took, Waits, Done as IsDone, own_table, dispatcher_at}
+use Rattle.cpg_cluster.specs.Cluster.{answer, frame_of_item, reports_now, reported, frames_now, step}
 use Rattle.cpg_cluster.proofs.Nodes.{Played}
 use Rattle.cpg_cluster.proofs.Lawful.{frame_fine}
 use Rattle.cpg_cluster.proofs.Sending.{frame_parts}
@@ -32,33 +35,39 @@ use Rattle.cpg_follow_laws.specs.Follow.{by_time, records_at, records_by, record
 use Rattle.cpg_follow_laws.proofs.Reports.{all_may, in_by_time}
 use Rattle.cpg_follow_laws.proofs.Follow.{keeps_ready}
 
-all_map : {X Y : Type 0} (P : Y → Type 0) (f : X → Y) (xs : List X) → ((x : X) → Contains xs x → P (f x)) → AllByRecursion P (map f xs)
+all_map : {X Y : Type 0} (P : Y → Type 0) (f : X → Y) (xs : List X) → ((x : X) → Contains xs x → P (f x)) →
+    AllByRecursion P (map f xs)
 all_map P f [] h = tt
 all_map P f (x ∷ xs) h = (h x (Contains-first x xs), all_map P f xs (λ y m. h y (Contains-rest x xs y m)))
 
-all_append : {X : Type 0} (P : X → Type 0) (xs ys : List X) → AllByRecursion P xs → AllByRecursion P ys → AllByRecursion P (xs ++ ys)
+all_append : {X : Type 0} (P : X → Type 0) (xs ys : List X) → AllByRecursion P xs → AllByRecursion P ys →
+    AllByRecursion P (xs ++ ys)
 all_append P [] ys h k = k
 all_append P (x ∷ xs) ys h k = (h.0, all_append P xs ys h.1 k)
 
 -- a frame that isn't strange is of a column that is there
-column_there : (d : Dispatcher) (time : ℕ) (f : Frame) → is_strange d time f ≡ false → f.column < length (columns_in d.table.hears f.item)
+column_there : (d : Dispatcher) (time : ℕ) (f : Frame) → is_strange d time f ≡ false →
+    f.column < length (columns_in d.table.hears f.item)
 column_there d time f e =
     let unknown : Bool = not (list_any (λ (row : Row). row.item == f.item) d.table.hears) in
     let none : Bool = not (nat_lt f.column (length (columns_in d.table.hears f.item))) in
     let other : Bool = not ((get_or (columns_in d.table.hears f.item) f.column no_column).time == time) in
     let p = or_parts (unknown || none || other) (list_any is_contradicted (hear_frame d.table d.heard f)) e in
     let q = or_parts unknown none (or_parts (unknown || none) other p.0).0 in
-    ltb-true f.column (length (columns_in d.table.hears f.item)) (is_true (nat_lt f.column (length (columns_in d.table.hears f.item))) q.1)
+    ltb-true f.column (length (columns_in d.table.hears f.item))
+    (is_true (nat_lt f.column (length (columns_in d.table.hears f.item))) q.1)
   where
     is_true : (b : Bool) → not b ≡ false → b ≡ true
     is_true true e = refl
     is_true false e = absurd (true≢false e)
 
-columns_few : (rows : List Row) (x : ℕ) → ((row : Row) → Contains rows row → length row.columns ≤ MOST_COLUMNS) → length (columns_in rows x) ≤ MOST_COLUMNS
+columns_few : (rows : List Row) (x : ℕ) → ((row : Row) → Contains rows row → length row.columns ≤ MOST_COLUMNS) →
+    length (columns_in rows x) ≤ MOST_COLUMNS
 columns_few [] x h = omega arith
 columns_few (row ∷ rows) x h = go (row.item == x) (columns_few rows x (λ r m. h r (Contains-rest row rows r m)))
   where
-    go : (b : Bool) → length (columns_in rows x) ≤ MOST_COLUMNS → length (cond b row.columns (columns_in rows x)) ≤ MOST_COLUMNS
+    go : (b : Bool) → length (columns_in rows x) ≤ MOST_COLUMNS →
+        length (cond b row.columns (columns_in rows x)) ≤ MOST_COLUMNS
     go true ih = h row (Contains-first row rows)
     go false ih = ih
 
@@ -68,36 +77,48 @@ frame_item w (Start p) a = refl
 frame_item w (Message e) a = refl
 frame_item w (Broadcast c) a = refl
 
-frame_plain : (g : Graph) (w : World) (x : ℕ) (a : Act) → x < process_count g + edge_count g → (frame_of_item w (item_at g x) a).value ≡ false
-frame_plain g w x a less = go (nat_lt x (process_count g)) (nat_lt x (process_count g + edge_count g)) (lt-ltb x (process_count g + edge_count g) less)
+frame_plain : (g : Graph) (w : World) (x : ℕ) (a : Act) → x < process_count g + edge_count g →
+    (frame_of_item w (item_at g x) a).value ≡ false
+frame_plain g w x a less = go (nat_lt x (process_count g)) (nat_lt x (process_count g + edge_count g))
+    (lt-ltb x (process_count g + edge_count g) less)
   where
-    go : (b c : Bool) → c ≡ true → (frame_of_item w (cond b (Start x) (cond c (Message (x - process_count g)) (Broadcast (x - process_count g - edge_count g)))) a).value ≡ false
+    go : (b c : Bool) → c ≡ true →
+        (frame_of_item w (cond b (Start x)
+        (cond c (Message (x - process_count g)) (Broadcast (x - process_count g - edge_count g)))) a).value ≡ false
     go true c e = refl
     go false true e = refl
     go false false e = absurd (true≢false (sym e))
 
-module _ {g : Graph} {tables : List NodeTable} {w : World} (k : Played g tables w) (within : IsWithinLimits g) (of : AreTablesOf (head_of g) tables) (node : ℕ) (l : node < length g.nodes) where
+module _ {g : Graph} {tables : List NodeTable} {w : World} (k : Played g tables w) (within : IsWithinLimits g)
+    (of : AreTablesOf (head_of g) tables) (node : ℕ) (l : node < length g.nodes) where
   abbrev Fits : ℕ × Event → Type 0
   Fits e = HasRoom (own_table g node (table_at tables node)) e.1
 
   few : (x : ℕ) → length (columns_in (table_at tables node).hears x) ≤ MOST_COLUMNS
-  few x = columns_few (table_at tables node).hears x (λ row m. (All-contains (IsLawfulRow (space_of (head_of g))) (rows_of (table_at tables node)) row (of.each node l).lawful
-      (Contains-append_right (table_at tables node).starts ((table_at tables node).sends ++ (table_at tables node).hears) row
+  few x = columns_few (table_at tables node).hears x (λ row m.
+      (All-contains (IsLawfulRow (space_of (head_of g))) (rows_of (table_at tables node)) row (of.each node l).lawful
+      (Contains-append_right (table_at tables node).starts
+      ((table_at tables node).sends ++ (table_at tables node).hears) row
       (Contains-append_right (table_at tables node).sends (table_at tables node).hears row m))).few)
 
-  module _ (c : Cluster) (r : Reached g tables w c) (time : ℕ) (e : next (dispatcher_at c node) ≡ Some time) (q : answer g c node ≡ Took) where
-    frame_fits : (f : Frame) → Contains (frames_now g w c (reported g w (dispatcher_at c node) time) time) f → Fits (frame_event time f)
+  module _ (c : Cluster) (r : Reached g tables w c) (time : ℕ) (e : next (dispatcher_at c node) ≡ Some time)
+      (q : answer g c node ≡ Took) where
+    frame_fits : (f : Frame) → Contains (frames_now g w c (reported g w (dispatcher_at c node) time) time) f →
+        Fits (frame_event time f)
     frame_fits f m =
         let free = free_from k c r node time q e in
         let table = table_ready k c r node l time e in
         let a = frame_parts k c r.holds node l (reported g w (dispatcher_at c node) time) table time f m in
         let fine : is_strange (reported g w (dispatcher_at c node) time) time f ≡ false =
-        frame_fine k c r.holds node l (reported g w (dispatcher_at c node) time) table time f a (Learnt g tables w.scenario node (by (r.holds node l).last))
+        frame_fine k c r.holds node l (reported g w (dispatcher_at c node) time) table time f a
+        (Learnt g tables w.scenario node (by (r.holds node l).last))
         (keeps_ready k c r node l time e free) learnt_true in
         let there = column_there (reported g w (dispatcher_at c node) time) time f fine in
-        let hears : length (columns_in (reported g w (dispatcher_at c node) time).table.hears f.item) ≡ length (columns_in (table_at tables node).hears f.item) =
+        let hears : length (columns_in (reported g w (dispatcher_at c node) time).table.hears f.item)
+        ≡ length (columns_in (table_at tables node).hears f.item) =
         ap (λ (t : NodeTable). length (columns_in t.hears f.item)) table in
-        let item : f.item ≡ a.item = sym (ap (λ (f : Frame). f.item) a.is) ∙ frame_item w (item_at g a.item) a.act ∙ a.of in
+        let item : f.item ≡ a.item =
+        sym (ap (λ (f : Frame). f.item) a.is) ∙ frame_item w (item_at g a.item) a.act ∙ a.of in
         let known : a.item < process_count g + edge_count g + condition_count g = a.within in (
           omega (arith, item, known, within.few_processes, within.few_edges, within.few_conditions),
           omega (arith, there, hears, few f.item),
@@ -105,33 +126,45 @@ module _ {g : Graph} {tables : List NodeTable} {w : World} (k : Played g tables 
               sym (ap (λ (f : Frame). f.value) a.is) ∙ frame_plain g w a.item a.act (omega (arith, item, before)),
         )
 
-    report_fits : (z : ℕ × Ended) → Contains (by_time (reports_now g w (dispatcher_at c node) time)) z → Fits (end_event z)
+    report_fits : (z : ℕ × Ended) → Contains (by_time (reports_now g w (dispatcher_at c node) time)) z →
+        Fits (end_event z)
     report_fits z m =
         let there = in_by_time (reports_now g w (dispatcher_at c node) time) z m in
         let a = report_is k c r node l time z there in
-        let known : a.process < process_count g = numbers-Contains (process_count g) a.process (Contains-filter_parts (λ p. node_of g p == node) (numbers_below (process_count g)) a.process a.on).0 in
-        let may = all_may (reports_now g w (dispatcher_at c node) time) (dispatcher_at c node) (may_finish k c r node l time e) (reports_apart k c r node l time) z there in
-        let faults : (dispatcher_at c node).table.faults ≡ g.faults = ap (λ (d : Dispatcher). d.table.faults) (r.holds node l).is in (
+        let known : a.process < process_count g = numbers-Contains (process_count g) a.process
+        (Contains-filter_parts (λ p. node_of g p == node) (numbers_below (process_count g)) a.process a.on).0 in
+        let may = all_may (reports_now g w (dispatcher_at c node) time) (dispatcher_at c node)
+        (may_finish k c r node l time e) (reports_apart k c r node l time) z there in
+        let faults : (dispatcher_at c node).table.faults ≡ g.faults =
+        ap (λ (d : Dispatcher). d.table.faults) (r.holds node l).is in (
           omega (arith, known, a.is, within.few_processes),
           omega (arith, may.few, faults, within.faults),
         )
 
     turn_fits : AllByRecursion Fits (records_at g w c node time)
-    turn_fits = all_append Fits (map end_event (by_time (reports_now g w (dispatcher_at c node) time))) (map (frame_event time) (frames_now g w c (reported g w (dispatcher_at c node) time) time))
+    turn_fits = all_append Fits (map end_event (by_time (reports_now g w (dispatcher_at c node) time)))
+        (map (frame_event time) (frames_now g w c (reported g w (dispatcher_at c node) time) time))
         (all_map Fits end_event (by_time (reports_now g w (dispatcher_at c node) time)) report_fits)
         (all_map Fits (frame_event time) (frames_now g w c (reported g w (dispatcher_at c node) time) time) frame_fits)
 
-  pub all_fit : (turns : List ℕ) (c : Cluster) → Reached g tables w c → AllByRecursion Fits (records_in g w c node turns)
+  pub all_fit : (turns : List ℕ) (c : Cluster) → Reached g tables w c →
+      AllByRecursion Fits (records_in g w c node turns)
   all_fit [] c r = tt
   all_fit (a ∷ rest) c r = elim (cases_eq a node) [
-    | inl is ↦ subst (λ es. AllByRecursion Fits (es ++ records_in g w (step g w c a) node rest)) (sym (cond-true (a == node) _ _ (eq-eqb a node is)))
-        (subst (λ a. AllByRecursion Fits (records_by g w c a (answer g c a) (next (dispatcher_at c a)) ++ records_in g w (step g w c a) node rest)) (sym is)
-        (all_append Fits (records_by g w c node (answer g c node) (next (dispatcher_at c node))) (records_in g w (step g w c node) node rest)
-        (here (answer g c node) (next (dispatcher_at c node)) refl refl) (all_fit rest (step g w c node) (reached_step k c r node))))
-    | inr ne ↦ subst (λ es. AllByRecursion Fits (es ++ records_in g w (step g w c a) node rest)) (sym (cond-false (a == node) _ _ (ne_eqb a node ne))) (all_fit rest (step g w c a) (reached_step k c r a))
+    | inl is ↦ subst (λ es. AllByRecursion Fits (es ++ records_in g w (step g w c a) node rest))
+        (sym (cond-true (a == node) _ _ (eq-eqb a node is)))
+        (subst (λ a. AllByRecursion Fits (records_by g w c a (answer g c a) (next (dispatcher_at c a))
+        ++ records_in g w (step g w c a) node rest)) (sym is)
+        (all_append Fits (records_by g w c node (answer g c node) (next (dispatcher_at c node)))
+        (records_in g w (step g w c node) node rest)
+        (here (answer g c node) (next (dispatcher_at c node)) refl refl)
+        (all_fit rest (step g w c node) (reached_step k c r node))))
+    | inr ne ↦ subst (λ es. AllByRecursion Fits (es ++ records_in g w (step g w c a) node rest))
+        (sym (cond-false (a == node) _ _ (ne_eqb a node ne))) (all_fit rest (step g w c a) (reached_step k c r a))
   ]
     where
-      here : (ans : Answer) (o : Option ℕ) → answer g c node ≡ ans → next (dispatcher_at c node) ≡ o → AllByRecursion Fits (records_by g w c node ans o)
+      here : (ans : Answer) (o : Option ℕ) → answer g c node ≡ ans → next (dispatcher_at c node) ≡ o →
+          AllByRecursion Fits (records_by g w c node ans o)
       here Took (Some time) q e = turn_fits c r time e q
       here Took None q e = tt
       here (Waits b) o q e = tt

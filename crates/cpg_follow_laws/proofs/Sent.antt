@@ -1,7 +1,9 @@
 -- A node that has sent a value knows it: the process of the condition runs on it, and has ended by then.
-use Rattle.std.proofs.Common.{◌≡◌, ℕ, ◌+◌, ◌<◌, ◌≤◌, true, ◌==◌, [], Contains, Option, Some, None, sym, ap, ◌∙◌, subst, arith, inl, eqb-true, leb, leb-true, le-leb}
+use Rattle.std.proofs.Common.{◌≡◌, ℕ, ◌+◌, ◌<◌, ◌≤◌, true, ◌==◌, [], Contains, Option, Some, None, sym, ap, ◌∙◌, subst}
+use Rattle.std.proofs.Common.{arith, inl, eqb-true, leb, leb-true, le-leb}
 use Rattle.std.proofs.lemmas.Bool.{and_parts}
-use Rattle.cpg_base.specs.Graph.{condition_count, condition_of, item_at, node_of, process_count, process_of, producer, producer_of_item, value_variable}
+use Rattle.cpg_base.specs.Graph.{condition_count, condition_of, item_at, node_of, process_count, process_of, producer}
+use Rattle.cpg_base.specs.Graph.{producer_of_item, value_variable}
 use Rattle.cpg_base.specs.Duration.{duration}
 use Rattle.cpg_base.specs.Scenario.{Scenario, fault_of, number_of, number_of_value}
 use Rattle.cpg_base.proofs.ConditionProcesses.{condition_of_process_of}
@@ -42,7 +44,8 @@ sent_values_are_known g tables f h v w turns node condition a is l m e =
     let there : condition < condition_count g = omega (arith, e, within) in
     let item = ap (item_at g) e ∙ item_at-broadcast g condition in
     let made : producer g a.item ≡ process_of g condition = ap (producer_of_item g) item in
-    let all : Contains (all_asked g tables s) a = all_asked_in k.setting a (subst (λ n. Asked g tables s n a) (sym asked.row.home) asked) in
+    let all : Contains (all_asked g tables s) a =
+    all_asked_in k.setting a (subst (λ n. Asked g tables s n a) (sym asked.row.home) asked) in
     let given = list_any_parts (gives_end g s (producer g a.item) a.time) (all_asked g tables s)
     (((valid_tables_are_correct g tables f h v).orderly s k.setting.law).produced a (all, omega (arith, e))) in
     let b : Act = given.0 in
@@ -51,7 +54,8 @@ sent_values_are_known g tables f h v w turns node condition a is l m e =
     let over : b.time + duration g b.item (fault_of s b.item) ≤ a.time = leb-true (end_of_act g s b) a.time parts.1 in
     let start = all_asked_parts k.setting b given.1 in
     let end : b.item < process_count g = omega (arith, from, made, process_of_below g condition there) in
-    let of : condition_of g b.item ≡ Some condition = ap (condition_of g) (from ∙ made) ∙ condition_of_process_of g condition there in
+    let of : condition_of g b.item ≡ Some condition =
+    ap (condition_of g) (from ∙ made) ∙ condition_of_process_of g condition there in
     let variable : ℕ = value_variable condition in
     let value : Literal = exactly variable (number_of s variable) in
     let told : LearntFromEnd g tables s node (by n.last) value = record {
@@ -60,13 +64,16 @@ sent_values_are_known g tables f h v w turns node condition a is l m e =
       on = ap (node_of g) from ∙ asked.row.home;
       column = start.column;
       match = asked_match start;
-      then = by_up n.last (start.column.time + duration g b.item (fault_of s b.item)) a.time mine.1 (omega (arith, start.time, over));
-      told = Contains-rest (exactly b.item (number_of s b.item)) (value_fact s (condition_of g b.item)) value (subst (λ o. Contains (value_fact s o) value) (sym of) (Contains-first value []));
+      then = by_up n.last (start.column.time + duration g b.item (fault_of s b.item)) a.time mine.1
+          (omega (arith, start.time, over));
+      told = Contains-rest (exactly b.item (number_of s b.item)) (value_fact s (condition_of g b.item)) value
+          (subst (λ o. Contains (value_fact s o) value) (sym of) (Contains-first value []));
     } in
     let few : variable < 160 = omega (arith, there, f.few_conditions) in
     let around = within_kept k.setting n.heard (Learnt g tables s node (by n.last)) n.keeps learnt_true variable few in
     let low = n.keeps.low_above value (inl told) few in
     let high = n.keeps.high_below value (inl told) few in
     ap (λ (d : Dispatcher). range_of d.heard variable) n.is
-    ∙ same_range (range_of n.heard variable) (number_of s variable) (omega (arith, around, low)) (omega (arith, around, high))
+    ∙ same_range (range_of n.heard variable) (number_of s variable) (omega (arith, around, low))
+    (omega (arith, around, high))
     ∙ ap only (number_of-value s condition ∙ sym (ap (λ i. number_of_value (frame_of_item w i a).value) item))

@@ -1,5 +1,6 @@
 -- The bytes that a node of a play is fed give what is due.
-use Rattle.std.proofs.Common.{◌≡◌, ℕ, ◌+◌, ◌≤◌, Bool, true, false, cond, ◌&&◌, List, [], ◌∷◌, ◌++◌, length, refl, sym, ap, ap₂, ◌∙◌, subst, arith, le-ltb}
+use Rattle.std.proofs.Common.{◌≡◌, ℕ, ◌+◌, ◌≤◌, Bool, true, false, cond, ◌&&◌, List, [], ◌∷◌, ◌++◌, length, refl, sym}
+use Rattle.std.proofs.Common.{ap, ap₂, ◌∙◌, subst, arith, le-ltb}
 use Rattle.std.specs.Prelude.{is_none, Result, Ok, Err}
 use Rattle.std.proofs.lemmas.List.{take_all}
 use Rattle.std.proofs.lemmas.List.Sums.{fold-append}
@@ -17,7 +18,8 @@ use Rattle.cpg_live.specs.declared.following.StreamFault.{StreamFault}
 use Rattle.cpg_live.specs.declared.following.StreamFault.TheVariants.{Long}
 use Rattle.cpg_live.specs.declared.following.TheConstants.{STREAM_LIMIT}
 use Rattle.cpg_live.specs.Stream.{NodeProgress, Step, lawful, start, after, outcome}
-use Rattle.cpg_live.specs.Streams.{act_lines, closed_line, close_of, end_by, end_of, read_part, stream_end, stream_lines}
+use Rattle.cpg_live.specs.Streams.{act_lines, closed_line, close_of, end_by, end_of, read_part, stream_end}
+use Rattle.cpg_live.specs.Streams.{stream_lines}
 use Rattle.cpg_live.specs.Told.{follow_one, follow}
 use Rattle.cpg_live.specs.Spelling.{HasRoom, closed_at, stream_bytes}
 use Rattle.cpg_live.proofs.Spelling.{bytes_spell}
@@ -40,11 +42,14 @@ module _ (table : NodeTable) (bytes : List ℕ) (short : length bytes ≤ STREAM
   read_end : (close : ℕ) → outcome (after table bytes) ≡ Ok close → stream_end table bytes ≡ Ok close
   read_end close e =
       ap (λ bytes. end_of (after table bytes) (length bytes)) whole
-      ∙ ap (λ b. cond (is_none (after table bytes).bad && b) (Err Long) (end_by (outcome (after table bytes)))) (le-ltb STREAM_LIMIT (length bytes) short)
+      ∙ ap (λ b. cond (is_none (after table bytes).bad && b) (Err Long) (end_by (outcome (after table bytes))))
+      (le-ltb STREAM_LIMIT (length bytes) short)
       ∙ not_long (is_none (after table bytes).bad) (end_by (outcome (after table bytes))) ∙ ap end_by e
 
-  read_lines : (h : Head) (close : ℕ) → stream_end table bytes ≡ Ok close → stream_lines h table bytes ≡ act_lines h (after table bytes).progress.acts ++ closed_line close
-  read_lines h close e = ap₂ (λ (bytes : List ℕ) end. act_lines h (after table bytes).progress.acts ++ close_of end) whole e
+  read_lines : (h : Head) (close : ℕ) → stream_end table bytes ≡ Ok close →
+      stream_lines h table bytes ≡ act_lines h (after table bytes).progress.acts ++ closed_line close
+  read_lines h close e =
+      ap₂ (λ (bytes : List ℕ) end. act_lines h (after table bytes).progress.acts ++ close_of end) whole e
 
 pub bytes_give : BytesOfPlaysGiveWhatIsDue
 bytes_give g tables within of f v w turns node close es is l t =
@@ -54,10 +59,13 @@ bytes_give g tables within of f v w turns node close es is l t =
     let told : List (ℕ × Event) = records_in g w (initial_cluster g tables) node turns in
     let fine = (plays_are_followed g tables f h v w turns node is l).none in
     let same : follow (lawful (start table)) es ≡ follow (lawful (start table)) told =
-    events_commute (start table) 0 close told es (records_rise g tables f h v w turns node close is l t.late) t.rise t.those fine in
-    let room = all_of (λ (e : ℕ × Event). HasRoom table e.1) es told t.those (all_fit k within of node l turns (initial_cluster g tables) (reached_open k)) in
+    events_commute (start table) 0 close told es
+    (records_rise g tables f h v w turns node close is l t.late) t.rise t.those fine in
+    let room = all_of (λ (e : ℕ × Event). HasRoom table e.1) es told t.those
+    (all_fit k within of node l turns (initial_cluster g tables) (reached_open k)) in
     let taken = bytes_spell table es close t.small t.rise room (ap (λ (s : Step). s.fault) same ∙ fine) in
-    let closed : follow (lawful (start table)) (closed_at es close) ≡ follow (lawful (start table)) (closed_at told close) =
+    let closed : follow (lawful (start table)) (closed_at es close)
+    ≡ follow (lawful (start table)) (closed_at told close) =
     fold-append follow_one (lawful (start table)) es ((close, Close) ∷ []) ∙ ap (λ s. follow_one s (close, Close)) same
     ∙ sym (fold-append follow_one (lawful (start table)) told ((close, Close) ∷ [])) in
     let due = (streams_give g tables f h v w turns node close is l t.done t.late).acts in
@@ -67,7 +75,9 @@ bytes_give g tables within of f v w turns node close es is l t =
     record {
       ends = ends;
       acts = subst (λ t. IsDue g tables w.scenario node (after t (stream_bytes (closed_at es close))).progress.acts) own
-          (subst (λ (p : NodeProgress). IsDue g tables w.scenario node p.acts) (sym (taken.comes ∙ ap (λ (s : Step). s.progress) closed)) due);
+          (subst (λ (p : NodeProgress). IsDue g tables w.scenario node p.acts)
+          (sym (taken.comes ∙ ap (λ (s : Step). s.progress) closed)) due);
       read = λ short. read_end (table_at tables node) (stream_bytes (closed_at es close)) short close ends;
-      lines = λ h short. read_lines (table_at tables node) (stream_bytes (closed_at es close)) short h close (read_end (table_at tables node) (stream_bytes (closed_at es close)) short close ends);
+      lines = λ h short. read_lines (table_at tables node) (stream_bytes (closed_at es close)) short h close
+          (read_end (table_at tables node) (stream_bytes (closed_at es close)) short close ends);
     }

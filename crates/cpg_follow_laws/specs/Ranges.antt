@@ -17,4 +17,5 @@ NoRangeIsEmpty = (table : NodeTable) (bytes : List ℕ) → All HasNumber (after
 -- If no range is empty, a frame leaves an empty one exactly if it does so at a variable of which it tells.
 abbrev pub FramesContradictWhereTheyTell : Type 0
 FramesContradictWhereTheyTell = (table : OwnTable) (heard : List Range) (f : Frame) → All HasNumber heard →
-    list_any is_contradicted (hear_frame table heard f) ≡ list_any (λ (l : Literal). is_contradicted (range_of (hear_frame table heard f) l.variable)) (frame_literals table f)
+    list_any is_contradicted (hear_frame table heard f) ≡ list_any
+    (λ (l : Literal). is_contradicted (range_of (hear_frame table heard f) l.variable)) (frame_literals table f)

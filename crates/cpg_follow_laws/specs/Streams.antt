@@ -19,27 +19,32 @@ use Rattle.cpg_live.specs.Spelling.{RiseWithin, closed_at, stream_bytes}
 use Rattle.cpg_live.specs.Reorder.{AreThoseOf}
 use Rattle.cpg_follow_laws.specs.Follow.{records_in}
 
--- The records are all those of the node in a play in which it is done. They are in any order that rises in time, up to a close
--- that isn't before its last turn.
-pub record IsToldAll (g : Graph) (tables : List NodeTable) (w : World) (turns : List ℕ) (node close : ℕ) (es : List (ℕ × Event)) : Type 0 where
+-- The records are all those of the node in a play in which it is done. They are in any order that rises in time, up to
+-- a close that isn't before its last turn.
+pub record IsToldAll (g : Graph) (tables : List NodeTable) (w : World) (turns : List ℕ) (node close : ℕ)
+    (es : List (ℕ × Event)) : Type 0 where
   pub those : AreThoseOf es (records_in g w (initial_cluster g tables) node turns)
   pub rise : RiseWithin 0 close es
   pub done : answer g (play g w (initial_cluster g tables) turns) node ≡ Done
   pub late : after_last (dispatcher_at (play g w (initial_cluster g tables) turns) node).last ≤ close + 1
   pub small : close < 2 ^ 64
 
--- A stream is lawful to its close, and the acts of a node on it are those that are due. If it isn't too long to be read, its end as
--- it is read is that close, and its lines are those of the acts and of the close.
-pub record DoesWhatIsDue (g : Graph) (tables : List NodeTable) (w : World) (node close : ℕ) (bytes : List ℕ) : Type 0 where
+-- A stream is lawful to its close, and the acts of a node on it are those that are due. If it isn't too long to be
+-- read, its end as it is read is that close, and its lines are those of the acts and of the close.
+pub record DoesWhatIsDue (g : Graph) (tables : List NodeTable) (w : World) (node close : ℕ)
+    (bytes : List ℕ) : Type 0 where
   pub ends : outcome (after (table_at tables node) bytes) ≡ Ok close
   pub acts : IsDue g tables w.scenario node (after (table_at tables node) bytes).progress.acts
   pub read : length bytes ≤ STREAM_LIMIT → stream_end (table_at tables node) bytes ≡ Ok close
   pub lines : (h : Head) → length bytes ≤ STREAM_LIMIT →
-      stream_lines h (table_at tables node) bytes ≡ act_lines h (after (table_at tables node) bytes).progress.acts ++ closed_line close
+      stream_lines h (table_at tables node) bytes ≡ act_lines h (after (table_at tables node) bytes).progress.acts
+      ++ closed_line close
 
--- This holds for the stream that spells a node's records and a close after them. It does so in each play of valid tables, in
--- every scenario of the graph, and however early executions end.
+-- This holds for the stream that spells a node's records and a close after them. It does so in each play of valid
+-- tables, in every scenario of the graph, and however early executions end.
 abbrev pub BytesOfPlaysGiveWhatIsDue : Type 0
-BytesOfPlaysGiveWhatIsDue = (g : Graph) (tables : List NodeTable) → IsWithinLimits g → AreTablesOf (head_of g) tables → WellFormed g → IsValid g tables →
-    (w : World) (turns : List ℕ) (node close : ℕ) (es : List (ℕ × Event)) → IsWorld g w → node < length g.nodes → IsToldAll g tables w turns node close es →
+BytesOfPlaysGiveWhatIsDue = (g : Graph) (tables : List NodeTable) → IsWithinLimits g → AreTablesOf (head_of g) tables →
+    WellFormed g → IsValid g tables →
+    (w : World) (turns : List ℕ) (node close : ℕ) (es : List (ℕ × Event)) → IsWorld g w → node < length g.nodes →
+    IsToldAll g tables w turns node close es →
     DoesWhatIsDue g tables w node close (stream_bytes (closed_at es close))

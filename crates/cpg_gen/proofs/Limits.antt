@@ -1,5 +1,6 @@
 -- A generated graph is within the limits of a graph file.
-use Rattle.std.proofs.Common.{ℕ, ◌%◌, ◌/◌, ◌^◌, ◌<◌, ◌≤◌, ◌≡◌, ◌≢◌, ◌==◌, inl, inr, Bool, true, false, cond, ◌||◌, List, [], ◌∷◌, length, get_or, drop, map, filter, Some, None, Contains, All}
+use Rattle.std.proofs.Common.{ℕ, ◌%◌, ◌/◌, ◌^◌, ◌<◌, ◌≤◌, ◌≡◌, ◌≢◌, ◌==◌, inl, inr, Bool, true, false, cond, ◌||◌, List}
+use Rattle.std.proofs.Common.{[], ◌∷◌, length, get_or, drop, map, filter, Some, None, Contains, All}
 use Rattle.std.proofs.Common.{AllPairs, is_some, refl, sym, ap, ◌∙◌, subst, arith, rules, true≢false, eq-eqb}
 use Rattle.std.proofs.Math.Nat.{mod-lt}
 use Rattle.std.proofs.lemmas.Fmt.{decimal_injective}
@@ -10,29 +11,36 @@ use Rattle.cpg_base.specs.Numbers.{numbers_below}
 use Rattle.cpg_base.specs.declared.process.Process.{Process}
 use Rattle.cpg_base.specs.declared.process.Edge.{Edge}
 use Rattle.cpg_base.specs.declared.process.Slot.{Slot}
-use Rattle.cpg_base.specs.Graph.{Graph, process_count, edge_count, condition_count, is_disjunction, outputs, source, edge_at, target, home, producer}
+use Rattle.cpg_base.specs.Graph.{Graph, process_count, edge_count, condition_count, is_disjunction, outputs, source}
+use Rattle.cpg_base.specs.Graph.{edge_at, target, home, producer}
 use Rattle.cpg_base.specs.Limits.{IsWithinLimits, IsProcessWithin, IsSlotWithin, IsEdgeWithin}
 use Rattle.cpg_base.specs.WellFormed.{HasSenderSlots, WellFormed}
-use Rattle.cpg_base.proofs.Lists.{get_or-map-below, numbers-Contains, Contains-numbers, Contains-flat_map_parts, Contains-cases, Contains-nil, Contains-map, list_any_true, list_any_parts}
+use Rattle.cpg_base.proofs.Lists.{get_or-map-below, numbers-Contains, Contains-numbers, Contains-flat_map_parts}
+use Rattle.cpg_base.proofs.Lists.{Contains-cases, Contains-nil, Contains-map, list_any_true, list_any_parts}
 use Rattle.cpg_base.proofs.Inputs.{outputs_parts}
 use Rattle.cpg_base.proofs.Items.{producer_from_sources}
 use Rattle.cpg_base.proofs.Sums.{length-filter-le, same_sum_by}
 use Rattle.cpg_base.proofs.Within.{well_formed}
 use Rattle.cpg_gen.specs.Draws.{nth_draw, number_after}
-use Rattle.cpg_gen.specs.Generated.{generated, generated_process, generated_edges, process_from, edges_by, edge_of, when_of, predecessor_by, numbered, node_name, slot_of, number_before}
+use Rattle.cpg_gen.specs.Generated.{generated, generated_process, generated_edges, process_from, edges_by, edge_of}
+use Rattle.cpg_gen.specs.Generated.{when_of, predecessor_by, numbered, node_name, slot_of, number_before}
 
 -- a list by number
 length-by : {X : Type 0} (f : ℕ → X) (n : ℕ) → length (map f (numbers_below n)) ≡ n
 length-by f n = length-map-range_with_len f 0 n
 
-all_by : {X : Type 0} (P : X → Type 0) (f : ℕ → X) (n : ℕ) → ((i : ℕ) → i < n → P (f i)) → All P (map f (numbers_below n))
-all_by P f n h = λ i d l. let within : i < n = omega (arith, length-by f n) in subst P (sym (get_or-map-below f n i d within)) (h i within)
+all_by : {X : Type 0} (P : X → Type 0) (f : ℕ → X) (n : ℕ) → ((i : ℕ) → i < n → P (f i)) →
+    All P (map f (numbers_below n))
+all_by P f n h = λ i d l. let within : i < n = omega (arith, length-by f n) in
+    subst P (sym (get_or-map-below f n i d within)) (h i within)
 
-pairs_by : {X : Type 0} (R : X → X → Type 0) (f : ℕ → X) (n : ℕ) → ((i j : ℕ) → i < j → j < n → R (f i) (f j)) → AllPairs R (map f (numbers_below n))
+pairs_by : {X : Type 0} (R : X → X → Type 0) (f : ℕ → X) (n : ℕ) → ((i j : ℕ) → i < j → j < n → R (f i) (f j)) →
+    AllPairs R (map f (numbers_below n))
 pairs_by R f n h = λ i j d l m.
     let within : j < n = omega (arith, length-by f n) in
     let first : i < n = omega arith in
-    subst (λ x. R x (get_or (map f (numbers_below n)) j d)) (sym (get_or-map-below f n i d first)) (subst (R (f i)) (sym (get_or-map-below f n j d within)) (h i j l within))
+    subst (λ x. R x (get_or (map f (numbers_below n)) j d)) (sym (get_or-map-below f n i d first))
+    (subst (R (f i)) (sym (get_or-map-below f n j d within)) (h i j l within))
 
 -- one letter and two numbers give two names
 numbered_differ : (b : ℕ) (i j : ℕ) → i < j → j < 60 → numbered (b ∷ []) i ≢ numbered (b ∷ []) j
@@ -56,7 +64,8 @@ process_within x i = record {
 }
 
 slot_within : (i : ℕ) → i < 4 → IsSlotWithin 4 (slot_of i)
-slot_within i l = record { node = l; lasts = omega arith; length = omega arith; holds = omega arith; bytes = omega arith }
+slot_within i l =
+    record { node = l; lasts = omega arith; length = omega arith; holds = omega arith; bytes = omega arith }
 
 -- a frozen edge of one byte from an earlier process, conditional only at two
 pub record IsGeneratedEdge (e : Edge) : Type 0 where
@@ -80,19 +89,30 @@ edges_are x i l e k = go (i == 0) refl (i == 40) refl k
     of_join value = record { rises = omega arith; within = omega arith; size = refl; frozen = refl; chosen = λ _. refl }
 
     of_drawn : i ≢ 0 → IsGeneratedEdge (edge_of (predecessor_by x i) i (when_of (predecessor_by x i) i))
-    of_drawn some = record { rises = predecessor-lt x i some; within = l; size = refl; frozen = refl; chosen = when_chosen ((predecessor_by x i == 10) || (predecessor_by x i == 20)) (i % 2 == 1) }
+    of_drawn some = record {
+      rises = predecessor-lt x i some;
+      within = l;
+      size = refl;
+      frozen = refl;
+      chosen = when_chosen ((predecessor_by x i == 10) || (predecessor_by x i == 20)) (i % 2 == 1);
+    }
 
     go : (root : Bool) → (i == 0) ≡ root → (join : Bool) → (i == 40) ≡ join →
-        Contains (cond root [] (cond join (edge_of 10 40 (Some true) ∷ edge_of 10 40 (Some false) ∷ []) (edge_of (predecessor_by x i) i (when_of (predecessor_by x i) i) ∷ []))) e → IsGeneratedEdge e
+        Contains (cond root [] (cond join (edge_of 10 40 (Some true) ∷ edge_of 10 40 (Some false) ∷ [])
+        (edge_of (predecessor_by x i) i (when_of (predecessor_by x i) i) ∷ []))) e → IsGeneratedEdge e
     go true r join j k = absurd (Contains-nil e k)
     go false r true j k = elim (Contains-cases (edge_of 10 40 (Some true)) (edge_of 10 40 (Some false) ∷ []) e k) [
       | inl s ↦ subst IsGeneratedEdge s (of_join true)
-      | inr m ↦ elim (Contains-cases (edge_of 10 40 (Some false)) [] e m) [ inl s ↦ subst IsGeneratedEdge s (of_join false) | inr n ↦ absurd (Contains-nil e n) ]
+      | inr m ↦ elim (Contains-cases (edge_of 10 40 (Some false)) [] e m) [
+        | inl s ↦ subst IsGeneratedEdge s (of_join false)
+        | inr n ↦ absurd (Contains-nil e n)
+      ]
     ]
-    go false r false j k = elim (Contains-cases (edge_of (predecessor_by x i) i (when_of (predecessor_by x i) i)) [] e k) [
-      | inl s ↦ subst IsGeneratedEdge s (of_drawn (λ z. true≢false (sym (eq-eqb i 0 z) ∙ r)))
-      | inr m ↦ absurd (Contains-nil e m)
-    ]
+    go false r false j k =
+        elim (Contains-cases (edge_of (predecessor_by x i) i (when_of (predecessor_by x i) i)) [] e k) [
+          | inl s ↦ subst IsGeneratedEdge s (of_drawn (λ z. true≢false (sym (eq-eqb i 0 z) ∙ r)))
+          | inr m ↦ absurd (Contains-nil e m)
+        ]
 
 -- how many edges lead to a process
 abbrev inputs_of : ℕ → ℕ
@@ -101,7 +121,9 @@ inputs_of i = cond (i == 0) 0 (cond (i == 40) 2 1)
 edges_long : (x i : ℕ) → length (edges_by x i) ≡ inputs_of i
 edges_long x i = go (i == 0) (i == 40)
   where
-    go : (root join : Bool) → length (cond root [] (cond join (edge_of 10 40 (Some true) ∷ edge_of 10 40 (Some false) ∷ []) (edge_of (predecessor_by x i) i (when_of (predecessor_by x i) i) ∷ []))) ≡
+    go : (root join : Bool) →
+        length (cond root [] (cond join (edge_of 10 40 (Some true) ∷ edge_of 10 40 (Some false) ∷ [])
+        (edge_of (predecessor_by x i) i (when_of (predecessor_by x i) i) ∷ []))) ≡
         cond root 0 (cond join 2 1)
     go true join = refl
     go false true = refl
@@ -119,12 +141,14 @@ module _ (number : ℕ) where
   pub edge_there : (e : ℕ) → e < edge_count (generated number) → IsGeneratedEdge (edge_at (generated number) e)
   edge_there e l = generated_edge (edge_at (generated number) e) (Contains-get_or (generated number).edges e _ l)
 
-  pub edges_rise : (e : ℕ) → e < edge_count (generated number) → source (generated number) e < target (generated number) e
+  pub edges_rise : (e : ℕ) → e < edge_count (generated number) →
+      source (generated number) e < target (generated number) e
   edges_rise e l = (edge_there e l).rises
 
   pub edges_count : edge_count (generated number) ≡ 60
   edges_count = length-flat_map (generated_edges number) (numbers_below 60)
-      ∙ same_sum_by (λ i. length (generated_edges number i)) inputs_of (numbers_below 60) (λ i k. edges_long (number_after (number_before number i) 6) i)
+      ∙ same_sum_by (λ i. length (generated_edges number i)) inputs_of (numbers_below 60)
+      (λ i k. edges_long (number_after (number_before number i) 6) i)
 
   -- at most the two processes whose edges are conditional have a condition
   abbrev is_choice : ℕ → Bool
@@ -138,8 +162,10 @@ module _ (number : ℕ) where
 
   pub few_conditions : condition_count (generated number) ≤ 2
   few_conditions =
-      let fewer = length-filter-le (is_disjunction (generated number)) is_choice (numbers_below (process_count (generated number))) chooses in
-      let both : length (filter is_choice (numbers_below (process_count (generated number)))) ≡ 2 = ap (λ n. length (filter is_choice (numbers_below n))) processes_count in
+      let fewer = length-filter-le (is_disjunction (generated number)) is_choice
+      (numbers_below (process_count (generated number))) chooses in
+      let both : length (filter is_choice (numbers_below (process_count (generated number)))) ≡ 2 =
+      ap (λ n. length (filter is_choice (numbers_below n))) processes_count in
       omega (arith, fewer, both)
 
   edge_within : (e : Edge) → IsGeneratedEdge e → IsEdgeWithin (process_count (generated number)) e
@@ -160,11 +186,14 @@ module _ (number : ℕ) where
     few_edges = omega (arith, edges_count);
     few_conditions = omega (arith, few_conditions);
     slots = all_by (IsSlotWithin 4) slot_of 4 slot_within;
-    processes = all_by (IsProcessWithin 4) (generated_process number) 60 (λ i l. process_within (number_before number i) i);
-    edges = All-weaker (Contains (generated number).edges) (IsEdgeWithin (process_count (generated number))) (λ e k. edge_within e (generated_edge e k)) (generated number).edges
+    processes =
+        all_by (IsProcessWithin 4) (generated_process number) 60 (λ i l. process_within (number_before number i) i);
+    edges = All-weaker (Contains (generated number).edges) (IsEdgeWithin (process_count (generated number)))
+        (λ e k. edge_within e (generated_edge e k)) (generated number).edges
         (All-contains_itself (generated number).edges);
     node_names = pairs_by (λ a b. a ≢ b) node_name 4 (λ i j l m. numbered_differ 78 i j l (omega arith));
-    process_names = pairs_by (λ p q. p.name ≢ q.name) (generated_process number) 60 (λ i j l m. numbered_differ 112 i j l m);
+    process_names =
+        pairs_by (λ p q. p.name ≢ q.name) (generated_process number) 60 (λ i j l m. numbered_differ 112 i j l m);
     own_slots = pairs_by (λ s t. s.node ≢ t.node) slot_of 4 (λ i j l m e. absurd (omega (arith, e)));
     order = tt;
   }
@@ -172,22 +201,43 @@ module _ (number : ℕ) where
   pub senders_have_slots : HasSenderSlots (generated number)
   senders_have_slots x l _ =
       let made = producer_from_sources (generated number) (λ e h. (within_limits.edges e _ h).from) x l in
-      let node : home (generated number) x < 4 = (within_limits.processes (producer (generated number) x) _ made).node in
-      list_any_true (λ (s : Slot). s.node == home (generated number) x) (generated number).slots (slot_of (home (generated number) x))
-      (Contains-map slot_of (numbers_below 4) (home (generated number) x) (Contains-numbers 4 (home (generated number) x) node))
+      let node : home (generated number) x < 4 =
+      (within_limits.processes (producer (generated number) x) _ made).node in
+      list_any_true (λ (s : Slot). s.node == home (generated number) x) (generated number).slots
+      (slot_of (home (generated number) x))
+      (Contains-map slot_of (numbers_below 4) (home (generated number) x)
+      (Contains-numbers 4 (home (generated number) x) node))
       (eq-eqb (home (generated number) x) (home (generated number) x) refl)
 
   pub generated_well_formed : WellFormed (generated number)
   generated_well_formed = well_formed (generated number) within_limits senders_have_slots
 
 abbrev pub graph_of : List (List ℕ) → List Slot → List Process → List Edge → Graph
-graph_of nodes slots processes edges = record { faults = 2; deadline = 1000000000; nodes = nodes; slots = slots; processes = processes; edges = edges; order = None }
+graph_of nodes slots processes edges = record {
+  faults = 2;
+  deadline = 1000000000;
+  nodes = nodes;
+  slots = slots;
+  processes = processes;
+  edges = edges;
+  order = None;
+}
 
 -- the parts of a generated graph, put together, are within the limits
-pub parts_within : (number : ℕ) (nodes : List (List ℕ)) (slots : List Slot) (processes : List Process) (edges : List Edge) →
-    nodes ≡ (generated number).nodes → slots ≡ (generated number).slots → processes ≡ (generated number).processes → edges ≡ (generated number).edges →
+pub parts_within : (number : ℕ) (nodes : List (List ℕ)) (slots : List Slot) (processes : List Process)
+    (edges : List Edge) →
+    nodes ≡ (generated number).nodes → slots ≡ (generated number).slots → processes ≡ (generated number).processes →
+    edges ≡ (generated number).edges →
     IsWithinLimits (graph_of nodes slots processes edges)
 parts_within number nodes slots processes edges n s p e =
     let same : graph_of nodes slots processes edges ≡ generated number =
-    λ i. record { faults = 2; deadline = 1000000000; nodes = n i; slots = s i; processes = p i; edges = e i; order = None } in
+    λ i. record {
+      faults = 2;
+      deadline = 1000000000;
+      nodes = n i;
+      slots = s i;
+      processes = p i;
+      edges = e i;
+      order = None;
+    } in
     subst IsWithinLimits (sym same) (within_limits number)

@@ -1,5 +1,6 @@
 -- From one process to the next.
-use Rattle.std.proofs.Common.{ℕ, ◌+◌, ◌≡◌, Bool, true, false, cond, List, [], ◌∷◌, ◌++◌, refl, sym, ap, ◌∙◌, arith, append-nil}
+use Rattle.std.proofs.Common.{ℕ, ◌+◌, ◌≡◌, Bool, true, false, cond, List, [], ◌∷◌, ◌++◌, refl, sym, ap, ◌∙◌, arith}
+use Rattle.std.proofs.Common.{append-nil}
 use Rattle.std.specs.List.{flat_map, sum_by}
 use Rattle.std.proofs.lemmas.Grind.{flat_map-append}
 use Rattle.std.proofs.lemmas.List.Sums.{sum_by_push}
@@ -12,20 +13,26 @@ use Rattle.cpg_gen.proofs.Advancing.{number_after-add, number_after-suc}
 
 draws_before_push : (i : ℕ) → draws_of i + draws_before i ≡ draws_before (i + 1)
 draws_before_push i =
-    let pushed : draws_before (i + 1) ≡ draws_before i + draws_of i = ap (sum_by draws_of) (below_push i) ∙ sum_by_push draws_of (numbers_below i) i in
+    let pushed : draws_before (i + 1) ≡ draws_before i + draws_of i =
+    ap (sum_by draws_of) (below_push i) ∙ sum_by_push draws_of (numbers_below i) i in
     omega (arith, pushed)
 
 number_before_next : (number i : ℕ) → number_after (number_before number i) (draws_of i) ≡ number_before number (i + 1)
-number_before_next number i = number_after-add number (draws_before i) (draws_of i) ∙ ap (number_after number) (draws_before_push i)
+number_before_next number i =
+    number_after-add number (draws_before i) (draws_of i) ∙ ap (number_after number) (draws_before_push i)
 
 -- after the costs, a draw more if there is a predecessor
 sixth : (b : Bool) (x : ℕ) → cond b (next_number (number_after x 5)) (number_after x 5) ≡ number_after x (cond b 6 5)
 sixth true x = sym (number_after-suc x 5)
 sixth false x = refl
 
-pub number_before_after : (number i : ℕ) → cond (has_predecessor i) (next_number (number_after (number_before number i) 5)) (number_after (number_before number i) 5) ≡ number_before number (i + 1)
+pub number_before_after : (number i : ℕ) →
+    cond (has_predecessor i) (next_number (number_after (number_before number i) 5))
+    (number_after (number_before number i) 5) ≡ number_before number (i + 1)
 number_before_after number i = sixth (has_predecessor i) (number_before number i) ∙ number_before_next number i
 
 -- the parts of one number more
-pub flat_map_below_push : {X : Type 0} (f : ℕ → List X) (n : ℕ) → flat_map f (numbers_below n) ++ f n ≡ flat_map f (numbers_below (n + 1))
-flat_map_below_push f n = sym (ap (flat_map f) (below_push n) ∙ flat_map-append f (numbers_below n) (n ∷ []) ∙ ap (λ ys. flat_map f (numbers_below n) ++ ys) (append-nil (f n)))
+pub flat_map_below_push : {X : Type 0} (f : ℕ → List X) (n : ℕ) →
+    flat_map f (numbers_below n) ++ f n ≡ flat_map f (numbers_below (n + 1))
+flat_map_below_push f n = sym (ap (flat_map f) (below_push n) ∙ flat_map-append f (numbers_below n) (n ∷ [])
+    ∙ ap (λ ys. flat_map f (numbers_below n) ++ ys) (append-nil (f n)))

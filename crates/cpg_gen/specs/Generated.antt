@@ -1,5 +1,6 @@
 -- The graph that a number generates. Each part comes from draws of its own.
-use Rattle.std.specs.Prelude.{ℕ, ◌+◌, ◌-◌, ◌%◌, min, Bool, true, false, not, ◌&&◌, ◌||◌, ◌==◌, if◌then◌else◌, List, [], ◌∷◌, ◌++◌, Option, Some, None, map, sum_by, codes}
+use Rattle.std.specs.Prelude.{ℕ, ◌+◌, ◌-◌, ◌%◌, min, Bool, true, false, not, ◌&&◌, ◌||◌, ◌==◌, if◌then◌else◌, List, []}
+use Rattle.std.specs.Prelude.{◌∷◌, ◌++◌, Option, Some, None, map, sum_by, codes}
 use Rattle.std.specs.List.{flat_map}
 use Rattle.std.specs.Fmt.{decimal}
 use Rattle.cpg_base.specs.Numbers.{numbers_below}
@@ -59,7 +60,8 @@ process_from x i = record {
 abbrev pub predecessor_by : ℕ → ℕ → ℕ
 predecessor_by x i = i - 1 - draw_of x (min i 6)
 
--- Two processes have a condition: targets with an odd number run if it is true, those with an even number if it is false.
+-- Two processes have a condition: targets with an odd number run if it is true, those with an even number if it is
+-- false.
 abbrev pub when_of : ℕ → ℕ → Option Bool
 when_of source target = if (source == 10) || (source == 20) then Some (target % 2 == 1) else None
 

@@ -19,7 +19,8 @@ GeneratedHaveSenderSlots = (number : ℕ) → HasSenderSlots (generated number)
 
 -- each edge leads to a process of a greater number
 abbrev pub GeneratedEdgesRise : Type 0
-GeneratedEdgesRise = (number e : ℕ) → e < edge_count (generated number) → source (generated number) e < target (generated number) e
+GeneratedEdgesRise =
+    (number e : ℕ) → e < edge_count (generated number) → source (generated number) e < target (generated number) e
 
 -- there are at most two conditions
 abbrev pub GeneratedHaveFewConditions : Type 0

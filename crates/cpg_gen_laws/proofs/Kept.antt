@@ -1,5 +1,6 @@
 -- Generated graphs keep the rules of admission.
-use Rattle.std.proofs.Common.{ℕ, ◌^◌, zero, suc, ◌-◌, ◌<◌, ◌≤◌, ◌≡◌, ◌==◌, Bool, true, false, cond, not, ◌&&◌, List, [], ◌∷◌, length, get_or, filter, map, Some, refl, sym, ap, ap₂, ◌∙◌, subst, arith}
+use Rattle.std.proofs.Common.{ℕ, ◌^◌, zero, suc, ◌-◌, ◌<◌, ◌≤◌, ◌≡◌, ◌==◌, Bool, true, false, cond, not, ◌&&◌, List, []}
+use Rattle.std.proofs.Common.{◌∷◌, length, get_or, filter, map, Some, refl, sym, ap, ap₂, ◌∙◌, subst, arith}
 use Rattle.std.proofs.Common.{eqb-true, eq-eqb, ltb-true, le-ltb}
 use Rattle.std.specs.Prelude.{nat_lt}
 use Rattle.std.proofs.lemmas.Bool.{and_parts, and_right, both_ways}
@@ -8,17 +9,20 @@ use Rattle.cpg_base.specs.declared.process.Process.{Process}
 use Rattle.cpg_base.specs.declared.process.Edge.{Edge}
 use Rattle.cpg_base.specs.declared.process.Slot.{Slot}
 use Rattle.cpg_base.specs.Numbers.{numbers_below}
-use Rattle.cpg_base.specs.Graph.{process_count, condition_count, process_at, edge_at, node_of, source, inputs, is_message}
+use Rattle.cpg_base.specs.Graph.{process_count, condition_count, process_at, edge_at, node_of, source, inputs}
+use Rattle.cpg_base.specs.Graph.{is_message}
 use Rattle.cpg_base.specs.Activity.{active, live, takes, value_of}
 use Rattle.cpg_base.specs.WellFormed.{HasSingleJoins}
-use Rattle.cpg_base.proofs.Lists.{get_or-map-below, Contains-map, Contains-numbers, from_all, list_any_true, list_any_parts}
+use Rattle.cpg_base.proofs.Lists.{get_or-map-below, Contains-map, Contains-numbers, from_all, list_any_true}
+use Rattle.cpg_base.proofs.Lists.{list_any_parts}
 use Rattle.std.proofs.lemmas.List.Sums.{length-filter, count_by-le-length}
 use Rattle.cpg_order.proofs.ScenariosApart.{length-outcomes}
 use Rattle.cpg_order.specs.Cycle.{HasCycle, has_edge}
 use Rattle.cpg_order.specs.Deciding.{outcomes}
 use Rattle.cpg_order.specs.Track.{is_track, track_count}
 use Rattle.cpg_rules.specs.declared.admission.RuleFault.{RuleFault}
-use Rattle.cpg_rules.specs.declared.admission.RuleFault.TheVariants.{Cycle, TooManyTracks, TwoAlternatives, NoSlot, TooBig, BadOrder, OutOfMemory}
+use Rattle.cpg_rules.specs.declared.admission.RuleFault.TheVariants.{Cycle, TooManyTracks, TwoAlternatives, NoSlot}
+use Rattle.cpg_rules.specs.declared.admission.RuleFault.TheVariants.{TooBig, BadOrder, OutOfMemory}
 use Rattle.cpg_rules.specs.Rules.{is_sender, has_slot, bytes_in, slot_bytes, is_too_big, AllFit}
 use Rattle.cpg_rules.specs.Faults.{ShowsFault}
 use Rattle.cpg_gen.specs.Generated.{generated, generated_process, edge_of, slot_of}
@@ -96,10 +100,12 @@ module _ (number : ℕ) where
     abbrev live_by : Edge → Bool
     live_by e = active (generated number) values e.from && takes e.when (value_of (generated number) values e.from)
 
-    first_live : live (generated number) values 39 ≡ (active (generated number) values 10 && value_of (generated number) values 10)
+    first_live : live (generated number) values 39
+        ≡ (active (generated number) values 10 && value_of (generated number) values 10)
     first_live = ap live_by first_edge
 
-    second_live : live (generated number) values 40 ≡ (active (generated number) values 10 && not (value_of (generated number) values 10))
+    second_live : live (generated number) values 40
+        ≡ (active (generated number) values 10 && not (value_of (generated number) values 10))
     second_live = ap live_by second_edge
 
     join_single : length (filter (live (generated number) values) (inputs (generated number) 40)) ≤ 1
@@ -115,25 +121,31 @@ module _ (number : ℕ) where
       eqb-true p 40 (ap (λ (q : Process). q.join) (sym (get_or-map-below (generated_process number) 60 p _ within)) ∙ t)
 
   pub single_joins : HasSingleJoins (generated number)
-  single_joins p values l join long = subst (λ q. length (filter (live (generated number) values) (inputs (generated number) q)) ≤ 1) (sym (join_is p l join)) (join_single values)
+  single_joins p values l join long =
+      subst (λ q. length (filter (live (generated number) values) (inputs (generated number) q)) ≤ 1)
+      (sym (join_is p l join)) (join_single values)
 
   -- ---- slots
 
   slot_there : (node : ℕ) → node < 4 → has_slot (generated number) node ≡ true
-  slot_there node l = list_any_true (λ (s : Slot). s.node == node) (generated number).slots (slot_of node) (Contains-map slot_of (numbers_below 4) node (Contains-numbers 4 node l))
+  slot_there node l = list_any_true (λ (s : Slot). s.node == node) (generated number).slots (slot_of node)
+      (Contains-map slot_of (numbers_below 4) node (Contains-numbers 4 node l))
       (eq-eqb node node refl)
 
   slot_holds : (node : ℕ) → node < 4 → bytes_in (map slot_of (numbers_below 4)) node ≡ 8
   slot_holds node l = eqb-true (bytes_in (map slot_of (numbers_below 4)) node) 8
-      (from_all (λ n. bytes_in (map slot_of (numbers_below 4)) n == 8) (numbers_below 4) node refl (Contains-numbers 4 node l))
+      (from_all (λ n. bytes_in (map slot_of (numbers_below 4)) n == 8) (numbers_below 4) node refl
+      (Contains-numbers 4 node l))
 
   pub all_fit : AllFit (generated number)
   all_fit e l =
       let from = (within_limits number).edges e _ l in
       let node = ((within_limits number).processes (source (generated number) e) _ from.from).node in
       let holds = slot_holds (node_of (generated number) (source (generated number) e)) node in
-      and_right (is_message (generated number) e) (nat_lt (slot_bytes (generated number) (node_of (generated number) (source (generated number) e))) (edge_at (generated number) e).size)
-      (ap (λ n. nat_lt n (edge_at (generated number) e).size) holds ∙ not_above (edge_at (generated number) e).size (edge_there number e l).size)
+      and_right (is_message (generated number) e) (nat_lt (slot_bytes (generated number)
+      (node_of (generated number) (source (generated number) e))) (edge_at (generated number) e).size)
+      (ap (λ n. nat_lt n (edge_at (generated number) e).size) holds
+      ∙ not_above (edge_at (generated number) e).size (edge_there number e l).size)
 
   -- ---- no fault
 
@@ -145,10 +157,13 @@ module _ (number : ℕ) where
   no_fault TooManyTracks shows = absurd (let l = few_tracks in let m = shows.2 in omega (arith, l, m))
   no_fault (TwoAlternatives p s) shows =
       let a = shows.2 in
-      absurd (two_live (length (filter (live (generated number) s.values) (inputs (generated number) p))) (single_joins p s.values a.within a.join a.least.lawful.values) a.least.holds)
+      absurd (two_live (length (filter (live (generated number) s.values) (inputs (generated number) p)))
+      (single_joins p s.values a.within a.join a.least.lawful.values) a.least.holds)
   no_fault (NoSlot node) shows =
       let lacks = shows.2 in
-      absurd (not_both (has_slot (generated number) node) (slot_there node lacks.within) (and_parts (is_sender (generated number) node) (not (has_slot (generated number) node)) lacks.lacks).1)
-  no_fault (TooBig e) shows = absurd (both_ways (is_too_big (generated number) e) (all_fit e shows.2.within) shows.2.above)
+      absurd (not_both (has_slot (generated number) node) (slot_there node lacks.within)
+      (and_parts (is_sender (generated number) node) (not (has_slot (generated number) node)) lacks.lacks).1)
+  no_fault (TooBig e) shows =
+      absurd (both_ways (is_too_big (generated number) e) (all_fit e shows.2.within) shows.2.above)
   no_fault (BadOrder p) shows = absurd (none-some shows.2.order shows.2.given)
   no_fault OutOfMemory shows = refl

@@ -1,5 +1,6 @@
 -- In generated graphs nothing is too wide.
-use Rattle.std.proofs.Common.{ℕ, zero, suc, ◌+◌, ◌-◌, ◌*◌, ◌^◌, ◌<◌, ◌≤◌, ◌≡◌, ◌==◌, inl, inr, Bool, true, false, cond, ◌&&◌, ◌||◌, List, [], ◌++◌, length, filter, map, sum_by, is_some}
+use Rattle.std.proofs.Common.{ℕ, zero, suc, ◌+◌, ◌-◌, ◌*◌, ◌^◌, ◌<◌, ◌≤◌, ◌≡◌, ◌==◌, inl, inr, Bool, true, false, cond}
+use Rattle.std.proofs.Common.{◌&&◌, ◌||◌, List, [], ◌++◌, length, filter, map, sum_by, is_some}
 use Rattle.std.proofs.Common.{option_to_list, Contains, refl, sym, ap, ap₂, ◌∙◌, subst, arith, ne_eqb, ⊎_elim}
 use Rattle.std.specs.Prelude.{nat_lt}
 use Rattle.std.specs.List.{flat_map}
@@ -7,17 +8,20 @@ use Rattle.std.proofs.lemmas.Bool.{and_from, and_right, both_ways, lt-ltb, le-lt
 use Rattle.std.proofs.lemmas.List.Elements.{Contains-append_cases}
 use Rattle.std.proofs.lemmas.List.Sums.{sum_by_push, length-filter}
 use Rattle.cpg_base.specs.Numbers.{numbers_below}
-use Rattle.cpg_base.specs.Graph.{process_count, edge_count, condition_count, item_count, edge_at, message_item, item_at, source, producer, is_message, is_frozen, is_frozen_item, condition_of}
+use Rattle.cpg_base.specs.Graph.{process_count, edge_count, condition_count, item_count, edge_at, message_item, item_at}
+use Rattle.cpg_base.specs.Graph.{source, producer, is_message, is_frozen, is_frozen_item, condition_of}
 use Rattle.cpg_base.specs.Graph.{value_variable}
 use Rattle.cpg_base.specs.Activity.{active}
 use Rattle.cpg_base.specs.declared.item.Item.TheVariants.{Message}
-use Rattle.cpg_base.proofs.Lists.{Contains-nil, Contains-map_parts, list_any_false, numbers-Contains, filter_none, below_push}
+use Rattle.cpg_base.proofs.Lists.{Contains-nil, Contains-map_parts, list_any_false, numbers-Contains, filter_none}
+use Rattle.cpg_base.proofs.Lists.{below_push}
 use Rattle.cpg_base.proofs.Sums.{same_sum_by, sum_by_constant, sum_by-le_each}
 use Rattle.cpg_base.proofs.Items.{item_cases, item_at-message}
 use Rattle.cpg_order.specs.Deciding.{outcomes, conditions_of}
 use Rattle.cpg_order.specs.Scenario.{scenarios}
 use Rattle.cpg_order.specs.Counting.{ways, is_quiet, is_count_free, free_counts, views_of_outcome}
-use Rattle.cpg_order.specs.Reach.{Reach, IsReach, is_in, reach_of, reach_by_item, send_reach, source_value, sent_value, end_reach, views, load, rows_of_item, is_too_wide, most_views, most_loads}
+use Rattle.cpg_order.specs.Reach.{Reach, IsReach, is_in, reach_of, reach_by_item, send_reach, source_value, sent_value}
+use Rattle.cpg_order.specs.Reach.{end_reach, views, load, rows_of_item, is_too_wide, most_views, most_loads}
 use Rattle.cpg_order.specs.Queue.{queued_before}
 use Rattle.cpg_order.proofs.Ways.{ways_of_none, ways_to_none, ways_times}
 use Rattle.cpg_order.proofs.Views.{views-sum}
@@ -53,7 +57,8 @@ values_values : (cs : List ℕ) → AreValues (map value_variable cs)
 values_values cs v k = let r = Contains-map_parts value_variable cs v k in omega (arith, r.2)
 
 append_values : (xs ys : List ℕ) → AreValues xs → AreValues ys → AreValues (xs ++ ys)
-append_values xs ys h k v c = ⊎_elim (λ (a : Contains xs v). h v a) (λ (a : Contains ys v). k v a) (Contains-append_cases xs ys v c)
+append_values xs ys h k v c =
+    ⊎_elim (λ (a : Contains xs v). h v a) (λ (a : Contains ys v). k v a) (Contains-append_cases xs ys v c)
 
 either_values : (b : Bool) (xs ys : List ℕ) → AreValues xs → AreValues ys → AreValues (cond b xs ys)
 either_values true xs ys h k = h
@@ -64,14 +69,17 @@ first_values true xs ys e h = h
 first_values false xs ys e h = absurd (both_ways false refl e)
 
 no_count : (vs : List ℕ) → AreValues vs → (p : ℕ) → p < 128 → is_in vs p ≡ false
-no_count vs h p l = list_any_false (λ u. u == p) vs (λ u k. ne_eqb u p (λ e. let high = h u k in omega (arith, high, e, l)))
+no_count vs h p l =
+    list_any_false (λ u. u == p) vs (λ u k. ne_eqb u p (λ e. let high = h u k in omega (arith, high, e, l)))
 
 -- ---- sums
 
 sums_grow : (f : ℕ → ℕ) (n m : ℕ) → sum_by f (numbers_below n) ≤ sum_by f (numbers_below (n + m))
-sums_grow f n zero = let e : n + 0 ≡ n = omega arith in subst (λ k. sum_by f (numbers_below n) ≤ sum_by f (numbers_below k)) (sym e) (omega arith)
+sums_grow f n zero = let e : n + 0 ≡ n = omega arith in
+    subst (λ k. sum_by f (numbers_below n) ≤ sum_by f (numbers_below k)) (sym e) (omega arith)
 sums_grow f n (suc m) =
-    let pushed : sum_by f (numbers_below (n + m + 1)) ≡ sum_by f (numbers_below (n + m)) + f (n + m) = ap (sum_by f) (below_push (n + m)) ∙ sum_by_push f (numbers_below (n + m)) (n + m) in
+    let pushed : sum_by f (numbers_below (n + m + 1)) ≡ sum_by f (numbers_below (n + m)) + f (n + m) =
+    ap (sum_by f) (below_push (n + m)) ∙ sum_by_push f (numbers_below (n + m)) (n + m) in
     let ih = sums_grow f n m in
     let e : n + suc m ≡ n + m + 1 = omega arith in
     subst (λ k. sum_by f (numbers_below n) ≤ sum_by f (numbers_below k)) (sym e) (omega (arith, pushed, ih))
@@ -84,10 +92,12 @@ bound_of_start : (x : ℕ) → x < 60 → bound x ≡ 7564
 bound_of_start x l = cond-true (nat_lt x 60) 7564 (cond (nat_lt x 120) 8 30256) (lt-ltb x 60 l)
 
 bound_of_message : (x : ℕ) → 60 ≤ x → x < 120 → bound x ≡ 8
-bound_of_message x l h = cond-false (nat_lt x 60) 7564 (cond (nat_lt x 120) 8 30256) (le-ltb x 60 l) ∙ cond-true (nat_lt x 120) 8 30256 (lt-ltb x 120 h)
+bound_of_message x l h = cond-false (nat_lt x 60) 7564 (cond (nat_lt x 120) 8 30256) (le-ltb x 60 l)
+    ∙ cond-true (nat_lt x 120) 8 30256 (lt-ltb x 120 h)
 
 bound_of_broadcast : (x : ℕ) → 120 ≤ x → bound x ≡ 30256
-bound_of_broadcast x l = cond-false (nat_lt x 60) 7564 (cond (nat_lt x 120) 8 30256) (le-ltb x 60 (omega arith)) ∙ cond-false (nat_lt x 120) 8 30256 (le-ltb x 120 l)
+bound_of_broadcast x l = cond-false (nat_lt x 60) 7564 (cond (nat_lt x 120) 8 30256) (le-ltb x 60 (omega arith))
+    ∙ cond-false (nat_lt x 120) 8 30256 (le-ltb x 120 l)
 
 bounds : sum_by bound (numbers_below 122) ≡ 514832
 bounds = refl
@@ -103,21 +113,25 @@ module _ (number : ℕ) where
   few_scenarios =
       let all = length-scenarios (generated number) in
       let processes = ap (λ n. ways n 2) (processes_count number) ∙ ways_of_processes in
-      let few = product_few (2 ^ condition_count (generated number)) (ways (process_count (generated number)) 2) (powers_few (condition_count (generated number)) (few_conditions number)) processes in
+      let few = product_few (2 ^ condition_count (generated number)) (ways (process_count (generated number)) 2)
+      (powers_few (condition_count (generated number)) (few_conditions number)) processes in
       subst (λ n. n ≤ 7564) (sym all) few
 
   pub few_views : (reached : List ℕ) → views (generated number) reached ≤ 7564
   few_views reached =
       let all = views_le_scenarios (generated number) reached in
       let processes = ap (λ n. ways n 2) (processes_count number) ∙ ways_of_processes in
-      let few = product_few (2 ^ condition_count (generated number)) (ways (process_count (generated number)) 2) (powers_few (condition_count (generated number)) (few_conditions number)) processes in
+      let few = product_few (2 ^ condition_count (generated number)) (ways (process_count (generated number)) 2)
+      (powers_few (condition_count (generated number)) (few_conditions number)) processes in
       omega (arith, all, few)
 
   -- what only values are in reach of has a view for each outcome at most
   module _ (reached : List ℕ) (h : (p : ℕ) → p < 128 → is_in reached p ≡ false) where
     no_free : (o : List Bool) → free_counts (generated number) reached o ≡ 0
-    no_free o = sym (length-filter (is_count_free (generated number) reached o) (numbers_below (process_count (generated number))))
-        ∙ ap length (filter_none (is_count_free (generated number) reached o) (numbers_below (process_count (generated number)))
+    no_free o = sym
+        (length-filter (is_count_free (generated number) reached o) (numbers_below (process_count (generated number))))
+        ∙ ap length
+        (filter_none (is_count_free (generated number) reached o) (numbers_below (process_count (generated number)))
         (λ p k. let l = numbers-Contains (process_count (generated number)) p k in
         let within : p < 128 = omega (arith, l, processes_count number) in
         ap (λ b. b && active (generated number) o p) (h p within)))
@@ -130,7 +144,8 @@ module _ (number : ℕ) where
         let os = outcomes (condition_count (generated number)) in
         let quiet = filter (is_quiet (generated number) reached) os in
         let sum : views (generated number) reached ≡ length quiet * 1 =
-        views-sum (generated number) reached (omega (arith, processes_count number)) ∙ same_sum_by (views_of_outcome (generated number) reached) (λ o. 1) quiet (λ o k. one_view o) ∙
+        views-sum (generated number) reached (omega (arith, processes_count number))
+        ∙ same_sum_by (views_of_outcome (generated number) reached) (λ o. 1) quiet (λ o k. one_view o) ∙
         sum_by_constant 1 quiet in
         let fewer : length quiet ≤ length os = filter_long (is_quiet (generated number) reached) os in
         let four = outcomes_few (condition_count (generated number)) (few_conditions number) in
@@ -144,34 +159,45 @@ module _ (number : ℕ) where
       item = item_at-message (generated number) e l
 
       source_values : AreValues (source_value (generated number) e)
-      source_values = either_values (is_some (edge_at (generated number) e).when) (map value_variable (option_to_list (condition_of (generated number) (source (generated number) e)))) []
+      source_values = either_values (is_some (edge_at (generated number) e).when)
+          (map value_variable (option_to_list (condition_of (generated number) (source (generated number) e)))) []
           (values_values (option_to_list (condition_of (generated number) (source (generated number) e)))) none_values
 
-      sent_values : AreValues (sent_value (generated number) (item_at (generated number) (message_item (generated number) e)))
+      sent_values :
+          AreValues (sent_value (generated number) (item_at (generated number) (message_item (generated number) e)))
       sent_values = subst (λ i. AreValues (sent_value (generated number) i)) (sym item) source_values
 
-      send_values : is_message (generated number) e ≡ true → AreValues (send_reach (generated number) order r (message_item (generated number) e))
+      send_values : is_message (generated number) e ≡ true →
+          AreValues (send_reach (generated number) order r (message_item (generated number) e))
       send_values t =
           let x = message_item (generated number) e in
           let still = conditions_of (generated number) (producer (generated number) x) in
-          let moving = end_reach r (producer (generated number) x) ++ flat_map (reach_of r) (queued_before (generated number) order x) in
+          let moving = end_reach r (producer (generated number) x)
+          ++ flat_map (reach_of r) (queued_before (generated number) order x) in
           let frozen : is_frozen (generated number) x ≡ true = ap (is_frozen_item (generated number)) item ∙
-          and_from (is_message (generated number) e) (edge_at (generated number) e).frozen t (edge_there number e l).frozen in
-          append_values (cond (is_frozen (generated number) x) (map value_variable still) moving) (sent_value (generated number) (item_at (generated number) x))
+          and_from (is_message (generated number) e) (edge_at (generated number) e).frozen t
+          (edge_there number e l).frozen in
+          append_values (cond (is_frozen (generated number) x) (map value_variable still) moving)
+          (sent_value (generated number) (item_at (generated number) x))
           (first_values (is_frozen (generated number) x) (map value_variable still) moving frozen (values_values still))
           sent_values
 
-      if_sent : (b : Bool) → is_message (generated number) e ≡ b → AreValues (cond b (send_reach (generated number) order r (message_item (generated number) e)) [])
+      if_sent : (b : Bool) → is_message (generated number) e ≡ b →
+          AreValues (cond b (send_reach (generated number) order r (message_item (generated number) e)) [])
       if_sent true t = send_values t
       if_sent false t = none_values
 
-      reached_values : AreValues (reach_by_item (generated number) order r (message_item (generated number) e) (item_at (generated number) (message_item (generated number) e)))
-      reached_values = subst (λ i. AreValues (reach_by_item (generated number) order r (message_item (generated number) e) i)) (sym item) (if_sent (is_message (generated number) e) refl)
+      reached_values : AreValues (reach_by_item (generated number) order r (message_item (generated number) e)
+          (item_at (generated number) (message_item (generated number) e)))
+      reached_values =
+          subst (λ i. AreValues (reach_by_item (generated number) order r (message_item (generated number) e) i))
+          (sym item) (if_sent (is_message (generated number) e) refl)
 
       pub message_views : views (generated number) (reach_of r (message_item (generated number) e)) ≤ 4
       message_views = views_by_outcome (reach_of r (message_item (generated number) e))
           (λ p h. is.each (message_item (generated number) e) p (omega (arith, l)) ∙ no_count
-          (reach_by_item (generated number) order r (message_item (generated number) e) (item_at (generated number) (message_item (generated number) e))) reached_values p h)
+          (reach_by_item (generated number) order r (message_item (generated number) e)
+          (item_at (generated number) (message_item (generated number) e))) reached_values p h)
 
     -- ---- loads
 
@@ -183,32 +209,39 @@ module _ (number : ℕ) where
         let all = few_views (reach_of r x) in
         elim (item_cases (generated number) x l) [
           | inl c ↦ (let rows = ap (rows_of_item (generated number)) c.1 in
-              let product = product_within (views (generated number) (reach_of r x)) (rows_of_item (generated number) (item_at (generated number) x)) 7564 1 all (omega (arith, rows)) in
+              let product = product_within (views (generated number) (reach_of r x))
+              (rows_of_item (generated number) (item_at (generated number) x)) 7564 1 all (omega (arith, rows)) in
               let most = bound_of_start x (omega (arith, c.0, count)) in
               omega (arith, product, most))
           | inr (inl c) ↦ (let rows = ap (rows_of_item (generated number)) c.3 in
               let two = few_rows (is_message (generated number) c.0) 2 in
-              let four : views (generated number) (reach_of r x) ≤ 4 = subst (λ y. views (generated number) (reach_of r y) ≤ 4) (sym c.2) (message_views c.0 c.1) in
-              let product = product_within (views (generated number) (reach_of r x)) (rows_of_item (generated number) (item_at (generated number) x)) 4 2 four (omega (arith, rows, two)) in
+              let four : views (generated number) (reach_of r x) ≤ 4 =
+              subst (λ y. views (generated number) (reach_of r y) ≤ 4) (sym c.2) (message_views c.0 c.1) in
+              let product = product_within (views (generated number) (reach_of r x)) (rows_of_item (generated number)
+              (item_at (generated number) x)) 4 2 four (omega (arith, rows, two)) in
               let most = bound_of_message x (omega (arith, c.2, count)) (omega (arith, c.1, c.2, count, edges)) in
               omega (arith, product, most))
           | inr (inr c) ↦ (let rows = ap (rows_of_item (generated number)) c.3 in
               let four = few_rows (nat_lt 1 4) 4 in
-              let product = product_within (views (generated number) (reach_of r x)) (rows_of_item (generated number) (item_at (generated number) x)) 7564 4 all (omega (arith, rows, four)) in
+              let product = product_within (views (generated number) (reach_of r x)) (rows_of_item (generated number)
+              (item_at (generated number) x)) 7564 4 all (omega (arith, rows, four)) in
               let most = bound_of_broadcast x (omega (arith, c.2, count, edges)) in
               omega (arith, product, most))
         ]
 
     -- the loads of the items up to one
-    pub loads_up_to : (n : ℕ) → n ≤ item_count (generated number) → sum_by (load (generated number) r) (numbers_below n) ≤ 514832
+    pub loads_up_to : (n : ℕ) → n ≤ item_count (generated number) →
+        sum_by (load (generated number) r) (numbers_below n) ≤ 514832
     loads_up_to n l =
         let count = processes_count number in
         let edges = edges_count number in
         let conditions = few_conditions number in
         let within : n ≤ 122 = omega (arith, l, count, edges, conditions) in
         let rest : n + (122 - n) ≡ 122 = omega (arith, within) in
-        let each = sum_by-le_each (load (generated number) r) bound (numbers_below n) (λ x k. let h = numbers-Contains n x k in load_few x (omega (arith, h, l))) in
-        let grown = subst (λ m. sum_by bound (numbers_below n) ≤ sum_by bound (numbers_below m)) rest (sums_grow bound n (122 - n)) in
+        let each = sum_by-le_each (load (generated number) r) bound (numbers_below n)
+        (λ x k. let h = numbers-Contains n x k in load_few x (omega (arith, h, l))) in
+        let grown = subst (λ m. sum_by bound (numbers_below n) ≤ sum_by bound (numbers_below m)) rest
+        (sums_grow bound n (122 - n)) in
         let total = bounds in
         omega (arith, each, grown, total)
 
@@ -217,12 +250,15 @@ module _ (number : ℕ) where
         let narrow = few_views (reach_of r x) in
         let light = loads_up_to (x + 1) (omega arith) in
         and_right (nat_lt 0 (rows_of_item (generated number) (item_at (generated number) x)))
-        (nat_lt most_views (views (generated number) (reach_of r x)) || nat_lt most_loads (sum_by (load (generated number) r) (numbers_below (x + 1))))
+        (nat_lt most_views (views (generated number) (reach_of r x))
+        || nat_lt most_loads (sum_by (load (generated number) r) (numbers_below (x + 1))))
         (ap₂ ◌||◌ (le-ltb most_views (views (generated number) (reach_of r x)) (omega (arith, narrow)))
         (le-ltb most_loads (sum_by (load (generated number) r) (numbers_below (x + 1))) (omega (arith, light))))
 
-  pub small_loads : (order : List ℕ) (r : Reach) → IsReach (generated number) order r → sum_by (load (generated number) r) (numbers_below (item_count (generated number))) ≤ 514832
+  pub small_loads : (order : List ℕ) (r : Reach) → IsReach (generated number) order r →
+      sum_by (load (generated number) r) (numbers_below (item_count (generated number))) ≤ 514832
   small_loads order r is = loads_up_to order r is (item_count (generated number)) (omega arith)
 
   pub narrow : (order : List ℕ) → IsNarrow (generated number) order
-  narrow order x wide = both_ways (is_too_wide (generated number) wide.reach x) (not_wide order wide.reach wide.reached x wide.within) wide.wide
+  narrow order x wide = both_ways (is_too_wide (generated number) wide.reach x)
+      (not_wide order wide.reach wide.reached x wide.within) wide.wide

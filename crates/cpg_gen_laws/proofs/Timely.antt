@@ -1,7 +1,9 @@
--- In generated graphs nothing is late: before each moment the times are no later than an execution for each process that
--- has ended, and two rounds for each item.
-use Rattle.std.proofs.Common.{◌≡◌, ◌∙◌, ℕ, zero, suc, ◌+◌, ◌*◌, ◌<◌, ◌≤◌, ◌==◌, Bool, true, false, cond, List, [], ◌∷◌, ◌++◌, length, get_or, filter, map, flat_map, Contains, Option, Some, None}
-use Rattle.std.proofs.Common.{option_to_list, option_map, unwrap_or, arith, refl, sym, ap, inl, inr, subst, true≢false, ⊎_elim}
+-- In generated graphs nothing is late: before each moment the times are no later than an execution for each process
+-- that has ended, and two rounds for each item.
+use Rattle.std.proofs.Common.{◌≡◌, ◌∙◌, ℕ, zero, suc, ◌+◌, ◌*◌, ◌<◌, ◌≤◌, ◌==◌, Bool, true, false, cond, List, [], ◌∷◌}
+use Rattle.std.proofs.Common.{◌++◌, length, get_or, filter, map, flat_map, Contains, Option, Some, None}
+use Rattle.std.proofs.Common.{option_to_list, option_map, unwrap_or, arith, refl, sym, ap, inl, inr, subst, true≢false}
+use Rattle.std.proofs.Common.{⊎_elim}
 use Rattle.std.specs.Prelude.{nat_lt}
 use Rattle.std.proofs.lemmas.Bool.{cases_Bool, cases_lt, cond-true, cond-false, lt-ltb, le-ltb, ltb-true}
 use Rattle.std.proofs.lemmas.Grind.{div_ceil_times}
@@ -11,7 +13,8 @@ use Rattle.std.proofs.lemmas.Option.{none-some}
 use Rattle.std.proofs.lemmas.List.FromFn.{length-range_with_len}
 use Rattle.cpg_base.specs.declared.process.Process.{Process}
 use Rattle.cpg_base.specs.Numbers.{numbers_below, greatest}
-use Rattle.cpg_base.specs.Graph.{process_count, condition_count, item_count, message_item, broadcast_item, item_at, producer, process_of, process_at, node_of, home, source, inputs, is_message}
+use Rattle.cpg_base.specs.Graph.{process_count, condition_count, item_count, message_item, broadcast_item, item_at}
+use Rattle.cpg_base.specs.Graph.{producer, process_of, process_at, node_of, home, source, inputs, is_message}
 use Rattle.cpg_base.specs.Graph.{is_frozen}
 use Rattle.cpg_base.specs.Activity.{item_active}
 use Rattle.cpg_base.specs.Bus.{round}
@@ -21,7 +24,8 @@ use Rattle.cpg_base.proofs.Bounds.{slot_length-le}
 use Rattle.cpg_base.proofs.Inputs.{inputs_parts}
 use Rattle.cpg_base.proofs.Items.{item_cases, ItemCases, process_of_below}
 use Rattle.cpg_base.proofs.Sums.{length-filter-le}
-use Rattle.cpg_base.proofs.Lists.{Contains-nil, greatest-cons, greatest-le, get_or-map-below, Contains-filter_parts, Contains-flat_map_parts, Contains-map_parts, Contains-cases, Contains-numbers}
+use Rattle.cpg_base.proofs.Lists.{Contains-nil, greatest-cons, greatest-le, get_or-map-below, Contains-filter_parts}
+use Rattle.cpg_base.proofs.Lists.{Contains-flat_map_parts, Contains-map_parts, Contains-cases, Contains-numbers}
 use Rattle.cpg_base.proofs.Lists.{numbers-Contains}
 use Rattle.cpg_order.specs.Urgency.{IsTopological}
 use Rattle.cpg_base.specs.Order.{place, before, before_on_node}
@@ -29,9 +33,11 @@ use Rattle.cpg_order.specs.Deciding.{decides, deciding}
 use Rattle.cpg_order.specs.Queue.{is_queued_before, rank_of_item}
 use Rattle.cpg_order.proofs.Acyclic.{input_goes_up, source_in_order}
 use Rattle.cpg_order.proofs.DecidingLaws.{decides_earlier}
-use Rattle.cpg_order.proofs.Moments.{phase, phases, moment, moment_of_end, moment_of_start, last, message_sooner, broadcast_sooner, end_sooner, queued_sooner, producer_in_range, end_before_last}
+use Rattle.cpg_order.proofs.Moments.{phase, phases, moment, moment_of_end, moment_of_start, last, message_sooner}
+use Rattle.cpg_order.proofs.Moments.{broadcast_sooner, end_sooner, queued_sooner, producer_in_range, end_before_last}
 use Rattle.cpg_base.proofs.Places.{from_order, not_later, on_node_before}
-use Rattle.cpg_run.specs.Run.{Times, IsRun, time_in, end_in, frame_there, input_there, heard_there, bounds_of_item, unfrozen_time, start_bounds, send_bounds, end_by}
+use Rattle.cpg_run.specs.Run.{Times, IsRun, time_in, end_in, frame_there, input_there, heard_there, bounds_of_item}
+use Rattle.cpg_run.specs.Run.{unfrozen_time, start_bounds, send_bounds, end_by}
 use Rattle.cpg_run.specs.Frozen.{AreFrozenTimes}
 use Rattle.cpg_run.specs.Finish.{IsExcess, excess_of, excess_in_run}
 use Rattle.cpg_run.proofs.Runs.{time_is, time_in_active, end_is}
@@ -45,7 +51,8 @@ use Rattle.cpg_gen.proofs.Limits.{draw-lt, processes_count, edges_count, few_con
 -- ---- durations
 
 -- by the number of parts
-duration_few : (w a c m d f : ℕ) → w ≤ 50 → a ≤ 2 → c ≤ 2 → m ≤ 4 → (n : ℕ) → 1 ≤ n → n ≤ 3 → d * n < w + n → f ≤ 2 → w + n * (a + c) + f * (m + d + a) ≤ 166
+duration_few : (w a c m d f : ℕ) → w ≤ 50 → a ≤ 2 → c ≤ 2 → m ≤ 4 → (n : ℕ) → 1 ≤ n → n ≤ 3 → d * n < w + n → f ≤ 2 →
+    w + n * (a + c) + f * (m + d + a) ≤ 166
 duration_few w a c m d f lw la lc lm zero some few h lf = absurd (omega arith)
 duration_few w a c m d zero lw la lc lm (suc zero) some few h lf = omega arith
 duration_few w a c m d zero lw la lc lm (suc (suc zero)) some few h lf = omega arith
@@ -66,8 +73,10 @@ duration_from x i f l =
     let a = draw-lt x 3 3 (omega arith) in
     let c = draw-lt x 4 3 (omega arith) in
     let m = draw-lt x 5 5 (omega arith) in
-    duration_few (1 + nth_draw x 1 50) (nth_draw x 3 3) (nth_draw x 4 3) (nth_draw x 5 5) (div_ceil (1 + nth_draw x 1 50) (1 + nth_draw x 2 3)) f
-    (omega (arith, w)) (omega (arith, a)) (omega (arith, c)) (omega (arith, m)) (1 + nth_draw x 2 3) (omega arith) (omega (arith, n))
+    duration_few (1 + nth_draw x 1 50) (nth_draw x 3 3) (nth_draw x 4 3) (nth_draw x 5 5)
+    (div_ceil (1 + nth_draw x 1 50) (1 + nth_draw x 2 3)) f
+    (omega (arith, w)) (omega (arith, a)) (omega (arith, c)) (omega (arith, m)) (1 + nth_draw x 2 3) (omega arith)
+    (omega (arith, n))
     (div_ceil_times (1 + nth_draw x 1 50) (1 + nth_draw x 2 3) (omega arith)).1 l
 
 -- ---- counting what is before a moment
@@ -77,7 +86,9 @@ abbrev count_before : (ℕ → ℕ) → ℕ → ℕ → ℕ
 count_before at n m = length (filter (λ x. nat_lt (at x) m) (numbers_below n))
 
 -- one passes the second test alone
-one_more : {X : Type 0} (p q : X → Bool) (xs : List X) (y : X) → ((x : X) → p x ≡ true → q x ≡ true) → Contains xs y → p y ≡ false → q y ≡ true → length (filter p xs) + 1 ≤ length (filter q xs)
+one_more : {X : Type 0} (p q : X → Bool) (xs : List X) (y : X) → ((x : X) → p x ≡ true → q x ≡ true) → Contains xs y →
+    p y ≡ false → q y ≡ true →
+    length (filter p xs) + 1 ≤ length (filter q xs)
 one_more p q [] y h k f t = absurd (Contains-nil y k)
 one_more p q (x ∷ xs) y h k f t = ⊎_elim
     (λ (e : x ≡ y). here (p x) (ap p e ∙ f) (q x) (ap q e ∙ t) (length-filter-le p q xs h))
@@ -101,10 +112,12 @@ later_passes : (at : ℕ → ℕ) (m x : ℕ) → nat_lt (at x) m ≡ true → n
 later_passes at m x t = let l = ltb-true (at x) m t in lt-ltb (at x) (suc m) (omega (arith, l))
 
 count_grows : (at : ℕ → ℕ) (n m : ℕ) → count_before at n m ≤ count_before at n (suc m)
-count_grows at n m = length-filter-le (λ x. nat_lt (at x) m) (λ x. nat_lt (at x) (suc m)) (numbers_below n) (later_passes at m)
+count_grows at n m =
+    length-filter-le (λ x. nat_lt (at x) m) (λ x. nat_lt (at x) (suc m)) (numbers_below n) (later_passes at m)
 
 count_more : (at : ℕ → ℕ) (n m x : ℕ) → x < n → at x ≡ m → count_before at n m + 1 ≤ count_before at n (suc m)
-count_more at n m x l e = one_more (λ x. nat_lt (at x) m) (λ x. nat_lt (at x) (suc m)) (numbers_below n) x (later_passes at m) (Contains-numbers n x l)
+count_more at n m x l e = one_more (λ x. nat_lt (at x) m) (λ x. nat_lt (at x) (suc m)) (numbers_below n) x
+    (later_passes at m) (Contains-numbers n x l)
     (le-ltb (at x) m (omega (arith, e))) (lt-ltb (at x) (suc m) (omega (arith, e)))
 
 count_few : (at : ℕ → ℕ) (n m : ℕ) → count_before at n m ≤ n
@@ -114,7 +127,8 @@ frozen_le : (o : Option ℕ) (b : ℕ) → ((time : ℕ) → o ≡ Some time →
 frozen_le None b h = omega arith
 frozen_le (Some time) b h = let l = h time refl in omega (arith, greatest-cons time [])
 
-end_from : (o : Option ℕ) (d b c : ℕ) → unwrap_or o 0 ≤ b → d ≤ c → unwrap_or (option_map (λ start. start + d) o) 0 ≤ b + c
+end_from : (o : Option ℕ) (d b c : ℕ) → unwrap_or o 0 ≤ b → d ≤ c →
+    unwrap_or (option_map (λ start. start + d) o) 0 ≤ b + c
 end_from None d b c h l = omega arith
 end_from (Some n) d b c h l = omega arith
 
@@ -122,7 +136,8 @@ module _ (number : ℕ) where
   duration_le : (p f : ℕ) → p < process_count (generated number) → f ≤ 2 → duration (generated number) p f ≤ 166
   duration_le p f l h =
       let within : p < 60 = omega (arith, l, processes_count number) in
-      subst (λ (q : Process). duration_of q f ≤ 166) (sym (get_or-map-below (generated_process number) 60 p _ within)) (duration_from (number_before number p) p f h)
+      subst (λ (q : Process). duration_of q f ≤ 166) (sym (get_or-map-below (generated_process number) 60 p _ within))
+      (duration_from (number_before number p) p f h)
 
   release_le : (p : ℕ) → p < process_count (generated number) → (process_at (generated number) p).release ≡ 0
   release_le p l =
@@ -154,16 +169,22 @@ module _ (number : ℕ) where
         let b = count_grows (moment (generated number) order) (item_count (generated number)) m in
         omega (arith, a, b)
 
-    bound_at_item : (x : ℕ) → x < item_count (generated number) → bound (moment (generated number) order x) + 80 ≤ bound (suc (moment (generated number) order x))
+    bound_at_item : (x : ℕ) → x < item_count (generated number) →
+        bound (moment (generated number) order x) + 80 ≤ bound (suc (moment (generated number) order x))
     bound_at_item x l =
-        let a = count_grows (moment_of_end (generated number) order) (process_count (generated number)) (moment (generated number) order x) in
-        let b = count_more (moment (generated number) order) (item_count (generated number)) (moment (generated number) order x) x l refl in
+        let a = count_grows (moment_of_end (generated number) order) (process_count (generated number))
+        (moment (generated number) order x) in
+        let b = count_more (moment (generated number) order) (item_count (generated number))
+        (moment (generated number) order x) x l refl in
         omega (arith, a, b)
 
-    bound_at_end : (p : ℕ) → p < process_count (generated number) → bound (moment_of_end (generated number) order p) + 166 ≤ bound (suc (moment_of_end (generated number) order p))
+    bound_at_end : (p : ℕ) → p < process_count (generated number) →
+        bound (moment_of_end (generated number) order p) + 166 ≤ bound (suc (moment_of_end (generated number) order p))
     bound_at_end p l =
-        let a = count_more (moment_of_end (generated number) order) (process_count (generated number)) (moment_of_end (generated number) order p) p l refl in
-        let b = count_grows (moment (generated number) order) (item_count (generated number)) (moment_of_end (generated number) order p) in
+        let a = count_more (moment_of_end (generated number) order) (process_count (generated number))
+        (moment_of_end (generated number) order p) p l refl in
+        let b = count_grows (moment (generated number) order) (item_count (generated number))
+        (moment_of_end (generated number) order p) in
         omega (arith, a, b)
 
     bound_few : (m : ℕ) → bound m ≤ 19720
@@ -177,11 +198,16 @@ module _ (number : ℕ) where
 
     module _ (frozen : List (Option ℕ)) (still : AreFrozenTimes (generated number) order frozen) where
       record SmallBefore (t : Times) (m : ℕ) : Type 0 where
-        pub items : (x : ℕ) → x < item_count (generated number) → moment (generated number) order x < m → time_in t x ≤ bound m
-        pub ends : (p : ℕ) → p < process_count (generated number) → moment_of_end (generated number) order p < m → end_in t p ≤ bound m
+        pub items : (x : ℕ) → x < item_count (generated number) → moment (generated number) order x < m →
+            time_in t x ≤ bound m
+        pub ends : (p : ℕ) → p < process_count (generated number) → moment_of_end (generated number) order p < m →
+            end_in t p ≤ bound m
 
-      module _ (s : Scenario) (t : Times) (lawful : IsScenario (generated number) s) (run : IsRun (generated number) order frozen s t) where
-        frame_le : (m x : ℕ) → SmallBefore t m → x < item_count (generated number) → moment (generated number) order x < m → frame_there (generated number) t x ≤ bound m + 40
+      module _ (s : Scenario) (t : Times) (lawful : IsScenario (generated number) s)
+          (run : IsRun (generated number) order frozen s t) where
+        frame_le : (m x : ℕ) → SmallBefore t m → x < item_count (generated number) →
+            moment (generated number) order x < m →
+            frame_there (generated number) t x ≤ bound m + 40
         frame_le m x a l h =
             let early = a.items x l h in
             let slot = slot_length-le (generated number) (home (generated number) x) in
@@ -189,15 +215,19 @@ module _ (number : ℕ) where
             omega (arith, early, slot, turn)
 
         module _ (m p : ℕ) (a : SmallBefore t m) (at : place order p * phases (generated number) ≤ m) where
-          input_le : (e : ℕ) → Contains (inputs (generated number) p) e → input_there (generated number) t e ≤ bound m + 40
+          input_le : (e : ℕ) → Contains (inputs (generated number) p) e →
+              input_there (generated number) t e ≤ bound m + 40
           input_le e c =
               let h = (inputs_parts (generated number) p e c).0 in
               let up = input_goes_up (generated number) order topological p e c in
               elim (cases_Bool (is_message (generated number) e)) [
                 | inl is ↦ (let sooner = message_sooner (generated number) order topological p e h up in
-                    subst (λ n. n ≤ bound m + 40) (sym (cond-true _ _ _ is)) (frame_le m (message_item (generated number) e) a (omega (arith, h)) (omega (arith, sooner, at))))
-                | inr is ↦ (let sooner = end_sooner (generated number) order topological p (source (generated number) e) up in
-                    let early = a.ends (source (generated number) e) (source_in_order (generated number) order topological e h) (omega (arith, sooner, at)) in
+                    subst (λ n. n ≤ bound m + 40) (sym (cond-true _ _ _ is)) (frame_le m
+                    (message_item (generated number) e) a (omega (arith, h)) (omega (arith, sooner, at))))
+                | inr is ↦
+                    (let sooner = end_sooner (generated number) order topological p (source (generated number) e) up in
+                    let early = a.ends (source (generated number) e)
+                    (source_in_order (generated number) order topological e h) (omega (arith, sooner, at)) in
                     subst (λ n. n ≤ bound m + 40) (sym (cond-false _ _ _ is)) (omega (arith, early)))
               ]
 
@@ -205,41 +235,57 @@ module _ (number : ℕ) where
           ended_le q c =
               let b = on_node_before (generated number) order p q c in
               let sooner = end_sooner (generated number) order topological p q b.1 in
-              let early = a.ends q (from_order (process_count (generated number)) order topological.all q b.0) (omega (arith, sooner, at)) in
+              let early = a.ends q (from_order (process_count (generated number)) order topological.all q b.0)
+              (omega (arith, sooner, at)) in
               omega (arith, early)
 
-          heard_le : (c : ℕ) → Contains (flat_map (deciding (generated number) s.values) (before_on_node (generated number) order p ++ p ∷ [])) c →
+          heard_le : (c : ℕ) →
+              Contains (flat_map (deciding (generated number) s.values)
+              (before_on_node (generated number) order p ++ p ∷ [])) c →
               heard_there (generated number) t (node_of (generated number) p) c ≤ bound m + 40
           heard_le c d =
-              let q = Contains-flat_map_parts (deciding (generated number) s.values) (before_on_node (generated number) order p ++ p ∷ []) c d in
-              let r = Contains-filter_parts (decides (generated number) s.values q.0) (numbers_below (condition_count (generated number))) c q.2 in
+              let q = Contains-flat_map_parts (deciding (generated number) s.values)
+              (before_on_node (generated number) order p ++ p ∷ []) c d in
+              let r = Contains-filter_parts (decides (generated number) s.values q.0)
+              (numbers_below (condition_count (generated number))) c q.2 in
               let h = numbers-Contains (condition_count (generated number)) c r.0 in
               let l = not_later (generated number) order p q.0 q.1 in
               let earlier = decides_earlier (generated number) order topological s.values q.0 c h r.1 in
               let up : place order (process_of (generated number) c) < place order p = omega (arith, earlier, l) in
-              elim (cases_Bool (node_of (generated number) (process_of (generated number) c) == node_of (generated number) p)) [
-                | inl is ↦ (let sooner = end_sooner (generated number) order topological p (process_of (generated number) c) up in
-                    let early = a.ends (process_of (generated number) c) (process_of_below (generated number) c h) (omega (arith, sooner, at)) in
+              elim (cases_Bool
+              (node_of (generated number) (process_of (generated number) c) == node_of (generated number) p)) [
+                | inl is ↦ (let sooner =
+                    end_sooner (generated number) order topological p (process_of (generated number) c) up in
+                    let early = a.ends (process_of (generated number) c) (process_of_below (generated number) c h)
+                    (omega (arith, sooner, at)) in
                     subst (λ n. n ≤ bound m + 40) (sym (cond-true _ _ _ is)) (omega (arith, early)))
                 | inr is ↦ (let sooner = broadcast_sooner (generated number) order topological p c up in
-                    subst (λ n. n ≤ bound m + 40) (sym (cond-false _ _ _ is)) (frame_le m (broadcast_item (generated number) c) a (omega (arith, h)) (omega (arith, sooner, at))))
+                    subst (λ n. n ≤ bound m + 40) (sym (cond-false _ _ _ is)) (frame_le m
+                    (broadcast_item (generated number) c) a (omega (arith, h)) (omega (arith, sooner, at))))
               ]
 
-          start_le : p < process_count (generated number) → greatest (start_bounds (generated number) order s t p) ≤ bound m + 40
+          start_le : p < process_count (generated number) →
+              greatest (start_bounds (generated number) order s t p) ≤ bound m + 40
           start_le l =
               let release = release_le p l in
-              start_bounds_le (generated number) order s t p (bound m + 40) (omega (arith, release)) (λ e c k. input_le e c) (λ q c k. ended_le q c) heard_le
+              start_bounds_le (generated number) order s t p (bound m + 40) (omega (arith, release))
+              (λ e c k. input_le e c) (λ q c k. ended_le q c) heard_le
 
-        send_le : (m x : ℕ) → SmallBefore t m → moment (generated number) order x ≤ m → x < item_count (generated number) →
+        send_le : (m x : ℕ) → SmallBefore t m → moment (generated number) order x ≤ m →
+            x < item_count (generated number) →
             phase (item_at (generated number) x) ≡ rank_of_item (item_at (generated number) x) + 2
-            → moment_of_end (generated number) order (producer (generated number) x) < m → greatest (send_bounds (generated number) order s t x) ≤ bound m + 80
+            → moment_of_end (generated number) order (producer (generated number) x) < m →
+            greatest (send_bounds (generated number) order s t x) ≤ bound m + 80
         send_le m x a before l sends made = send_bounds_le (generated number) order s t x (bound m + 80)
-            (let next = next_slot-le (generated number) (home (generated number) x) (end_in t (producer (generated number) x)) in
+            (let next = next_slot-le (generated number) (home (generated number) x)
+            (end_in t (producer (generated number) x)) in
             let turn = round_is in
-            let early = a.ends (producer (generated number) x) (producer_in_range (generated number) order topological x l) made in
+            let early = a.ends (producer (generated number) x)
+            (producer_in_range (generated number) order topological x l) made in
             omega (arith, next, turn, early))
             (λ y c active.
-            let q = Contains-filter_parts (λ (z : ℕ). is_queued_before (generated number) order z x) (numbers_below (item_count (generated number))) y c in
+            let q = Contains-filter_parts (λ (z : ℕ). is_queued_before (generated number) order z x)
+            (numbers_below (item_count (generated number))) y c in
             let k = numbers-Contains (item_count (generated number)) y q.0 in
             let sooner = queued_sooner (generated number) order topological y x k sends q.1 in
             let early = a.items y k (omega (arith, sooner, before)) in
@@ -247,24 +293,32 @@ module _ (number : ℕ) where
             omega (arith, early, turn))
 
         -- what has its producer's end before it
-        send_made : (m x : ℕ) → moment (generated number) order x ≡ m → phase (item_at (generated number) x) ≡ rank_of_item (item_at (generated number) x) + 2 →
+        send_made : (m x : ℕ) → moment (generated number) order x ≡ m →
+            phase (item_at (generated number) x) ≡ rank_of_item (item_at (generated number) x) + 2 →
             moment_of_end (generated number) order (producer (generated number) x) < m
         send_made m x is sends = omega (arith, is, sends)
 
-        unfrozen_le : (m x : ℕ) → SmallBefore t m → moment (generated number) order x ≡ m → x < item_count (generated number) → ItemCases (generated number) x →
+        unfrozen_le : (m x : ℕ) → SmallBefore t m → moment (generated number) order x ≡ m →
+            x < item_count (generated number) →
+            ItemCases (generated number) x →
             unfrozen_time (generated number) order s t x ≤ bound m + 80
-        unfrozen_le m x a is l (inl c) = subst (λ i. greatest (bounds_of_item (generated number) order s t x i) ≤ bound m + 80) (sym c.1)
+        unfrozen_le m x a is l (inl c) =
+            subst (λ i. greatest (bounds_of_item (generated number) order s t x i) ≤ bound m + 80) (sym c.1)
             (let first = moment_of_start (generated number) order topological x c.0 in
             let most = start_le m x a (omega (arith, is, first)) c.0 in
             omega (arith, most))
-        unfrozen_le m x a is l (inr (inl c)) = subst (λ i. greatest (bounds_of_item (generated number) order s t x i) ≤ bound m + 80) (sym c.3)
-            (let sends = subst (λ i. phase i ≡ rank_of_item i + 2) (sym c.3) (let r : c.0 + 3 ≡ c.0 + 1 + 2 = omega arith in r) in
+        unfrozen_le m x a is l (inr (inl c)) =
+            subst (λ i. greatest (bounds_of_item (generated number) order s t x i) ≤ bound m + 80) (sym c.3)
+            (let sends = subst (λ i. phase i ≡ rank_of_item i + 2) (sym c.3)
+            (let r : c.0 + 3 ≡ c.0 + 1 + 2 = omega arith in r) in
             send_le m x a (omega (arith, is)) l sends (send_made m x is sends))
-        unfrozen_le m x a is l (inr (inr c)) = subst (λ i. greatest (bounds_of_item (generated number) order s t x i) ≤ bound m + 80) (sym c.3)
+        unfrozen_le m x a is l (inr (inr c)) =
+            subst (λ i. greatest (bounds_of_item (generated number) order s t x i) ≤ bound m + 80) (sym c.3)
             (let sends = subst (λ i. phase i ≡ rank_of_item i + 2) (sym c.3) (let r : 2 ≡ 0 + 2 = omega arith in r) in
             send_le m x a (omega (arith, is)) l sends (send_made m x is sends))
 
-        time_le : (x b : ℕ) → x < item_count (generated number) → unfrozen_time (generated number) order s t x ≤ b → ((time : ℕ) → get_or frozen x None ≡ Some time → time ≤ b) → time_in t x ≤ b
+        time_le : (x b : ℕ) → x < item_count (generated number) → unfrozen_time (generated number) order s t x ≤ b →
+            ((time : ℕ) → get_or frozen x None ≡ Some time → time ≤ b) → time_in t x ≤ b
         time_le x b l h k = elim (cases_Bool (item_active (generated number) s.values (item_at (generated number) x))) [
           | inl a ↦ omega (
             arith,
@@ -272,7 +326,9 @@ module _ (number : ℕ) where
             greatest-cons (unfrozen_time (generated number) order s t x) (option_to_list (get_or frozen x None)),
             frozen_le (get_or frozen x None) b k,
           )
-          | inr a ↦ let e : time_in t x ≡ 0 = ap (λ o. unwrap_or o 0) (time_is (generated number) order frozen s t run x l ∙ cond-false _ _ _ a) in omega arith
+          | inr a ↦ let e : time_in t x ≡ 0 =
+              ap (λ o. unwrap_or o 0) (time_is (generated number) order frozen s t run x l ∙ cond-false _ _ _ a) in
+              omega arith
         ]
 
         fault_le : (p : ℕ) → p < process_count (generated number) → fault_of s p ≤ 2
@@ -282,25 +338,32 @@ module _ (number : ℕ) where
 
         end_le : (p b : ℕ) → p < process_count (generated number) → time_in t p ≤ b → end_in t p ≤ b + 166
         end_le p b l h =
-            let e : end_in t p ≡ unwrap_or (end_by (generated number) s t p) 0 = ap (λ o. unwrap_or o 0) (end_is (generated number) order frozen s t run p l) in
-            let most = end_from (get_or t.times p None) (duration (generated number) p (fault_of s p)) b 166 h (duration_le p (fault_of s p) l (fault_le p l)) in
+            let e : end_in t p ≡ unwrap_or (end_by (generated number) s t p) 0 =
+            ap (λ o. unwrap_or o 0) (end_is (generated number) order frozen s t run p l) in
+            let most = end_from (get_or t.times p None) (duration (generated number) p (fault_of s p)) b 166 h
+            (duration_le p (fault_of s p) l (fault_le p l)) in
             omega (arith, e, most)
 
       -- before a moment everything is small in every scenario's run
       abbrev AllSmall : ℕ → Type 0
-      AllSmall m = (s : Scenario) (t : Times) → IsScenario (generated number) s → IsRun (generated number) order frozen s t → SmallBefore t m
+      AllSmall m = (s : Scenario) (t : Times) → IsScenario (generated number) s →
+          IsRun (generated number) order frozen s t → SmallBefore t m
 
       -- a frozen time of a moment isn't much greater than what is before the moment
-      still_le : (m x : ℕ) → AllSmall m → x < item_count (generated number) → moment (generated number) order x ≡ m → (time : ℕ) → get_or frozen x None ≡ Some time → time ≤ bound m + 80
+      still_le : (m x : ℕ) → AllSmall m → x < item_count (generated number) → moment (generated number) order x ≡ m →
+          (time : ℕ) → get_or frozen x None ≡ Some time →
+          time ≤ bound m + 80
       still_le m x all l is time e = elim (cases_Bool (is_frozen (generated number) x)) [
         | inl f ↦ (let w = (still.each x l f).reached time e in
-            let most = unfrozen_le w.scenario w.times w.lawful w.run m x (all w.scenario w.times w.lawful w.run) is l (item_cases (generated number) x l) in
+            let most = unfrozen_le w.scenario w.times w.lawful w.run m x (all w.scenario w.times w.lawful w.run) is l
+            (item_cases (generated number) x l) in
             omega (arith, most, w.has))
         | inr f ↦ absurd (none-some time (sym (still.others x f) ∙ e))
       ]
 
       all_small : (m : ℕ) → AllSmall m
-      all_small zero s t lawful run = record { items = λ x l h. absurd (omega (arith, h)); ends = λ p l h. absurd (omega (arith, h)) }
+      all_small zero s t lawful run =
+          record { items = λ x l h. absurd (omega (arith, h)); ends = λ p l h. absurd (omega (arith, h)) }
       all_small (suc m) s t lawful run =
           let a = all_small m s t lawful run in
           let grows = bound_grows m in
@@ -308,7 +371,8 @@ module _ (number : ℕ) where
             items = λ x l h. elim (cases_lt (moment (generated number) order x) m) [
               | inl k ↦ (let early = a.items x l k in omega (arith, early, grows))
               | inr k ↦ (let is : moment (generated number) order x ≡ m = omega (arith, h, k) in
-                  let time = time_le s t lawful run x (bound m + 80) l (unfrozen_le s t lawful run m x a is l (item_cases (generated number) x l)) (still_le m x (all_small m) l is) in
+                  let time = time_le s t lawful run x (bound m + 80) l (unfrozen_le s t lawful run m x a is l
+                  (item_cases (generated number) x l)) (still_le m x (all_small m) l is) in
                   let more = subst (λ n. bound n + 80 ≤ bound (suc n)) is (bound_at_item x l) in
                   omega (arith, time, more))
             ];
@@ -323,22 +387,29 @@ module _ (number : ℕ) where
             ];
           }
 
-      pub ends_early : (s : Scenario) (t : Times) → IsScenario (generated number) s → IsRun (generated number) order frozen s t → (p : ℕ) → p < process_count (generated number) → end_in t p ≤ 19720
+      pub ends_early : (s : Scenario) (t : Times) → IsScenario (generated number) s →
+          IsRun (generated number) order frozen s t → (p : ℕ) → p < process_count (generated number) →
+          end_in t p ≤ 19720
       ends_early s t lawful run p l =
           let m = last (generated number) in
           let most = (all_small m s t lawful run).ends p l (end_before_last (generated number) order topological p l) in
           let few = bound_few m in
           omega (arith, most, few)
 
-      no_excess : (s : Scenario) (t : Times) → IsScenario (generated number) s → IsRun (generated number) order frozen s t → excess_in_run (generated number) t ≤ 0
-      no_excess s t lawful run = greatest-le (map (excess_of (generated number) t) (numbers_below (process_count (generated number)))) 0
-          (λ v c. let r = Contains-map_parts (excess_of (generated number) t) (numbers_below (process_count (generated number))) v c in
+      no_excess : (s : Scenario) (t : Times) → IsScenario (generated number) s →
+          IsRun (generated number) order frozen s t →
+          excess_in_run (generated number) t ≤ 0
+      no_excess s t lawful run =
+          greatest-le (map (excess_of (generated number) t) (numbers_below (process_count (generated number)))) 0
+          (λ v c. let r = Contains-map_parts (excess_of (generated number) t)
+          (numbers_below (process_count (generated number))) v c in
           let l = numbers-Contains (process_count (generated number)) r.0 r.1 in
           let early = ends_early s t lawful run r.0 l in
           let due_there = due_is r.0 l in
           omega (arith, r.2, early, due_there))
 
-      pub in_time : (urgency : List ℕ) (excess : ℕ) (s : Scenario) (process : Option ℕ) → IsExcess (generated number) urgency order frozen excess s process → excess ≡ 0
+      pub in_time : (urgency : List ℕ) (excess : ℕ) (s : Scenario) (process : Option ℕ) →
+          IsExcess (generated number) urgency order frozen excess s process → excess ≡ 0
       in_time urgency excess s process is =
           let found = is.least.holds in
           let none = no_excess s found.0 is.least.lawful found.1 in

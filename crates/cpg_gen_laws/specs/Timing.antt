@@ -10,13 +10,16 @@ use Rattle.cpg_gen.specs.Generated.{generated}
 
 -- 60 executions of at most 166, and two rounds of 40 for each of at most 122 items
 abbrev pub GeneratedEndEarly : Type 0
-GeneratedEndEarly = (number : ℕ) (order : List ℕ) → IsTopological (generated number) order → (frozen : List (Option ℕ)) →
+GeneratedEndEarly =
+    (number : ℕ) (order : List ℕ) → IsTopological (generated number) order → (frozen : List (Option ℕ)) →
     AreFrozenTimes (generated number) order frozen →
     (s : Scenario) (t : Times) → IsScenario (generated number) s → IsRun (generated number) order frozen s t → (p : ℕ) →
     p < process_count (generated number) → end_in t p ≤ 19720
 
 -- no process ends past its due
 abbrev pub GeneratedAreInTime : Type 0
-GeneratedAreInTime = (number : ℕ) (order : List ℕ) → IsTopological (generated number) order → (frozen : List (Option ℕ)) →
+GeneratedAreInTime =
+    (number : ℕ) (order : List ℕ) → IsTopological (generated number) order → (frozen : List (Option ℕ)) →
     AreFrozenTimes (generated number) order frozen →
-    (urgency : List ℕ) (excess : ℕ) (s : Scenario) (process : Option ℕ) → IsExcess (generated number) urgency order frozen excess s process → excess ≡ 0
+    (urgency : List ℕ) (excess : ℕ) (s : Scenario) (process : Option ℕ) →
+    IsExcess (generated number) urgency order frozen excess s process → excess ≡ 0

@@ -17,7 +17,8 @@ GeneratedHaveFewViews = (number : ℕ) (reached : List ℕ) → views (generated
 
 -- a message is frozen, so only values tell its times apart
 abbrev pub GeneratedMessagesHaveFewViews : Type 0
-GeneratedMessagesHaveFewViews = (number : ℕ) (order : List ℕ) (r : Reach) → IsReach (generated number) order r → (e : ℕ) →
+GeneratedMessagesHaveFewViews =
+    (number : ℕ) (order : List ℕ) (r : Reach) → IsReach (generated number) order r → (e : ℕ) →
     e < edge_count (generated number) → views (generated number) (reach_of r (message_item (generated number) e)) ≤ 4
 
 -- 60 processes with one row, 60 messages with two, and two broadcasts with four

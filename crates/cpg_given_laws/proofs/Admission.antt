@@ -1,5 +1,6 @@
 -- A graph that is admitted is so with a topological order of its processes as the order that it gives.
-use Rattle.std.proofs.Common.{ℕ, ◌+◌, ◌≡◌, ◌<◌, ◌≤◌, ◌||◌, not, false, List, Option, Some, AllPairs, IsTrue, filter, length, get_or, sym, ap, ◌∙◌, subst}
+use Rattle.std.proofs.Common.{ℕ, ◌+◌, ◌≡◌, ◌<◌, ◌≤◌, ◌||◌, not, false, List, Option, Some, AllPairs, IsTrue, filter}
+use Rattle.std.proofs.Common.{length, get_or, sym, ap, ◌∙◌, subst}
 use Rattle.std.specs.List.{list_all}
 use Rattle.std.proofs.lemmas.List.Elements.{All-from_get_or, Contains-get_or}
 use Rattle.cpg_base.specs.Numbers.{numbers_below}
@@ -38,19 +39,25 @@ module _ (g : Graph) (given : Option (List ℕ)) where
   topological_of_other order top = record { all = top.all; forward = top.forward }
 
   urgency_of_other : (order : List ℕ) → IsUrgencyOrder g order → IsUrgencyOrder (other g given) order
-  urgency_of_other order is = record { all = is.all; falling = subst (λ f. AllPairs (λ p q. IsTrue (f p q)) order) (sym (same_urgency g given)) is.falling }
+  urgency_of_other order is = record {
+    all = is.all;
+    falling = subst (λ f. AllPairs (λ p q. IsTrue (f p q)) order) (sym (same_urgency g given)) is.falling;
+  }
 
   same_tracks : track_count (other g given) ≡ track_count g
-  same_tracks = ap (λ f. length (filter (λ o. list_all (λ c. not (get_or o c false) || is_active (f o (process_of g c))) (numbers_below (condition_count g))) (outcomes (condition_count g))))
+  same_tracks = ap (λ f. length (filter (λ o. list_all (λ c. not (get_or o c false) || is_active (f o (process_of g c)))
+      (numbers_below (condition_count g))) (outcomes (condition_count g))))
       (same_activations g given)
 
-  ordered_of_other : (order : List ℕ) (tree : Guard) (k : ℕ) → IsOrderedFrom g order k tree → IsOrderedFrom (other g given) order k tree
+  ordered_of_other : (order : List ℕ) (tree : Guard) (k : ℕ) → IsOrderedFrom g order k tree →
+      IsOrderedFrom (other g given) order k tree
   ordered_of_other order (Leaf a) k is = is
   ordered_of_other order (Test c off on) k is =
       let next = place order (process_of g c) + 1 in
       (is.0, is.1, ordered_of_other order off next is.2, ordered_of_other order on next is.3)
 
-  guards_of_other : (order : List ℕ) (guards : Guards) → AreGuardsOf g order guards → AreGuardsOf (other g given) order guards
+  guards_of_other : (order : List ℕ) (guards : Guards) → AreGuardsOf g order guards →
+      AreGuardsOf (other g given) order guards
   guards_of_other order guards are = record {
     conditions = are.conditions;
     count = are.count;
@@ -63,16 +70,19 @@ module _ (g : Graph) (given : Option (List ℕ)) where
   }
 
   joins_of_other : HasSingleJoins g → HasSingleJoins (other g given)
-  joins_of_other joins p values l join long = subst (λ f. length (filter (f values) (inputs g p)) ≤ 1) (sym (same_live g given)) (joins p values l join long)
+  joins_of_other joins p values l join long =
+      subst (λ f. length (filter (f values) (inputs g p)) ≤ 1) (sym (same_live g given)) (joins p values l join long)
 
 -- the processes of a topological order are different ones
 order_within : (g : Graph) (order : List ℕ) → IsTopological g order → IsOrderWithin (process_count g) order
 order_within g order top = record {
-  there = All-from_get_or (λ p. p < process_count g) order 0 (λ i l. from_order (process_count g) order top.all (get_or order i 0) (Contains-get_or order i 0 l));
+  there = All-from_get_or (λ p. p < process_count g) order 0
+      (λ i l. from_order (process_count g) order top.all (get_or order i 0) (Contains-get_or order i 0 l));
   once = order_apart (process_count g) order top.all;
 }
 
-pub limits_with : (g : Graph) (order : List ℕ) → IsWithinLimits g → IsOrderWithin (process_count g) order → IsWithinLimits (other g (Some order))
+pub limits_with : (g : Graph) (order : List ℕ) → IsWithinLimits g → IsOrderWithin (process_count g) order →
+    IsWithinLimits (other g (Some order))
 limits_with g order limits within = record {
   faults = limits.faults;
   deadline = limits.deadline;
@@ -90,7 +100,9 @@ limits_with g order limits within = record {
   order = within;
 }
 
-pub admitted_with : (g : Graph) (urgency order : List ℕ) (guards : Guards) → IsAdmitted g urgency guards → IsTopological g order → IsAdmitted (other g (Some order)) urgency guards
+pub admitted_with : (g : Graph) (urgency order : List ℕ) (guards : Guards) → IsAdmitted g urgency guards →
+    IsTopological g order →
+    IsAdmitted (other g (Some order)) urgency guards
 admitted_with g urgency order guards is top = record {
   limits = limits_with g order is.limits (order_within g order top);
   well_formed = formed_of_other g (Some order) is.well_formed;

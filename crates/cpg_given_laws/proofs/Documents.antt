@@ -1,5 +1,6 @@
 -- What is read of a document with the names of an order at its key `order`.
-use Rattle.std.proofs.Common.{◌≡◌, ℕ, false, List, [], ◌∷◌, Option, Some, Ok, refl, ap, ◌∙◌, subst, codes, unwrap_or, inl, inr}
+use Rattle.std.proofs.Common.{◌≡◌, ℕ, false, List, [], ◌∷◌, Option, Some, Ok, refl, ap, ◌∙◌, subst, codes, unwrap_or}
+use Rattle.std.proofs.Common.{inl, inr}
 use Rattle.std.specs.List.{AllByRecursion}
 use Rattle.std.proofs.lemmas.Bool.{cases_Bool}
 use Rattle.std.specs.Ordering.{nat_cmp}
@@ -7,9 +8,11 @@ use Rattle.std.specs.Cmp.Lexicographic.{slice_cmp}
 use Rattle.toml.specs.Data.{Data, Members, as_integer}
 use Rattle.cpg_reader.specs.declared.place.Table.TheVariants as tables
 use Rattle.cpg_reader.specs.declared.place.Key.{Key}
-use Rattle.cpg_reader.specs.declared.place.Key.TheVariants.{Faults, Deadline, Node, Slot, Process as Processes, Edge, Order}
+use Rattle.cpg_reader.specs.declared.place.Key.TheVariants.{Faults, Deadline, Node, Slot, Process as Processes, Edge}
+use Rattle.cpg_reader.specs.declared.place.Key.TheVariants.{Order}
 use Rattle.cpg_reader.specs.Reading.{pure, ◌>>=◌}
-use Rattle.cpg_reader.specs.Rows.{DocumentRow, text_of, as_names, as_tables, optional_in, optional, required_in, read_integer, read_array, are_listed, only}
+use Rattle.cpg_reader.specs.Rows.{DocumentRow, text_of, as_names, as_tables, optional_in, optional, required_in}
+use Rattle.cpg_reader.specs.Rows.{read_integer, read_array, are_listed, only}
 use Rattle.cpg_reader.specs.Shape.{RawGraph, read_process, read_rows, read_node, read_slot, read_edge, read_raw}
 use Rattle.cpg_reader.specs.WrittenTree.{with_member}
 use Rattle.cpg_reader.proofs.Steps.{same_ok}
@@ -30,20 +33,25 @@ abbrev keyed : Data → Members → Members
 keyed d ms = with_member (codes "order") d ms
 
 module _ (d : Data) (ms : Members) where
-  same_optional : {T : Type 0} (as_type : Data → Option T) (key : Key) → Differs (slice_cmp nat_cmp (text_of key) (codes "order")) →
+  same_optional : {T : Type 0} (as_type : Data → Option T) (key : Key) →
+      Differs (slice_cmp nat_cmp (text_of key) (codes "order")) →
       optional as_type (top_of (keyed d ms)) key ≡ optional as_type (top_of ms) key
   unfolding optional
-  same_optional as_type key h = ap (optional_in (top_of ms) key as_type) (other_key (codes "order") d (text_of key) ms h)
+  same_optional as_type key h =
+      ap (optional_in (top_of ms) key as_type) (other_key (codes "order") d (text_of key) ms h)
 
-  same_integer : (key : Key) → Differs (slice_cmp nat_cmp (text_of key) (codes "order")) → read_integer (top_of (keyed d ms)) key ≡ read_integer (top_of ms) key
+  same_integer : (key : Key) → Differs (slice_cmp nat_cmp (text_of key) (codes "order")) →
+      read_integer (top_of (keyed d ms)) key ≡ read_integer (top_of ms) key
   unfolding read_integer
   same_integer key h = ap (λ found. found >>= required_in (top_of ms) key) (same_optional as_integer key h)
 
-  same_tables : (key : Key) → Differs (slice_cmp nat_cmp (text_of key) (codes "order")) → read_array (top_of (keyed d ms)) key ≡ read_array (top_of ms) key
+  same_tables : (key : Key) → Differs (slice_cmp nat_cmp (text_of key) (codes "order")) →
+      read_array (top_of (keyed d ms)) key ≡ read_array (top_of ms) key
   unfolding read_array
   same_tables key h = ap (λ found. found >>= (λ o. pure (unwrap_or o []))) (same_optional as_tables key h)
 
-  read_order : (names : List (List ℕ)) → as_names d ≡ Some names → optional as_names (top_of (keyed d ms)) Order ≡ Ok (Some names)
+  read_order : (names : List (List ℕ)) → as_names d ≡ Some names →
+      optional as_names (top_of (keyed d ms)) Order ≡ Ok (Some names)
   unfolding optional
   read_order names is = rw (own_key (codes "order") d ms, is) refl
 
@@ -58,7 +66,8 @@ module _ (d : Data) (ms : Members) where
       refused h some = let e = rw some at h in cc
 
   -- a document says the same but for the order, whatever order it gave
-  pub raw_with : (r : RawGraph) (names : List (List ℕ)) → as_names d ≡ Some names → read_raw ms ≡ Ok r → read_raw (keyed d ms) ≡ Ok (record r { order = Some names })
+  pub raw_with : (r : RawGraph) (names : List (List ℕ)) → as_names d ≡ Some names → read_raw ms ≡ Ok r →
+      read_raw (keyed d ms) ≡ Ok (record r { order = Some names })
   unfolding read_raw
   raw_with r names is h =
       opened (read_integer (top_of ms) Faults) _ r h λ faults a rest.
@@ -90,7 +99,8 @@ module _ (d : Data) (ms : Members) where
       (ap (λ (r : RawGraph). Ok (record r { order = Some names })) (same_ok _ r rest))
 
 -- the names of its processes are read as names
-pub raw_processes : (ms : Members) (r : RawGraph) → read_raw ms ≡ Ok r → AllByRecursion IsRead (process_names r.processes)
+pub raw_processes : (ms : Members) (r : RawGraph) → read_raw ms ≡ Ok r →
+    AllByRecursion IsRead (process_names r.processes)
 unfolding read_raw
 raw_processes ms r h =
     opened (read_integer (top_of ms) Faults) _ r h λ faults _ rest.
@@ -105,4 +115,5 @@ raw_processes ms r h =
     opened (read_rows tables.Slot read_slot slots) _ r rest λ ss _ rest.
     opened (read_rows tables.Process read_process processes) _ r rest λ ps read rest.
     opened (read_rows tables.Edge read_edge edges) _ r rest λ es _ last.
-    subst (λ (r : RawGraph). AllByRecursion IsRead (process_names r.processes)) (same_ok _ r last) (read_processes 0 processes ps read)
+    subst (λ (r : RawGraph). AllByRecursion IsRead (process_names r.processes)) (same_ok _ r last)
+    (read_processes 0 processes ps read)

@@ -30,16 +30,20 @@ use Rattle.cpg_given_laws.proofs.Admission.{formed_of_other, topological_of_othe
 
 pub same_measures : (g : Graph) (urgency given order : List ℕ) (excess worst : ℕ) →
     IsMeasured (with_order g given) urgency order excess worst ↔ IsMeasured g urgency order excess worst
-same_measures g urgency given order excess worst =
-    (measured_of_other (other g (Some given)) g.order urgency order excess worst, measured_of_other g (Some given) urgency order excess worst)
+same_measures g urgency given order excess worst = (
+  measured_of_other (other g (Some given)) g.order urgency order excess worst,
+  measured_of_other g (Some given) urgency order excess worst,
+)
 
-module _ (g : Graph) (urgency : List ℕ) (guards : Guards) (c : Compiled) (is : IsAdmitted g urgency guards) (ungiven : g.order ≡ None) (made : IsCompilation g urgency c) where
+module _ (g : Graph) (urgency : List ℕ) (guards : Guards) (c : Compiled) (is : IsAdmitted g urgency guards)
+    (ungiven : g.order ≡ None) (made : IsCompilation g urgency c) where
   -- its first order is the urgency order
   first_is : first_order g urgency ≡ urgency
   first_is = ap (λ o. unwrap_or o urgency) ungiven
 
   topological : IsTopological g c.order
-  topological = compile_topological g is.well_formed urgency is.topological (subst (IsTopological g) (sym first_is) is.topological) c.order made.compiled.taken
+  topological = compile_topological g is.well_formed urgency is.topological
+      (subst (IsTopological g) (sym first_is) is.topological) c.order made.compiled.taken
 
   narrow : IsNarrow g c.order
   narrow = elim made.compiled.taken [
@@ -55,7 +59,8 @@ module _ (g : Graph) (urgency : List ℕ) (guards : Guards) (c : Compiled) (is :
   none_preferred order p = none-some c.order (sym p.ungiven)
 
   taken : (order : List ℕ) → IsCompileOrder (with_order g c.order) urgency order ↔ (order ≡ c.order)
-  taken order = (λ t. elim t [ inl p ↦ absurd (none_preferred order p) | inr first ↦ first.0 ], λ e. inr (e, none_preferred))
+  taken order =
+      (λ t. elim t [ inl p ↦ absurd (none_preferred order p) | inr first ↦ first.0 ], λ e. inr (e, none_preferred))
 
   compiled : IsCompiled (with_order g c.order) urgency c.order
   compiled = record {
@@ -66,26 +71,32 @@ module _ (g : Graph) (urgency : List ℕ) (guards : Guards) (c : Compiled) (is :
 
   no_fault : (fault : CompileFault) → ShowsCompileFault (with_order g c.order) urgency fault → fault ≡ OutOfMemory
   no_fault (TooWide x) shows = absurd (narrow_of_other g (Some c.order) c.order narrow x shows.0.wide)
-  no_fault (Late s p finish) shows = absurd (not_late_and_compiled (with_order g c.order) (formed_of_other g (Some c.order) is.well_formed) urgency
-      (topological_of_other g (Some c.order) urgency is.topological) (topological_of_other g (Some c.order) c.order topological) c.order shows.0 compiled)
+  no_fault (Late s p finish) shows =
+      absurd (not_late_and_compiled (with_order g c.order) (formed_of_other g (Some c.order) is.well_formed) urgency
+      (topological_of_other g (Some c.order) urgency is.topological)
+      (topological_of_other g (Some c.order) c.order topological) c.order shows.0 compiled)
   no_fault OutOfMemory shows = refl
 
   -- ---- tables under one order
 
   module _ (b : Built) (built : IsBuiltFor (with_order g c.order) urgency c.order b) where
     same_frozen : c.built.frozen ≡ b.frozen
-    same_frozen = frozen_unique g c.order topological c.built.frozen b.frozen made.built.frozen (frozen_back g (Some c.order) c.order b.frozen built.frozen)
+    same_frozen = frozen_unique g c.order topological c.built.frozen b.frozen made.built.frozen
+        (frozen_back g (Some c.order) c.order b.frozen built.frozen)
 
     same_worst : (c.built.worst ≡ b.worst) × (c.built.worst_in ≡ b.worst_in) × (c.built.worst_by ≡ b.worst_by)
-    same_worst = one_worst g urgency is.topological.all c.order topological c.built.frozen c.built.worst b.worst c.built.worst_in b.worst_in c.built.worst_by b.worst_by made.built.worst
-        (subst (λ f. IsWorst g urgency c.order f b.worst b.worst_in b.worst_by) (sym same_frozen) (worst_back g (Some c.order) c.order b.frozen urgency b.worst b.worst_in b.worst_by built.worst))
+    same_worst = one_worst g urgency is.topological.all c.order topological c.built.frozen c.built.worst b.worst
+        c.built.worst_in b.worst_in c.built.worst_by b.worst_by made.built.worst
+        (subst (λ f. IsWorst g urgency c.order f b.worst b.worst_in b.worst_by) (sym same_frozen)
+        (worst_back g (Some c.order) c.order b.frozen urgency b.worst b.worst_in b.worst_by built.worst))
 
     same_times : (x : ℕ) (s : Scenario) → IsScenario g s → at c.built.tables.nodes x s ≡ at b.tables.nodes x s
     same_times x s law =
         let run = a_run g c.order c.built.frozen s topological in
         made.built.exact.times s run.0 x law run.1
         ∙ sym (built.exact.times s run.0 x (scenario_of_other g (Some c.order) s law)
-        (run_of_other g (Some c.order) c.order s run.0 b.frozen (subst (λ f. IsRun g c.order f s run.0) same_frozen run.1)))
+        (run_of_other g (Some c.order) c.order s run.0 b.frozen
+        (subst (λ f. IsRun g c.order f s run.0) same_frozen run.1)))
 
   same : (d : Compiled) → IsCompilation (with_order g c.order) urgency d → AskTheSame g c d
   same d again =

@@ -1,4 +1,5 @@
--- So frozen times, greatest finishes and greatest excesses under an order are those of a graph that gives another order, or none.
+-- So frozen times, greatest finishes and greatest excesses under an order are those of a graph that gives another
+-- order, or none.
 use Rattle.std.proofs.Common.{ℕ, List, Option, IsTrue, sym, ◌∙◌, subst}
 use Rattle.cpg_base.specs.Graph.{Graph, item_at}
 use Rattle.cpg_base.specs.Scenario.{Scenario, IsScenario}
@@ -9,11 +10,14 @@ use Rattle.cpg_expand.specs.Measured.{IsMeasured}
 use Rattle.cpg_given_laws.proofs.Runs.{other, same_item_active, same_unfrozen, run_of_other}
 
 -- a scenario of a graph is one of each
-pub scenario_of_other : (g : Graph) (given : Option (List ℕ)) (s : Scenario) → IsScenario g s → IsScenario (other g given) s
+pub scenario_of_other : (g : Graph) (given : Option (List ℕ)) (s : Scenario) → IsScenario g s →
+    IsScenario (other g given) s
 scenario_of_other g given s is = record { values = is.values; faults = is.faults; budget = is.budget }
 
 -- a run of a graph that gives an order is one of the graph
-pub run_back : (g : Graph) (given : Option (List ℕ)) (order : List ℕ) (frozen : List (Option ℕ)) (s : Scenario) (t : Times) → IsRun (other g given) order frozen s t → IsRun g order frozen s t
+pub run_back : (g : Graph) (given : Option (List ℕ)) (order : List ℕ) (frozen : List (Option ℕ)) (s : Scenario)
+    (t : Times) → IsRun (other g given) order frozen s t →
+    IsRun g order frozen s t
 run_back g given order frozen s t = run_of_other (other g given) g.order order s t frozen
 
 pub scenario_back : (g : Graph) (given : Option (List ℕ)) (s : Scenario) → IsScenario (other g given) s → IsScenario g s
@@ -42,39 +46,48 @@ module _ (g : Graph) (given : Option (List ℕ)) (order : List ℕ) (frozen : Li
   }
 
   pub frozen_of_other : AreFrozenTimes g order frozen → AreFrozenTimes (other g given) order frozen
-  frozen_of_other are = record { count = are.count; each = λ x l f. frozen_time x (are.each x l f); others = are.others }
+  frozen_of_other are =
+      record { count = are.count; each = λ x l f. frozen_time x (are.each x l f); others = are.others }
 
   module _ (urgency : List ℕ) where
-    pub worst_of_other : (worst : ℕ) (s : Scenario) (by : Option ℕ) → IsWorst g urgency order frozen worst s by → IsWorst (other g given) urgency order frozen worst s by
+    pub worst_of_other : (worst : ℕ) (s : Scenario) (by : Option ℕ) → IsWorst g urgency order frozen worst s by →
+        IsWorst (other g given) urgency order frozen worst s by
     worst_of_other worst s by is = record {
       greatest = λ u t law run. is.greatest u t (scenario_back g given u law) (run_back g given order frozen u t run);
       least = record {
         lawful = scenario_of_other g given s is.least.lawful;
         holds = let h = is.least.holds in (h.0, run_of_other g given order s h.0 frozen h.1, h.2);
-        least = λ u law h. is.least.least u (scenario_back g given u law) (h.0, run_back g given order frozen u h.0 h.1, h.2);
+        least = λ u law h.
+            is.least.least u (scenario_back g given u law) (h.0, run_back g given order frozen u h.0 h.1, h.2);
       };
       by = λ t run. is.by t (run_back g given order frozen s t run);
     }
 
-    pub excess_of_other : (excess : ℕ) (s : Scenario) (by : Option ℕ) → IsExcess g urgency order frozen excess s by → IsExcess (other g given) urgency order frozen excess s by
+    pub excess_of_other : (excess : ℕ) (s : Scenario) (by : Option ℕ) → IsExcess g urgency order frozen excess s by →
+        IsExcess (other g given) urgency order frozen excess s by
     excess_of_other excess s by is = record {
       greatest = λ u t law run. is.greatest u t (scenario_back g given u law) (run_back g given order frozen u t run);
       least = record {
         lawful = scenario_of_other g given s is.least.lawful;
         holds = let h = is.least.holds in (h.0, run_of_other g given order s h.0 frozen h.1, h.2);
-        least = λ u law h. is.least.least u (scenario_back g given u law) (h.0, run_back g given order frozen u h.0 h.1, h.2);
+        least = λ u law h.
+            is.least.least u (scenario_back g given u law) (h.0, run_back g given order frozen u h.0 h.1, h.2);
       };
       by = λ t run. is.by t (run_back g given order frozen s t run);
     }
 
-pub frozen_back : (g : Graph) (given : Option (List ℕ)) (order : List ℕ) (frozen : List (Option ℕ)) → AreFrozenTimes (other g given) order frozen → AreFrozenTimes g order frozen
+pub frozen_back : (g : Graph) (given : Option (List ℕ)) (order : List ℕ) (frozen : List (Option ℕ)) →
+    AreFrozenTimes (other g given) order frozen →
+    AreFrozenTimes g order frozen
 frozen_back g given = frozen_of_other (other g given) g.order
 
-pub worst_back : (g : Graph) (given : Option (List ℕ)) (order : List ℕ) (frozen : List (Option ℕ)) (urgency : List ℕ) (worst : ℕ) (s : Scenario) (by : Option ℕ) →
+pub worst_back : (g : Graph) (given : Option (List ℕ)) (order : List ℕ) (frozen : List (Option ℕ)) (urgency : List ℕ)
+    (worst : ℕ) (s : Scenario) (by : Option ℕ) →
     IsWorst (other g given) urgency order frozen worst s by → IsWorst g urgency order frozen worst s by
 worst_back g given = worst_of_other (other g given) g.order
 
-pub measured_of_other : (g : Graph) (given : Option (List ℕ)) (urgency order : List ℕ) (excess worst : ℕ) → IsMeasured g urgency order excess worst →
+pub measured_of_other : (g : Graph) (given : Option (List ℕ)) (urgency order : List ℕ) (excess worst : ℕ) →
+    IsMeasured g urgency order excess worst →
     IsMeasured (other g given) urgency order excess worst
 measured_of_other g given urgency order excess worst is = record {
   frozen = is.frozen;

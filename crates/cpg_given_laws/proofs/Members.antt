@@ -1,5 +1,6 @@
 -- A document with another value at one key has the others as they were.
-use Rattle.std.proofs.Common.{◌≡◌, ℕ, true, List, Option, Some, None, Ordering, Less, Equal, Greater, is_eq, refl, sym, ap, ◌∙◌, subst}
+use Rattle.std.proofs.Common.{◌≡◌, ℕ, true, List, Option, Some, None, Ordering, Less, Equal, Greater, is_eq, refl, sym}
+use Rattle.std.proofs.Common.{ap, ◌∙◌, subst}
 use Rattle.std.specs.Prelude.{bytes_eq, ⊤}
 use Rattle.std.specs.List.{list_any}
 use Rattle.std.specs.Ordering.{nat_cmp, match_ordering}
@@ -28,16 +29,21 @@ passed Equal h found d = elim h [ ]
 passed Greater h found d = refl
 
 module _ (k : List ℕ) (d : Data) where
-  pub other_key : (other : List ℕ) (ms : Members) → Differs (slice_cmp nat_cmp other k) → get_member other (with_member k d ms) ≡ get_member other ms
+  pub other_key : (other : List ℕ) (ms : Members) → Differs (slice_cmp nat_cmp other k) →
+      get_member other (with_member k d ms) ≡ get_member other ms
   other_key other no_members h = passed (slice_cmp nat_cmp other k) h None d
   other_key other (member l e ms) h = by (slice_cmp nat_cmp k l) refl (other_key other ms h)
     where
       by : (o : Ordering) → slice_cmp nat_cmp k l ≡ o → get_member other (with_member k d ms) ≡ get_member other ms
-          → get_member other (match_ordering o (member k d (member l e ms)) (member l d ms) (member l e (with_member k d ms))) ≡ get_member other (member l e ms)
+          → get_member other
+          (match_ordering o (member k d (member l e ms)) (member l d ms) (member l e (with_member k d ms)))
+          ≡ get_member other (member l e ms)
       by Less is rest = passed (slice_cmp nat_cmp other k) h (get_member other (member l e ms)) d
       by Equal is rest =
-          let apart : Differs (slice_cmp nat_cmp other l) = subst (λ t. Differs (slice_cmp nat_cmp other t)) (same_text k l is) h in
-          passed (slice_cmp nat_cmp other l) apart (get_member other ms) d ∙ sym (passed (slice_cmp nat_cmp other l) apart (get_member other ms) e)
+          let apart : Differs (slice_cmp nat_cmp other l) =
+          subst (λ t. Differs (slice_cmp nat_cmp other t)) (same_text k l is) h in
+          passed (slice_cmp nat_cmp other l) apart (get_member other ms) d
+          ∙ sym (passed (slice_cmp nat_cmp other l) apart (get_member other ms) e)
       by Greater is rest = ap (λ found. match_ordering (slice_cmp nat_cmp other l) found (Some e) found) rest
 
   pub own_key : (ms : Members) → get_member k (with_member k d ms) ≡ Some d
@@ -45,19 +51,28 @@ module _ (k : List ℕ) (d : Data) where
   own_key (member l e ms) = by (slice_cmp nat_cmp k l) refl (own_key ms)
     where
       by : (o : Ordering) → slice_cmp nat_cmp k l ≡ o → get_member k (with_member k d ms) ≡ Some d
-          → get_member k (match_ordering o (member k d (member l e ms)) (member l d ms) (member l e (with_member k d ms))) ≡ Some d
-      by Less is rest = ap (λ o. match_ordering o (get_member k (member l e ms)) (Some d) (get_member k (member l e ms))) (tied_itself nat_list_cmp_total k)
+          → get_member k
+          (match_ordering o (member k d (member l e ms)) (member l d ms) (member l e (with_member k d ms))) ≡ Some d
+      by Less is rest =
+          ap (λ o. match_ordering o (get_member k (member l e ms)) (Some d) (get_member k (member l e ms)))
+          (tied_itself nat_list_cmp_total k)
       by Equal is rest = ap (λ o. match_ordering o (get_member k ms) (Some d) (get_member k ms)) is
-      by Greater is rest = ap (λ o. match_ordering o (get_member k (with_member k d ms)) (Some e) (get_member k (with_member k d ms))) is ∙ rest
+      by Greater is rest =
+          ap (λ o. match_ordering o (get_member k (with_member k d ms)) (Some e) (get_member k (with_member k d ms))) is
+          ∙ rest
 
-  pub still_listed : (keys : List Key) → list_any (λ key. bytes_eq (text_of key) k) keys ≡ true → (ms : Members) → are_listed keys ms ≡ true → are_listed keys (with_member k d ms) ≡ true
+  pub still_listed : (keys : List Key) → list_any (λ key. bytes_eq (text_of key) k) keys ≡ true → (ms : Members) →
+      are_listed keys ms ≡ true →
+      are_listed keys (with_member k d ms) ≡ true
   still_listed keys new no_members h = rw new refl
   still_listed keys new (member l e ms) h =
       let (here, rest) = and_parts (list_any (λ key. bytes_eq (text_of key) l) keys) (are_listed keys ms) h in
       by (slice_cmp nat_cmp k l) here rest (still_listed keys new ms rest)
     where
-      by : (o : Ordering) → list_any (λ key. bytes_eq (text_of key) l) keys ≡ true → are_listed keys ms ≡ true → are_listed keys (with_member k d ms) ≡ true
-          → are_listed keys (match_ordering o (member k d (member l e ms)) (member l d ms) (member l e (with_member k d ms))) ≡ true
+      by : (o : Ordering) → list_any (λ key. bytes_eq (text_of key) l) keys ≡ true → are_listed keys ms ≡ true →
+          are_listed keys (with_member k d ms) ≡ true
+          → are_listed keys
+          (match_ordering o (member k d (member l e ms)) (member l d ms) (member l e (with_member k d ms))) ≡ true
       by Less here rest more = rw (new, here) rest
       by Equal here rest more = rw here rest
       by Greater here rest more = rw here more

@@ -1,5 +1,6 @@
 -- The names of an order, as a document has them, and the numbers that they stand for.
-use Rattle.std.proofs.Common.{◌≡◌, ℕ, ◌+◌, ◌<◌, List, [], ◌∷◌, length, get_or, map, Option, Some, None, Ok, refl, sym, ap, ◌∙◌, subst, inl, inr}
+use Rattle.std.proofs.Common.{◌≡◌, ℕ, ◌+◌, ◌<◌, List, [], ◌∷◌, length, get_or, map, Option, Some, None, Ok, refl, sym}
+use Rattle.std.proofs.Common.{ap, ◌∙◌, subst, inl, inr}
 use Rattle.std.specs.Prelude.{All, option_and_then}
 use Rattle.std.specs.List.{AllByRecursion}
 use Rattle.std.proofs.lemmas.Bool.{cases_Bool}
@@ -11,7 +12,8 @@ use Rattle.cpg_reader.specs.declared.place.Table.TheVariants as tables
 use Rattle.cpg_reader.specs.declared.place.Key.TheVariants.{Name, Node}
 use Rattle.cpg_reader.specs.declared.shape.RawProcess.{RawProcess}
 use Rattle.cpg_reader.specs.Reading.{pure, each}
-use Rattle.cpg_reader.specs.Rows.{DocumentRow, is_name, name_if, as_name, items_as, as_names, value_at, optional_in, optional, typed_in, required_in, read_name}
+use Rattle.cpg_reader.specs.Rows.{DocumentRow, is_name, name_if, as_name, items_as, as_names, value_at, optional_in}
+use Rattle.cpg_reader.specs.Rows.{optional, typed_in, required_in, read_name}
 use Rattle.cpg_reader.specs.Shape.{read_process, read_work, process_with}
 use Rattle.cpg_reader.specs.Names.{process_of, number_of, place, process_names}
 use Rattle.cpg_reader.proofs.Steps.{same_ok, each-parts}
@@ -39,7 +41,8 @@ name_is_read : (found : Option (List ℕ)) (name : List ℕ) → option_and_then
 name_is_read None name h = cc
 name_is_read (Some text) name h = read_text text name h
 
-read_value : (row : DocumentRow) (found : Option Data) (name : List ℕ) → optional_in row Name as_name found ≡ Ok (Some name) → IsRead name
+read_value : (row : DocumentRow) (found : Option Data) (name : List ℕ) →
+    optional_in row Name as_name found ≡ Ok (Some name) → IsRead name
 read_value row None name h = cc
 read_value row (Some d) name h = typed (as_name d) refl h
   where
@@ -51,9 +54,11 @@ read_at : (row : DocumentRow) (name : List ℕ) → read_name row Name ≡ Ok na
 unfolding read_name optional
 read_at row name h = opened (optional as_name row Name) (required_in row Name) name h (by row name)
   where
-    by : (row : DocumentRow) (name : List ℕ) (found : Option (List ℕ)) → optional_in row Name as_name (value_at row Name) ≡ Ok found → required_in row Name found ≡ Ok name → IsRead name
+    by : (row : DocumentRow) (name : List ℕ) (found : Option (List ℕ)) →
+        optional_in row Name as_name (value_at row Name) ≡ Ok found → required_in row Name found ≡ Ok name → IsRead name
     by row name None is e = cc
-    by row name (Some text) is e = let same : text ≡ name = cc in read_value row (value_at row Name) name (is ∙ ap (λ t. Ok (Some t)) same)
+    by row name (Some text) is e = let same : text ≡ name = cc in
+        read_value row (value_at row Name) name (is ∙ ap (λ t. Ok (Some t)) same)
 
 -- the name of a process that is read
 process_is_read : (row : DocumentRow) (p : RawProcess) → read_process row ≡ Ok p → IsRead p.name
@@ -61,33 +66,45 @@ unfolding read_process
 process_is_read row p h =
     opened (read_name row Name) _ p h λ name a rest.
     opened (read_name row Node) _ p rest λ node b rest.
-    opened (read_work row) (λ work. pure (process_with name node work)) p (sym (process-parts row name node a b) ∙ h) λ work c last.
+    opened (read_work row) (λ work. pure (process_with name node work)) p
+    (sym (process-parts row name node a b) ∙ h) λ work c last.
     subst IsRead (ap (λ (p : RawProcess). p.name) (same_ok (process_with name node work) p last)) (read_at row name a)
 
-pub read_processes : (i : ℕ) (members : List Members) (ps : List RawProcess) → each (λ i ms. read_process (record { table = tables.Process; index = i; members = ms })) i members ≡ Ok ps →
+pub read_processes : (i : ℕ) (members : List Members) (ps : List RawProcess) →
+    each (λ i ms. read_process (record { table = tables.Process; index = i; members = ms })) i members ≡ Ok ps →
     AllByRecursion IsRead (process_names ps)
 read_processes i [] ps h = subst (λ ps. AllByRecursion IsRead (process_names ps)) (same_ok [] ps h) tt
 read_processes i (ms ∷ rest) ps h =
-    let p = each-parts (λ i ms. read_process (record { table = tables.Process; index = i; members = ms })) i ms rest ps h in
-    subst (λ ps. AllByRecursion IsRead (process_names ps)) (sym p.2) (process_is_read _ p.0 p.3, read_processes (i + 1) rest p.1 p.4)
+    let p =
+    each-parts (λ i ms. read_process (record { table = tables.Process; index = i; members = ms })) i ms rest ps h in
+    subst (λ ps. AllByRecursion IsRead (process_names ps)) (sym p.2)
+    (process_is_read _ p.0 p.3, read_processes (i + 1) rest p.1 p.4)
 
 -- a process is called as the document calls it
-called : (nodes : List (List ℕ)) (i : ℕ) (raw : RawProcess) (p : Process) → process_of nodes i raw ≡ Ok p → p.name ≡ raw.name
+called : (nodes : List (List ℕ)) (i : ℕ) (raw : RawProcess) (p : Process) → process_of nodes i raw ≡ Ok p →
+    p.name ≡ raw.name
 unfolding process_of
-called nodes i raw p h = opened (number_of nodes (place tables.Process i Node) raw.node) _ p h λ node a last. sym (ap (λ (p : Process). p.name) (same_ok _ p last))
+called nodes i raw p h = opened (number_of nodes (place tables.Process i Node) raw.node) _ p h
+    λ node a last. sym (ap (λ (p : Process). p.name) (same_ok _ p last))
 
-pub all_called : (nodes : List (List ℕ)) (i : ℕ) (raws : List RawProcess) (ps : List Process) → each (process_of nodes) i raws ≡ Ok ps → map (λ (p : Process). p.name) ps ≡ process_names raws
+pub all_called : (nodes : List (List ℕ)) (i : ℕ) (raws : List RawProcess) (ps : List Process) →
+    each (process_of nodes) i raws ≡ Ok ps →
+    map (λ (p : Process). p.name) ps ≡ process_names raws
 all_called nodes i [] ps h = ap (map (λ (p : Process). p.name)) (sym (same_ok [] ps h))
 all_called nodes i (raw ∷ raws) ps h =
     let p = each-parts (process_of nodes) i raw raws ps h in
     ap (map (λ (p : Process). p.name)) p.2 ∙ rw (called nodes i raw p.0 p.3, all_called nodes (i + 1) raws p.1 p.4) refl
 
 -- the names of an order are read as they are
-pub names_read : (names : List (List ℕ)) (order : List ℕ) → AllByRecursion IsRead names → All (λ p. p < length names) order
-    → as_names (array (items_of (map (λ p. string (get_or names p [])) order))) ≡ Some (map (λ p. get_or names p []) order)
+pub names_read : (names : List (List ℕ)) (order : List ℕ) → AllByRecursion IsRead names →
+    All (λ p. p < length names) order
+    → as_names (array (items_of (map (λ p. string (get_or names p [])) order)))
+    ≡ Some (map (λ p. get_or names p []) order)
 names_read names order are below = go order (all_by_recursion (λ p. p < length names) order below)
   where
-    go : (order : List ℕ) → AllByRecursion (λ p. p < length names) order → items_as as_name (items_of (map (λ p. string (get_or names p [])) order)) ≡ Some (map (λ p. get_or names p []) order)
+    go : (order : List ℕ) → AllByRecursion (λ p. p < length names) order →
+        items_as as_name (items_of (map (λ p. string (get_or names p [])) order))
+        ≡ Some (map (λ p. get_or names p []) order)
     go [] h = refl
     go (p ∷ ps) h =
         let here : IsRead (get_or names p []) = All-from_recursion IsRead names are p [] h.0 in

@@ -1,5 +1,6 @@
 -- A document with the names of an order at its key `order` says the graph that gives this order.
-use Rattle.std.proofs.Common.{◌≡◌, ℕ, ◌<◌, List, [], All, length, get_or, map, Option, Some, Ok, refl, sym, ap, ◌∙◌, subst}
+use Rattle.std.proofs.Common.{◌≡◌, ℕ, ◌<◌, List, [], All, length, get_or, map, Option, Some, Ok, refl, sym, ap, ◌∙◌}
+use Rattle.std.proofs.Common.{subst}
 use Rattle.std.proofs.lemmas.List.{length-map}
 use mathlib.Core.List.{map-map}
 use Rattle.toml.specs.Data.{Members, string, array}
@@ -10,7 +11,8 @@ use Rattle.cpg_base.specs.declared.process.Process.{Process}
 use Rattle.cpg_reader.specs.declared.place.Table.TheVariants as tables
 use Rattle.cpg_reader.specs.declared.place.Key.TheVariants.{Node, Name}
 use Rattle.cpg_reader.specs.Document.{document_of, read_members, problem_of}
-use Rattle.cpg_reader.specs.Names.{apart, slot_of, process_of, edge_of, order_of, order_apart, slot_names, process_names, graph_with, graph_of, resolved}
+use Rattle.cpg_reader.specs.Names.{apart, slot_of, process_of, edge_of, order_of, order_apart, slot_names}
+use Rattle.cpg_reader.specs.Names.{process_names, graph_with, graph_of, resolved}
 use Rattle.cpg_reader.specs.Ranges.{limits}
 use Rattle.cpg_reader.specs.RawOf.{raw_of, raw_process, name_in, names_of}
 use Rattle.cpg_reader.specs.Reading.{each}
@@ -35,7 +37,8 @@ names_back : (g : Graph) → process_names (raw_of g).processes ≡ names_of g.p
 names_back g = map-map (λ p. p.name) (raw_process g.nodes) g.processes
 
 -- by what is known of a document that is written
-are_numbered : (g : Graph) (order : List ℕ) → IsWithinLimits g → IsOrderWithin (process_count g) order → AreNumbered (names_of g.processes) order
+are_numbered : (g : Graph) (order : List ℕ) → IsWithinLimits g → IsOrderWithin (process_count g) order →
+    AreNumbered (names_of g.processes) order
 unfolding graph_of resolved
 are_numbered g order limited within =
     let h = with_order g order in
@@ -50,7 +53,8 @@ are_numbered g order limited within =
     opened (order_of (process_names raw.processes) raw.order) _ h rest λ found numbers last.
     record {
       apart = differ;
-      numbers = ap (λ names. order_of names raw.order) (sym (names_back h)) ∙ numbers ∙ ap (λ (g : Graph). Ok g.order) (same_ok (graph_with raw slots processes edges found) h last);
+      numbers = ap (λ names. order_of names raw.order) (sym (names_back h)) ∙ numbers
+          ∙ ap (λ (g : Graph). Ok g.order) (same_ok (graph_with raw slots processes edges found) h last);
     }
 
 -- a graph is called as its document calls it
@@ -65,10 +69,12 @@ same_names r g h =
     opened (each (process_of r.nodes) 0 r.processes) _ g rest λ processes ps rest.
     opened (each (edge_of (process_names r.processes)) 0 r.edges) _ g rest λ edges _ rest.
     opened (order_of (process_names r.processes) r.order) _ g rest λ found _ last.
-    ap (λ (g : Graph). names_of g.processes) (sym (same_ok (graph_with r slots processes edges found) g last)) ∙ all_called r.nodes 0 r.processes processes ps
+    ap (λ (g : Graph). names_of g.processes) (sym (same_ok (graph_with r slots processes edges found) g last))
+    ∙ all_called r.nodes 0 r.processes processes ps
 
 -- with the names of an order a document says the graph that gives it
-graph_ordered : (r : RawGraph) (g : Graph) (order : List ℕ) → graph_of r ≡ Ok g → AreNumbered (process_names r.processes) order
+graph_ordered : (r : RawGraph) (g : Graph) (order : List ℕ) → graph_of r ≡ Ok g →
+    AreNumbered (process_names r.processes) order
     → graph_of (record r { order = Some (map (name_in (process_names r.processes)) order) }) ≡ Ok (with_order g order)
 unfolding graph_of resolved
 graph_ordered r g order h are =
@@ -80,27 +86,40 @@ graph_ordered r g order h are =
     opened (each (process_of r.nodes) 0 r.processes) _ g rest λ processes e rest.
     opened (each (edge_of (process_names r.processes)) 0 r.edges) _ g rest λ edges f rest.
     opened (order_of (process_names r.processes) r.order) _ g rest λ found _ last.
-    rw (a, b, c, are.apart, d, e, f, are.numbers) (ap (λ (g : Graph). Ok (with_order g order)) (same_ok (graph_with r slots processes edges found) g last))
+    rw (a, b, c, are.apart, d, e, f, are.numbers)
+    (ap (λ (g : Graph). Ok (with_order g order)) (same_ok (graph_with r slots processes edges found) g last))
 
 same_limits : (r : RawGraph) (order : Option (List (List ℕ))) → limits (record r { order = order }) ≡ limits r
 unfolding limits
 same_limits r order = refl
 
-read_with : (ms : Members) (g : Graph) (order : List ℕ) → read_members ms ≡ Ok g → IsOrderWithin (process_count g) order → read_members (with_key g order ms) ≡ Ok (with_order g order)
+read_with : (ms : Members) (g : Graph) (order : List ℕ) → read_members ms ≡ Ok g →
+    IsOrderWithin (process_count g) order →
+    read_members (with_key g order ms) ≡ Ok (with_order g order)
 unfolding read_members
 read_with ms g order h within =
     opened (read_raw ms) _ g h λ r raw rest.
     passed_on (limits r) _ g rest λ x limited graph.
     let same = same_names r g graph in
-    let count : length (process_names r.processes) ≡ process_count g = ap length (sym same) ∙ length-map g.processes (λ (p : Process). p.name) in
-    let are : AreNumbered (process_names r.processes) order = subst (λ names. AreNumbered names order) same (are_numbered g order (graph-within r g limited graph) within) in
+    let count : length (process_names r.processes) ≡ process_count g =
+    ap length (sym same) ∙ length-map g.processes (λ (p : Process). p.name) in
+    let are : AreNumbered (process_names r.processes) order =
+    subst (λ names. AreNumbered names order) same (are_numbered g order (graph-within r g limited graph) within) in
     let read : as_names (names_along g order) ≡ Some (map (name_in (process_names r.processes)) order) =
     ap (λ names. as_names (array (items_of (map (λ p. string (get_or names p [])) order)))) same
-    ∙ names_read (process_names r.processes) order (raw_processes ms r raw) (subst (λ n. All (λ p. p < n) order) (sym count) within.there) in
-    rw (raw_with (names_along g order) ms r (map (name_in (process_names r.processes)) order) read raw, same_limits r (Some (map (name_in (process_names r.processes)) order)), limited)
+    ∙ names_read (process_names r.processes) order (raw_processes ms r raw)
+    (subst (λ n. All (λ p. p < n) order) (sym count) within.there) in
+    rw (
+      raw_with (names_along g order) ms r (map (name_in (process_names r.processes)) order) read raw,
+      same_limits r (Some (map (name_in (process_names r.processes)) order)),
+      limited,
+    )
     (graph_ordered r g order graph are)
 
-pub orders_are_read : (bytes new : List ℕ) (ms : Members) (g : Graph) (order : List ℕ) → document_of bytes ≡ Ok ms → problem_of bytes ≡ Ok g
-    → IsOrderWithin (process_count g) order → document_of new ≡ Ok (with_key g order ms) → problem_of new ≡ Ok (with_order g order)
+pub orders_are_read : (bytes new : List ℕ) (ms : Members) (g : Graph) (order : List ℕ) → document_of bytes ≡ Ok ms →
+    problem_of bytes ≡ Ok g
+    → IsOrderWithin (process_count g) order → document_of new ≡ Ok (with_key g order ms) →
+    problem_of new ≡ Ok (with_order g order)
 unfolding problem_of
-orders_are_read bytes new ms g order is says within keyed = rw keyed (read_with ms g order (let e = rw is at says in e) within)
+orders_are_read bytes new ms g order is says within keyed =
+    rw keyed (read_with ms g order (let e = rw is at says in e) within)

@@ -10,8 +10,10 @@ use Rattle.cpg_run.specs.Run.{IsRun}
 use Rattle.cpg_reach.specs.Wide.{IsNarrow, IsLeastWide}
 use Rattle.cpg_core.specs.declared.fault.CompileFault.TheVariants.{TooWide}
 use Rattle.cpg_core.specs.Compilation.{ShowsCompileFault}
-use Rattle.cpg_core.specs.Compiled.{IsMeasured, IsLateUnder, IsPreferred, IsCompileOrder, IsCompiled, IsLate, IsShownLate}
-use Rattle.cpg_given_laws.specs.Without.{IsTrackOrderPreferred, IsBetterOfTwo, IsCompiledByTwo, IsLateByTwo, IsShownLateByUrgency, NothingChangesWithoutTheKey}
+use Rattle.cpg_core.specs.Compiled.{IsMeasured, IsLateUnder, IsPreferred, IsCompileOrder, IsCompiled, IsLate}
+use Rattle.cpg_core.specs.Compiled.{IsShownLate}
+use Rattle.cpg_given_laws.specs.Without.{IsTrackOrderPreferred, IsBetterOfTwo, IsCompiledByTwo, IsLateByTwo}
+use Rattle.cpg_given_laws.specs.Without.{IsShownLateByUrgency, NothingChangesWithoutTheKey}
 
 module _ (g : Graph) (urgency : List ℕ) (none : g.order ≡ None) where
   first : first_order g urgency ≡ urgency
@@ -75,7 +77,11 @@ module _ (g : Graph) (urgency : List ℕ) (none : g.order ≡ None) where
       late = back (IsLateUnder g urgency) l.late;
       helpless = elim l.helpless [ inl given ↦ absurd (given none) | inr h ↦ h ];
     },
-    λ l. record { narrow = λ _. forth (IsNarrow g) l.narrow; late = forth (IsLateUnder g urgency) l.late; helpless = inr l.helpless },
+    λ l. record {
+      narrow = λ _. forth (IsNarrow g) l.narrow;
+      late = forth (IsLateUnder g urgency) l.late;
+      helpless = inr l.helpless;
+    },
   )
 
   shown : (s : Scenario) (p time : ℕ) → IsShownLate g urgency s p time ↔ IsShownLateByUrgency g urgency s p time
@@ -101,8 +107,15 @@ module _ (g : Graph) (urgency : List ℕ) (none : g.order ≡ None) where
   )
 
   wide : (x : ℕ) → ShowsCompileFault g urgency (TooWide x) ↔ IsLeastWide g urgency x
-  wide x = (λ w. back (λ o. IsLeastWide g o x) w.0, λ w. (forth (λ o. IsLeastWide g o x) w, λ given. absurd (given none)))
+  wide x =
+      (λ w. back (λ o. IsLeastWide g o x) w.0, λ w. (forth (λ o. IsLeastWide g o x) w, λ given. absurd (given none)))
 
 pub nothing_changes_without_the_key : NothingChangesWithoutTheKey
 nothing_changes_without_the_key g urgency none =
-    record { taken = taken g urgency none; compiled = compiled g urgency none; late = late g urgency none; shown = shown g urgency none; wide = wide g urgency none }
+    record {
+      taken = taken g urgency none;
+      compiled = compiled g urgency none;
+      late = late g urgency none;
+      shown = shown g urgency none;
+      wide = wide g urgency none;
+    }

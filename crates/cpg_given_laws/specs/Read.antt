@@ -19,5 +19,7 @@ with_key g order ms = with_member (codes "order") (names_along g order) ms
 
 -- If a file says a graph, a file whose document is the same but for this key says the graph that gives the order.
 abbrev pub GivenOrdersAreRead : Type 0
-GivenOrdersAreRead = (bytes new : List ℕ) (ms : Members) (g : Graph) (order : List ℕ) → document_of bytes ≡ Ok ms → problem_of bytes ≡ Ok g →
-    IsOrderWithin (process_count g) order → document_of new ≡ Ok (with_key g order ms) → problem_of new ≡ Ok (with_order g order)
+GivenOrdersAreRead = (bytes new : List ℕ) (ms : Members) (g : Graph) (order : List ℕ) → document_of bytes ≡ Ok ms →
+    problem_of bytes ≡ Ok g →
+    IsOrderWithin (process_count g) order → document_of new ≡ Ok (with_key g order ms) →
+    problem_of new ≡ Ok (with_order g order)

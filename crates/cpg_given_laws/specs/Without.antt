@@ -1,4 +1,5 @@
--- What a compile answers for a graph that gives no order, in words that know nothing of given orders: as it was before there was the key.
+-- What a compile answers for a graph that gives no order, in words that know nothing of given orders: as it was before
+-- there was the key.
 use Rattle.std.specs.Prelude.{ℕ, ◌≡◌, ◌⊎◌, ◌↔◌, List, Option, None, Some, get_or}
 use Rattle.cpg_base.specs.Graph.{Graph}
 use Rattle.cpg_base.specs.Scenario.{Scenario}
@@ -9,7 +10,8 @@ use Rattle.cpg_reach.specs.Wide.{IsWide, IsNarrow, IsLeastWide}
 use Rattle.cpg_tracks.specs.Tracks.{HasTrackOrder, HasManyTracks}
 use Rattle.cpg_core.specs.declared.fault.CompileFault.TheVariants.{TooWide}
 use Rattle.cpg_core.specs.Compilation.{ShowsCompileFault}
-use Rattle.cpg_core.specs.Compiled.{IsMeasured, IsBetter, IsLateUnder, IsInTimeUnder, IsCompileOrder, IsCompiled, IsLate, IsShownLate}
+use Rattle.cpg_core.specs.Compiled.{IsMeasured, IsBetter, IsLateUnder, IsInTimeUnder, IsCompileOrder, IsCompiled}
+use Rattle.cpg_core.specs.Compiled.{IsLate, IsShownLate}
 
 -- the track order, if no item is too wide under it and it is better than the urgency order
 pub record IsTrackOrderPreferred (g : Graph) (urgency order : List ℕ) : Type 0 where
@@ -34,14 +36,16 @@ pub record IsCompiledByTwo (g : Graph) (urgency order : List ℕ) : Type 0 where
   pub taken : IsBetterOfTwo g urgency order
   pub in_time : IsInTimeUnder g urgency order
 
--- no tables are written: under the urgency order some process is late, and no track order exists, or an item is too wide under it, or
--- its excess is above 0
+-- no tables are written: under the urgency order some process is late, and no track order exists, or an item is too
+-- wide under it, or its excess is above 0
 pub record IsLateByTwo (g : Graph) (urgency : List ℕ) : Type 0 where
   pub narrow : IsNarrow g urgency
   pub late : IsLateUnder g urgency urgency
-  pub helpless : HasManyTracks g ⊎ ((order : List ℕ) × HasTrackOrder g order × (((x : ℕ) × IsWide g order x) ⊎ IsLateUnder g urgency order))
+  pub helpless : HasManyTracks g ⊎
+      ((order : List ℕ) × HasTrackOrder g order × (((x : ℕ) × IsWide g order x) ⊎ IsLateUnder g urgency order))
 
--- what a late compile shows, all under the urgency order: the excess's scenario, its process, and the end of that process there
+-- what a late compile shows, all under the urgency order: the excess's scenario, its process, and the end of that
+-- process there
 pub record IsShownLateByUrgency (g : Graph) (urgency : List ℕ) (s : Scenario) (p time : ℕ) : Type 0 where
   pub frozen : List (Option ℕ)
   pub frozen_times : AreFrozenTimes g urgency frozen

@@ -1,5 +1,6 @@
 -- The head for a graph within its limits keeps those of a head.
-use Rattle.std.proofs.Common.{◌≡◌, ◌≤◌, ◌<◌, ◌+◌, ◌*◌, ◌^◌, IfSome, ℕ, List, [], ◌∷◌, Bool, true, false, Option, Some, None, is_some, All, Contains, cond, length, map, count_by, refl, sym, subst, ap}
+use Rattle.std.proofs.Common.{◌≡◌, ◌≤◌, ◌<◌, ◌+◌, ◌*◌, ◌^◌, IfSome, ℕ, List, [], ◌∷◌, Bool, true, false, Option, Some}
+use Rattle.std.proofs.Common.{None, is_some, All, Contains, cond, length, map, count_by, refl, sym, subst, ap}
 use Rattle.std.proofs.Common.{◌∙◌, arith, true≢false}
 use Rattle.std.specs.Int.{div_ceil}
 use Rattle.std.specs.List.{list_all}
@@ -9,19 +10,22 @@ use Rattle.std.proofs.lemmas.List.FromFn.{length-map-range_with_len}
 use Rattle.std.proofs.lemmas.List.Elements.{All-map, All-weaker, All-contains_itself, All-get_or}
 use Rattle.std.proofs.lemmas.List.Sums.{length-filter, sum_by-cons}
 use Rattle.cpg_base.specs.Numbers.{numbers_below}
-use Rattle.cpg_base.specs.Graph.{Graph, process_count, process_at, condition_of, process_of, is_disjunction, condition_count}
+use Rattle.cpg_base.specs.Graph.{Graph, process_count, process_at, condition_of, process_of, is_disjunction}
+use Rattle.cpg_base.specs.Graph.{condition_count}
 use Rattle.cpg_base.specs.declared.process.Process.{Process}
 use Rattle.cpg_base.specs.Duration.{duration, duration_of}
 use Rattle.cpg_base.specs.Limits.{IsWithinLimits, IsProcessWithin, IsEdgeWithin}
 use Rattle.cpg_base.proofs.Lists.{same_truth, same_filter, numbers-Contains, Contains-filter_parts}
-use Rattle.cpg_base.proofs.ConditionProcesses.{condition_of_below, Contains-disjunctions, condition_there, condition_of_process_of, process_of_condition_of}
+use Rattle.cpg_base.proofs.ConditionProcesses.{condition_of_below, Contains-disjunctions, condition_there}
+use Rattle.cpg_base.proofs.ConditionProcesses.{condition_of_process_of, process_of_condition_of}
 use Rattle.cpg_head.specs.Head.{HeadProcess, IsHead, IsHeadProcess, IsHeadEdge, IsExtra, AreExtras}
 use Rattle.cpg_head.specs.GraphHead.{head_process, extra_of, is_plain, head_of}
 
 -- an execution is short
 short : (n : ℕ) (p : Process) (f : ℕ) → IsProcessWithin n p → f ≤ 8 → duration_of p f < 2 ^ 60
 short n p f w h =
-    let parts : p.parts * (p.alpha + p.chi) ≤ 255 * 2000000000 = mul-le-mul w.parts (let e : p.alpha + p.chi ≤ 2000000000 = omega (arith, w.alpha, w.chi) in e) in
+    let parts : p.parts * (p.alpha + p.chi) ≤ 255 * 2000000000 =
+    mul-le-mul w.parts (let e : p.alpha + p.chi ≤ 2000000000 = omega (arith, w.alpha, w.chi) in e) in
     let again : div_ceil p.wcet p.parts ≤ 1000000001 = omega (arith, div-le_self p.wcet p.parts, w.wcet) in
     let faults : f * (p.mu + div_ceil p.wcet p.parts + p.alpha) ≤ 8 * 3000000001 = mul-le-mul h
     (let e : p.mu + div_ceil p.wcet p.parts + p.alpha ≤ 3000000001 = omega (arith, w.mu, w.alpha, again) in e) in
@@ -29,11 +33,14 @@ short n p f w h =
 
 -- what holds of each number below a bound
 pub All-below : (P : ℕ → Type 0) (n : ℕ) → ((x : ℕ) → x < n → P x) → All P (numbers_below n)
-All-below P n h = All-weaker (Contains (numbers_below n)) P (λ x c. h x (numbers-Contains n x c)) (numbers_below n) (All-contains_itself (numbers_below n))
+All-below P n h = All-weaker (Contains (numbers_below n)) P (λ x c. h x (numbers-Contains n x c)) (numbers_below n)
+    (All-contains_itself (numbers_below n))
 
-count_by-map : {X Y : Type 0} (p : Y → Bool) (f : X → Y) (xs : List X) → count_by p (map f xs) ≡ count_by (λ x. p (f x)) xs
+count_by-map : {X Y : Type 0} (p : Y → Bool) (f : X → Y) (xs : List X) →
+    count_by p (map f xs) ≡ count_by (λ x. p (f x)) xs
 count_by-map p f [] = refl
-count_by-map p f (x ∷ xs) = sum_by-cons (λ y. cond (p y) 1 0) (f x) (map f xs) ∙ ap (λ n. cond (p (f x)) 1 0 + n) (count_by-map p f xs)
+count_by-map p f (x ∷ xs) =
+    sum_by-cons (λ y. cond (p y) 1 0) (f x) (map f xs) ∙ ap (λ n. cond (p (f x)) 1 0 + n) (count_by-map p f xs)
     ∙ sym (sum_by-cons (λ y. cond (p (f y)) 1 0) x xs)
 
 some_of : (o : Option ℕ) → is_some o ≡ true → (c : ℕ) × (o ≡ Some c)
@@ -46,47 +53,58 @@ module _ (g : Graph) where
   has_condition p l = same_truth (is_some (condition_of g p)) (is_disjunction g p)
       (λ e. let c = some_of (condition_of g p) e in
       subst (λ q. is_disjunction g q ≡ true) (process_of_condition_of g p c.0 c.1)
-      (Contains-filter_parts (is_disjunction g) (numbers_below (process_count g)) (process_of g c.0) (Contains-disjunctions g c.0 (condition_of_below g p c.0 c.1))).1)
-      (λ e. let c = condition_there g p l e in ap is_some (ap (condition_of g) (sym c.2) ∙ condition_of_process_of g c.0 c.1))
+      (Contains-filter_parts (is_disjunction g) (numbers_below (process_count g)) (process_of g c.0)
+      (Contains-disjunctions g c.0 (condition_of_below g p c.0 c.1))).1)
+      (λ e. let c = condition_there g p l e in
+      ap is_some (ap (condition_of g) (sym c.2) ∙ condition_of_process_of g c.0 c.1))
 
   pub conditions_counted : count_by (λ p. p.condition) (head_of g).processes ≡ condition_count g
   conditions_counted =
       count_by-map (λ (p : HeadProcess). p.condition) (head_process g) (numbers_below (process_count g))
       ∙ sym (length-filter (λ p. is_some (condition_of g p)) (numbers_below (process_count g)))
-      ∙ ap length (same_filter (λ p. is_some (condition_of g p)) (is_disjunction g) (numbers_below (process_count g)) (λ p c. has_condition p (numbers-Contains (process_count g) p c)))
+      ∙ ap length (same_filter (λ p. is_some (condition_of g p)) (is_disjunction g) (numbers_below (process_count g))
+      (λ p c. has_condition p (numbers-Contains (process_count g) p c)))
 
   module _ (w : IsWithinLimits g) where
     process_within : (p : ℕ) → p < process_count g → IsHeadProcess g.faults (length g.nodes) (head_process g p)
     process_within p l =
-        let at : IsProcessWithin (length g.nodes) (process_at g p) = All-get_or (IsProcessWithin (length g.nodes)) g.processes p _ l w.processes in
+        let at : IsProcessWithin (length g.nodes) (process_at g p) =
+        All-get_or (IsProcessWithin (length g.nodes)) g.processes p _ l w.processes in
         record {
           node = at.node;
           count = length-map-range_with_len (duration g p) 0 (g.faults + 1);
           times = All-map (λ t. t < 2 ^ 60) (duration g p) (numbers_below (g.faults + 1))
-              (All-below (λ f. duration g p f < 2 ^ 60) (g.faults + 1) (λ f h. short (length g.nodes) (process_at g p) f at (omega (arith, w.faults))));
+              (All-below (λ f. duration g p f < 2 ^ 60) (g.faults + 1)
+              (λ f h. short (length g.nodes) (process_at g p) f at (omega (arith, w.faults))));
         }
 
-    extras_within : (b : Bool) → IfSome (cond b None (Some (map extra_of g.processes))) (AreExtras (length (head_of g).processes))
+    extras_within : (b : Bool) →
+        IfSome (cond b None (Some (map extra_of g.processes))) (AreExtras (length (head_of g).processes))
     extras_within true = tt
     extras_within false = record {
       count = length-map g.processes extra_of ∙ sym (length-map-range_with_len (head_process g) 0 (process_count g));
       each = All-map IsExtra extra_of g.processes
-          (All-weaker (IsProcessWithin (length g.nodes)) (λ p. IsExtra (extra_of p)) (λ p a. record { release = a.release; deadline = a.deadline }) g.processes w.processes);
+          (All-weaker (IsProcessWithin (length g.nodes)) (λ p. IsExtra (extra_of p))
+          (λ p a. record { release = a.release; deadline = a.deadline }) g.processes w.processes);
     }
 
     pub head_within : IsHead (head_of g)
     head_within =
-        let count : length (head_of g).processes ≡ process_count g = length-map-range_with_len (head_process g) 0 (process_count g) in
+        let count : length (head_of g).processes ≡ process_count g =
+        length-map-range_with_len (head_process g) 0 (process_count g) in
         record {
           faults = w.faults;
           few_nodes = w.few_nodes;
           few_processes = omega (arith, count, w.few_processes);
           few_conditions = omega (arith, conditions_counted, w.few_conditions);
           few_edges = omega (arith, length-map {B = ℕ × ℕ} g.edges (λ e. (e.from, e.to)), w.few_edges);
-          processes = All-map (IsHeadProcess g.faults (length g.nodes)) (head_process g) (numbers_below (process_count g))
-              (All-below (λ p. IsHeadProcess g.faults (length g.nodes) (head_process g p)) (process_count g) process_within);
+          processes =
+              All-map (IsHeadProcess g.faults (length g.nodes)) (head_process g) (numbers_below (process_count g))
+              (All-below (λ p. IsHeadProcess g.faults (length g.nodes) (head_process g p))
+              (process_count g) process_within);
           edges = All-map (IsHeadEdge (length (head_of g).processes)) (λ e. (e.from, e.to)) g.edges
-              (All-weaker (IsEdgeWithin (process_count g)) (λ e. IsHeadEdge (length (head_of g).processes) (e.from, e.to))
+              (All-weaker (IsEdgeWithin (process_count g))
+              (λ e. IsHeadEdge (length (head_of g).processes) (e.from, e.to))
               (λ e a. record { from = omega (arith, count, a.from); to = omega (arith, count, a.to) }) g.edges w.edges);
           extras = extras_within (list_all is_plain g.processes);
         }

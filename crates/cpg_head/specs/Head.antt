@@ -1,11 +1,13 @@
 -- The head of a pack: what its tables were made for.
-use Rattle.std.specs.Prelude.{ℕ, ◌≡◌, ◌+◌, ◌^◌, ◌≤◌, ◌<◌, List, Option, length, is_some, slice_get, option_and_then, count_by, All, IfSome, if◌then◌else◌}
-use Rattle.cpg_base.specs.declared.limits.TheConstants.{MOST_FAULTS, MOST_NODES, MOST_PROCESSES, MOST_EDGES, MOST_CONDITIONS, LONGEST}
+use Rattle.std.specs.Prelude.{ℕ, ◌≡◌, ◌+◌, ◌^◌, ◌≤◌, ◌<◌, List, Option, length, is_some, slice_get, option_and_then}
+use Rattle.std.specs.Prelude.{count_by, All, IfSome, if◌then◌else◌}
+use Rattle.cpg_base.specs.declared.limits.TheConstants.{MOST_FAULTS, MOST_NODES, MOST_PROCESSES, MOST_EDGES}
+use Rattle.cpg_base.specs.declared.limits.TheConstants.{MOST_CONDITIONS, LONGEST}
 pub use Rattle.cpg_head.specs.declared.head_parts.HeadProcess.{HeadProcess}
 pub use Rattle.cpg_head.specs.declared.head_parts.Extra.{Extra}
 
--- The number of faults, the names of the nodes, the processes and the ends of the edges; in version 2 also what it adds for
--- each process.
+-- The number of faults, the names of the nodes, the processes and the ends of the edges; in version 2 also what it adds
+-- for each process.
 pub record Head : Type 0 where
   pub faults : ℕ
   pub nodes : List (List ℕ)

@@ -1,7 +1,8 @@
 -- What a shelf gave, fetch by fetch.
 use Rattle.std.specs.Prelude.{ℕ, ◌++◌, ◌||◌, Bool, true, false, List, [], ◌∷◌}
 
--- a fetch: the name, the bytes that reads have given since, whether a read gave none, and whether the fetch or a read failed
+-- a fetch: the name, the bytes that reads have given since, whether a read gave none, and whether the fetch or a read
+-- failed
 pub record Fetch : Type 0 where
   pub name : List ℕ
   pub given : List ℕ
@@ -19,7 +20,8 @@ fetched name past = record { name = name; given = []; ended = false; failed = fa
 -- The history after a read, which gives no bytes at the end of the file. Before the first fetch nothing is noted.
 abbrev pub gave : List ℕ → List Fetch → List Fetch
 gave piece [] = []
-gave piece (f ∷ past) = record { name = f.name; given = f.given ++ piece; ended = is_none piece || f.ended; failed = f.failed } ∷ past
+gave piece (f ∷ past) =
+    record { name = f.name; given = f.given ++ piece; ended = is_none piece || f.ended; failed = f.failed } ∷ past
 
 -- the history after a call failed
 abbrev pub failed : List Fetch → List Fetch

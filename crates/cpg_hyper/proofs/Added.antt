@@ -1,5 +1,6 @@
 -- Processes that are added, instance by instance.
-use Rattle.std.proofs.Common.{◌≡◌, ℕ, ◌+◌, ◌<◌, ◌≤◌, Bool, true, false, List, [], ◌∷◌, ◌++◌, length, append-nil, append_assoc, get_or, take, map, refl, sym, ap, ◌∙◌, subst, arith, inl, inr, ⊎_elim}
+use Rattle.std.proofs.Common.{◌≡◌, ℕ, ◌+◌, ◌<◌, ◌≤◌, Bool, true, false, List, [], ◌∷◌, ◌++◌, length, append-nil}
+use Rattle.std.proofs.Common.{append_assoc, get_or, take, map, refl, sym, ap, ◌∙◌, subst, arith, inl, inr, ⊎_elim}
 use Rattle.std.proofs.Common.{◌⊎◌}
 use Rattle.std.proofs.lemmas.List.{map_push, get_or_default}
 use Rattle.std.proofs.lemmas.Bool.{cases_lt}
@@ -11,16 +12,21 @@ use Rattle.cpg_hyper.proofs.Counted.{empty_pieces}
 use Rattle.cpg_hyper.proofs.Taken.{more}
 
 -- one more element made
-pub made_more : {X Y : Type 0} (xs : List X) (i : ℕ) (x : X) → i < length xs → x ≡ get_or xs i x → (f : X → Y) (old made new : List Y) → made ≡ old ++ map f (take i xs) → new ≡ made ++ f x ∷ [] →
+pub made_more : {X Y : Type 0} (xs : List X) (i : ℕ) (x : X) → i < length xs → x ≡ get_or xs i x →
+    (f : X → Y) (old made new : List Y) → made ≡ old ++ map f (take i xs) →
+    new ≡ made ++ f x ∷ [] →
     new ≡ old ++ map f (take (i + 1) xs)
-made_more xs i x h is f old made new so_far is_new = is_new ∙ ap (λ ys. ys ++ f x ∷ []) so_far ∙ append_assoc old (map f (take i xs)) (f x ∷ [])
+made_more xs i x h is f old made new so_far is_new =
+    is_new ∙ ap (λ ys. ys ++ f x ∷ []) so_far ∙ append_assoc old (map f (take i xs)) (f x ∷ [])
     ∙ ap (λ ys. old ++ ys) (sym (map_push f (take i xs) x) ∙ ap (map f) (sym (more xs i x h is)))
 
-pub added_true : (b : Bool) (old new pieces : List Process) (S : Type 0) → b ≡ true → AddsShort b old new pieces S → (new ≡ old ++ pieces) × S
+pub added_true : (b : Bool) (old new pieces : List Process) (S : Type 0) → b ≡ true → AddsShort b old new pieces S →
+    (new ≡ old ++ pieces) × S
 added_true true old new pieces S e h = h
 added_true false old new pieces S e h = cc
 
-pub added_false : (b : Bool) (old new pieces : List Process) (S : Type 0) → b ≡ false → AddsShort b old new pieces S → S → ⊥
+pub added_false : (b : Bool) (old new pieces : List Process) (S : Type 0) → b ≡ false →
+    AddsShort b old new pieces S → S → ⊥
 added_false false old new pieces S e h = h
 added_false true old new pieces S e h = cc
 
@@ -36,12 +42,20 @@ nil_of [] e = refl
 nil_of (x ∷ xs) e = absurd (omega (arith, e))
 
 -- nothing is added of a part without processes
-pub nothing_added : (out : List Process) (whole p : ℕ) (part : Part) → size_of part ≡ 0 → AddsShort true out out (processes_of whole p part) (HasShortNames whole p part)
+pub nothing_added : (out : List Process) (whole p : ℕ) (part : Part) → size_of part ≡ 0 →
+    AddsShort true out out (processes_of whole p part) (HasShortNames whole p part)
 nothing_added out whole p part e =
     let none = nil_of part.problem.processes e in (
-      sym (ap (λ xs. out ++ xs) (empty_pieces (processes_in p part) (λ i. rw none refl) (instances whole part)) ∙ append-nil out),
+      sym (ap (λ xs. out ++ xs) (empty_pieces (processes_in p part) (λ i. rw none refl) (instances whole part))
+          ∙ append-nil out),
       λ i l k d m. absurd (omega (arith, m, e)),
     )
 
-pub fails_at : (P : ℕ → Part → Type 0) (parts : List Part) (p : ℕ) (part : Part) → p < length parts → part ≡ get_or parts p part → (P p part → ⊥) → HoldsBefore P parts p → FailsFirst P parts p
-fails_at P parts p part l is fails before = record { within = l; fails = λ d h. fails (subst (P p) (get_or_default parts p d part l ∙ sym is) h); before = before }
+pub fails_at : (P : ℕ → Part → Type 0) (parts : List Part) (p : ℕ) (part : Part) → p < length parts →
+    part ≡ get_or parts p part → (P p part → ⊥) → HoldsBefore P parts p →
+    FailsFirst P parts p
+fails_at P parts p part l is fails before = record {
+  within = l;
+  fails = λ d h. fails (subst (P p) (get_or_default parts p d part l ∙ sym is) h);
+  before = before;
+}

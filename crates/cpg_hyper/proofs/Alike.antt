@@ -1,13 +1,17 @@
--- Instances are active and live as their parts: a copy's inputs are the copies of its process's, and conditions have the values of the scenario on the instance.
-use Rattle.std.proofs.Common.{◌≡◌, ℕ, zero, suc, ◌+◌, ◌-◌, ◌<◌, Bool, true, false, ◌&&◌, if◌then◌else◌, List, [], ◌∷◌, map, filter, get_or, Option, Some, None, is_some, unwrap_or, Contains, refl, sym}
+-- Instances are active and live as their parts: a copy's inputs are the copies of its process's, and conditions have
+-- the values of the scenario on the instance.
+use Rattle.std.proofs.Common.{◌≡◌, ℕ, zero, suc, ◌+◌, ◌-◌, ◌<◌, Bool, true, false, ◌&&◌, if◌then◌else◌, List, [], ◌∷◌}
+use Rattle.std.proofs.Common.{map, filter, get_or, Option, Some, None, is_some, unwrap_or, Contains, refl, sym}
 use Rattle.std.proofs.Common.{ap, ap₂, ◌∙◌, subst, arith}
 use Rattle.std.specs.List.{list_all}
 use Rattle.std.proofs.lemmas.List.{get_or-map}
 use Rattle.std.proofs.lemmas.List.Folds.{list_all-map}
 use Rattle.std.proofs.lemmas.List.Elements.{Contains-get_or}
 use Rattle.cpg_base.specs.Numbers.{numbers_below}
-use Rattle.cpg_base.specs.Graph.{Graph, process_count, edge_count, process_at, edge_at, source, target, inputs, outputs, is_disjunction, disjunctions, condition_of}
-use Rattle.cpg_base.specs.Activity.{is_active, takes, by_first, value_of, activation_by, activation_within, activation, active, live}
+use Rattle.cpg_base.specs.Graph.{Graph, process_count, edge_count, process_at, edge_at, source, target, inputs, outputs}
+use Rattle.cpg_base.specs.Graph.{is_disjunction, disjunctions, condition_of}
+use Rattle.cpg_base.specs.Activity.{is_active, takes, by_first, value_of, activation_by, activation_within, activation}
+use Rattle.cpg_base.specs.Activity.{active, live}
 use Rattle.cpg_base.specs.Limits.{IsWithinLimits, IsEdgeWithin}
 use Rattle.cpg_base.specs.declared.activation.Activation.{Activation}
 use Rattle.cpg_base.specs.declared.activation.Activation.TheVariants.{Inactive, Plain, By}
@@ -23,7 +27,8 @@ use Rattle.cpg_base.proofs.Places.{position-place, place-lt, get_or-place}
 use Rattle.cpg_hyper.specs.declared.part.Part.{Part}
 use Rattle.cpg_hyper.specs.Unrolled.{copied_edge, size_of, unrolled, first_graph}
 use Rattle.cpg_hyper.specs.Instances.{part_at, IsInstance, first_of, first_edge_of, scenario_of, copied_activation}
-use Rattle.cpg_hyper.specs.Laws.{AreWithinLimits, InstancesHaveConditions, InstancesAreActivatedAlike, InstancesAreActiveAlike, InstancesAreLiveAlike}
+use Rattle.cpg_hyper.specs.Laws.{AreWithinLimits, InstancesHaveConditions, InstancesAreActivatedAlike}
+use Rattle.cpg_hyper.specs.Laws.{InstancesAreActiveAlike, InstancesAreLiveAlike}
 use Rattle.cpg_hyper.proofs.Copies.{are_copies, within_whole}
 use Rattle.cpg_hyper.proofs.CopiedEdges.{have_edges}
 use Rattle.cpg_hyper.proofs.Whole.{contained, each_contained}
@@ -54,13 +59,16 @@ copy_by n true (e ∷ es) f h s =
     ap by_first (filter-map f (λ e. n + e) (e ∷ es) ∙ ap (map (λ e. n + e)) (same_filter (λ e. f (n + e)) h (e ∷ es) s))
     ∙ first_copy n (filter h (e ∷ es))
 copy_by n false (e ∷ es) f h s =
-    ap (λ b. if b then Plain else Inactive) (list_all-map f (λ e. n + e) (e ∷ es) ∙ same_all (λ e. f (n + e)) h (e ∷ es) s)
+    ap (λ b. if b then Plain else Inactive)
+    (list_all-map f (λ e. n + e) (e ∷ es) ∙ same_all (λ e. f (n + e)) h (e ∷ es) s)
     ∙ plain_copy n (list_all h (e ∷ es))
 
 -- ---- values
 
-value_there : (f : ℕ → Bool) (xs : List ℕ) (q : ℕ) (o : Option ℕ) → o ≡ Some (place xs q) → Contains xs q → get_or (map f xs) (unwrap_or o 0) false ≡ f q
-value_there f xs q o is c = ap (λ p. get_or (map f xs) (unwrap_or p 0) false) is ∙ get_or-map f xs (place xs q) 0 false (place-lt xs q c) ∙ ap f (get_or-place xs q 0 c)
+value_there : (f : ℕ → Bool) (xs : List ℕ) (q : ℕ) (o : Option ℕ) → o ≡ Some (place xs q) → Contains xs q →
+    get_or (map f xs) (unwrap_or o 0) false ≡ f q
+value_there f xs q o is c = ap (λ p. get_or (map f xs) (unwrap_or p 0) false) is
+    ∙ get_or-map f xs (place xs q) 0 false (place-lt xs q c) ∙ ap f (get_or-place xs q 0 c)
 
 same_taken : (w : Option Bool) (v u : Bool) → (is_some w ≡ true → v ≡ u) → takes w v ≡ takes w u
 same_taken None v u h = refl
@@ -68,7 +76,8 @@ same_taken (Some wanted) v u h = ap (takes (Some wanted)) (h refl)
 
 -- ---- the instance
 
-module _ (whole : ℕ) (parts : List Part) (p i : ℕ) (values : List Bool) (within : AreWithinLimits parts) (h : IsInstance whole parts p i) where
+module _ (whole : ℕ) (parts : List Part) (p i : ℕ) (values : List Bool) (within : AreWithinLimits parts)
+    (h : IsInstance whole parts p i) where
   abbrev g : Graph
   g = unrolled whole parts
 
@@ -98,32 +107,47 @@ module _ (whole : ℕ) (parts : List Part) (p i : ℕ) (values : List Bool) (wit
   copies e l = have_edges whole parts p i e h l
 
   edge_there : (e : ℕ) → e < edge_count part → IsEdgeWithin (process_count part) (edge_at part e)
-  edge_there e l = contained (IsEdgeWithin (process_count part)) part.edges (edge_at part e) limited.edges (Contains-get_or part.edges e _ l)
+  edge_there e l = contained (IsEdgeWithin (process_count part)) part.edges (edge_at part e) limited.edges
+      (Contains-get_or part.edges e _ l)
 
-  value_alike : (q : ℕ) → q < process_count part → is_disjunction part q ≡ true → value_of g values (first + q) ≡ value_of part own q
+  value_alike : (q : ℕ) → q < process_count part → is_disjunction part q ≡ true →
+      value_of g values (first + q) ≡ value_of part own q
   value_alike q l d =
-      let c = Contains-filter (is_disjunction part) (numbers_below (process_count part)) q d (Contains-numbers (process_count part) q l) in
-      sym (value_there (λ r. value_of g values (first + r)) (disjunctions part) q (condition_of part q) (position-place (disjunctions part) q c) c)
+      let c = Contains-filter (is_disjunction part) (numbers_below (process_count part)) q d
+      (Contains-numbers (process_count part) q l) in
+      sym (value_there (λ r. value_of g values (first + r)) (disjunctions part) q (condition_of part q)
+      (position-place (disjunctions part) q c) c)
 
-  taken_alike : (e : ℕ) → e < edge_count part → takes (edge_at g (first_edge + e)).when (value_of g values (source g (first_edge + e))) ≡ takes (edge_at part e).when
+  taken_alike : (e : ℕ) → e < edge_count part →
+      takes (edge_at g (first_edge + e)).when (value_of g values (source g (first_edge + e)))
+      ≡ takes (edge_at part e).when
       (value_of part own (source part e))
   taken_alike e l =
       ap (λ (d : Edge). takes d.when (value_of g values d.from)) (copies e l)
       ∙ same_taken (edge_at part e).when (value_of g values (first + source part e)) (value_of part own (source part e))
-      (λ w. value_alike (source part e) (edge_there e l).from (list_any_true (λ f. is_some (edge_at part f).when) (outputs part (source part e)) e (outputs-Contains part e l) w))
+      (λ w. value_alike (source part e) (edge_there e l).from (list_any_true (λ f. is_some (edge_at part f).when)
+      (outputs part (source part e)) e (outputs-Contains part e l) w))
 
-  live_by : (depth e : ℕ) → e < edge_count part → activation_within depth g values (first + source part e) ≡ copied_activation first_edge (activation_within depth part own (source part e))
-      → (is_active (activation_within depth g values (source g (first_edge + e))) && takes (edge_at g (first_edge + e)).when (value_of g values (source g (first_edge + e))))
-      ≡ (is_active (activation_within depth part own (source part e)) && takes (edge_at part e).when (value_of part own (source part e)))
+  live_by : (depth e : ℕ) → e < edge_count part →
+      activation_within depth g values (first + source part e)
+      ≡ copied_activation first_edge (activation_within depth part own (source part e))
+      → (is_active (activation_within depth g values (source g (first_edge + e)))
+      && takes (edge_at g (first_edge + e)).when (value_of g values (source g (first_edge + e))))
+      ≡ (is_active (activation_within depth part own (source part e))
+      && takes (edge_at part e).when (value_of part own (source part e)))
   live_by depth e l is = ap₂ ◌&&◌
-      (ap (λ (d : Edge). is_active (activation_within depth g values d.from)) (copies e l) ∙ ap is_active is ∙ active_copy first_edge (activation_within depth part own (source part e)))
+      (ap (λ (d : Edge). is_active (activation_within depth g values d.from)) (copies e l) ∙ ap is_active is
+      ∙ active_copy first_edge (activation_within depth part own (source part e)))
       (taken_alike e l)
 
-  within_alike : (depth q : ℕ) → q < process_count part → activation_within depth g values (first + q) ≡ copied_activation first_edge (activation_within depth part own q)
+  within_alike : (depth q : ℕ) → q < process_count part →
+      activation_within depth g values (first + q) ≡ copied_activation first_edge (activation_within depth part own q)
   within_alike zero q l = refl
   within_alike (suc depth) q l =
-      let is_live : ℕ → Bool = λ e. is_active (activation_within depth g values (source g e)) && takes (edge_at g e).when (value_of g values (source g e)) in
-      let is_live_own : ℕ → Bool = λ e. is_active (activation_within depth part own (source part e)) && takes (edge_at part e).when (value_of part own (source part e)) in
+      let is_live : ℕ → Bool = λ e. is_active (activation_within depth g values (source g e))
+      && takes (edge_at g e).when (value_of g values (source g e)) in
+      let is_live_own : ℕ → Bool = λ e. is_active (activation_within depth part own (source part e))
+      && takes (edge_at part e).when (value_of part own (source part e)) in
       ap₂ (λ join es. activation_by join es is_live)
       (ap (λ (d : Process). d.join) (are_copies whole parts p i q h l))
       (copied_inputs g part first_edge first (process_count part) around copies q l)
@@ -135,10 +159,13 @@ module _ (whole : ℕ) (parts : List Part) (p i : ℕ) (values : List Bool) (wit
   module _ (order : List ℕ) (topological : IsTopological g order) where
     up : (e : ℕ) → e < edge_count part → place order (first + source part e) < place order (first + target part e)
     up e l =
-        let inside : first_edge + e < edge_count g = omega (arith, edge_total g part first_edge first (process_count part) around copies, l) in
-        subst (λ (d : Edge). place order d.from < place order d.to) (copies e l) (edge_goes_up g order topological (first_edge + e) inside)
+        let inside : first_edge + e < edge_count g =
+        omega (arith, edge_total g part first_edge first (process_count part) around copies, l) in
+        subst (λ (d : Edge). place order d.from < place order d.to) (copies e l)
+        (edge_goes_up g order topological (first_edge + e) inside)
 
-    activated : (q : ℕ) → q < process_count part → activation g values (first + q) ≡ copied_activation first_edge (activation part own q)
+    activated : (q : ℕ) → q < process_count part →
+        activation g values (first + q) ≡ copied_activation first_edge (activation part own q)
     activated q l =
         let more = process_count g - process_count part in
         let count : process_count g ≡ more + process_count part = omega (arith, within_whole whole 0 parts p i h) in
@@ -148,21 +175,27 @@ module _ (whole : ℕ) (parts : List Part) (p i : ℕ) (values : List Bool) (wit
 
     lives : (e : ℕ) → e < edge_count part → live g values (first_edge + e) ≡ live part own e
     lives e l = ap₂ ◌&&◌
-        (ap (λ (d : Edge). active g values d.from) (copies e l) ∙ ap is_active (activated (source part e) (edge_there e l).from) ∙ active_copy first_edge (activation part own (source part e)))
+        (ap (λ (d : Edge). active g values d.from) (copies e l)
+        ∙ ap is_active (activated (source part e) (edge_there e l).from)
+        ∙ active_copy first_edge (activation part own (source part e)))
         (taken_alike e l)
 
 pub have_conditions : InstancesHaveConditions
 have_conditions whole parts p i q within h l =
-    copied_condition (unrolled whole parts) (part_at parts p).problem (first_edge_of whole parts p i) (first_of whole parts p i) (size_of (part_at parts p)) (around whole parts p i [] within h)
+    copied_condition (unrolled whole parts) (part_at parts p).problem (first_edge_of whole parts p i)
+    (first_of whole parts p i) (size_of (part_at parts p)) (around whole parts p i [] within h)
     (copies whole parts p i [] within h) q l
 
 pub activated_alike : InstancesAreActivatedAlike
-activated_alike whole parts p i q s order within h l topological = activated whole parts p i s.values within h order topological q l
+activated_alike whole parts p i q s order within h l topological =
+    activated whole parts p i s.values within h order topological q l
 
 pub active_alike : InstancesAreActiveAlike
 active_alike whole parts p i q s order within h l topological =
     ap is_active (activated_alike whole parts p i q s order within h l topological)
-    ∙ active_copy (first_edge_of whole parts p i) (activation (part_at parts p).problem (scenario_of whole parts p i s).values q)
+    ∙ active_copy (first_edge_of whole parts p i)
+    (activation (part_at parts p).problem (scenario_of whole parts p i s).values q)
 
 pub live_alike : InstancesAreLiveAlike
-live_alike whole parts p i e s order within h l topological = lives whole parts p i s.values within h order topological e l
+live_alike whole parts p i e s order within h l topological =
+    lives whole parts p i s.values within h order topological e l

@@ -1,5 +1,6 @@
 -- The edges of the whole around those of an instance: no other edge begins or ends at one of its processes.
-use Rattle.std.proofs.Common.{◌≡◌, ℕ, zero, suc, ◌+◌, ◌-◌, ◌*◌, ◌/◌, ◌<◌, ◌≤◌, List, [], ◌∷◌, ◌++◌, length, length-append, append_assoc, map, flat_map, Contains, sym, ap, ◌∙◌, subst, arith, ⊎_elim}
+use Rattle.std.proofs.Common.{◌≡◌, ℕ, zero, suc, ◌+◌, ◌-◌, ◌*◌, ◌/◌, ◌<◌, ◌≤◌, List, [], ◌∷◌, ◌++◌, length}
+use Rattle.std.proofs.Common.{length-append, append_assoc, map, flat_map, Contains, sym, ap, ◌∙◌, subst, arith, ⊎_elim}
 use Rattle.std.specs.List.{range_with_len}
 use Rattle.std.proofs.lemmas.List.{length-map}
 use Rattle.std.proofs.lemmas.List.Elements.{Contains-append_cases}
@@ -8,7 +9,8 @@ use Rattle.std.proofs.lemmas.Grind.{flat_map-append}
 use Rattle.cpg_base.specs.Numbers.{numbers_below}
 use Rattle.cpg_base.specs.Limits.{IsEdgeWithin, IsWithinLimits}
 use Rattle.cpg_base.specs.declared.process.Edge.{Edge}
-use Rattle.cpg_base.proofs.Lists.{Contains-first, Contains-rest, Contains-nil, Contains-map_parts, Contains-flat_map_parts, from_range}
+use Rattle.cpg_base.proofs.Lists.{Contains-first, Contains-rest, Contains-nil, Contains-map_parts}
+use Rattle.cpg_base.proofs.Lists.{Contains-flat_map_parts, from_range}
 use Rattle.cpg_table.proofs.GraphItems.{range-append}
 use Rattle.cpg_hyper.specs.declared.part.Part.{Part}
 use Rattle.cpg_hyper.specs.Unrolled.{copied_edge, size_of, first_in, after_part, edges_in, edges_of, edges_from}
@@ -25,24 +27,36 @@ pub record LiesBetween (low high : ℕ) (e : Edge) : Type 0 where
   pub to : low ≤ e.to
   pub to_ends : e.to < high
 
-of_instance : (first a b i size : ℕ) (e d : Edge) → a ≤ i → i < b → IsEdgeWithin size d → copied_edge (first + i * size) d ≡ e → LiesBetween (first + a * size) (first + b * size) e
+of_instance : (first a b i size : ℕ) (e d : Edge) → a ≤ i → i < b → IsEdgeWithin size d →
+    copied_edge (first + i * size) d ≡ e →
+    LiesBetween (first + a * size) (first + b * size) e
 of_instance first a b i size e d low high h is =
     let least : a * size ≤ i * size = product_le a i size low in
     let most : (i + 1) * size ≤ b * size = product_le (i + 1) b size (omega (arith, high)) in
     let from : e.from ≡ first + i * size + d.from = ap (λ (x : Edge). x.from) (sym is) in
     let to : e.to ≡ first + i * size + d.to = ap (λ (x : Edge). x.to) (sym is) in
-    record { from = omega (arith, least, from); from_ends = omega (arith, most, from, h.from); to = omega (arith, least, to); to_ends = omega (arith, most, to, h.to) }
+    record {
+      from = omega (arith, least, from);
+      from_ends = omega (arith, most, from, h.from);
+      to = omega (arith, least, to);
+      to_ends = omega (arith, most, to, h.to);
+    }
 
 -- both ends of each edge of k instances of a part, from one on, lie between two numbers
-pub lies_in : (first a k : ℕ) (part : Part) → IsWithinLimits part.problem → (e : Edge) → Contains (flat_map (edges_in first part) (range_with_len a k)) e →
+pub lies_in : (first a k : ℕ) (part : Part) → IsWithinLimits part.problem → (e : Edge) →
+    Contains (flat_map (edges_in first part) (range_with_len a k)) e →
     LiesBetween (first + a * size_of part) (first + (a + k) * size_of part) e
 lies_in first a k part h e c =
     let (i, among, here) = Contains-flat_map_parts (edges_in first part) (range_with_len a k) e c in
     let (d, has, is) = Contains-map_parts (copied_edge (first_in first part i)) part.problem.edges e here in
     let range = from_range a k i among in
-    of_instance first a (a + k) i (size_of part) e d range.0 range.1 (contained (IsEdgeWithin (size_of part)) part.problem.edges d h.edges has) is
+    of_instance first a (a + k) i (size_of part) e d range.0 range.1
+    (contained (IsEdgeWithin (size_of part)) part.problem.edges d h.edges has) is
 
-lies_above : (whole first : ℕ) (parts : List Part) → ((part : Part) → Contains parts part → IsWithinLimits part.problem) → (e : Edge) → Contains (edges_from whole first parts) e → (first ≤ e.from) ×
+lies_above : (whole first : ℕ) (parts : List Part) →
+    ((part : Part) → Contains parts part → IsWithinLimits part.problem) → (e : Edge) →
+    Contains (edges_from whole first parts) e →
+    (first ≤ e.from) ×
     (first ≤ e.to)
 lies_above whole first [] h e c = absurd (Contains-nil e c)
 lies_above whole first (part ∷ parts) h e c = ⊎_elim
@@ -50,7 +64,8 @@ lies_above whole first (part ∷ parts) h e c = ⊎_elim
     let l = lies_in first 0 (whole / part.period) part (h part (Contains-first part parts)) e d in
     (omega (arith, l.from), omega (arith, l.to)))
     (λ (d : Contains (edges_from whole (after_part whole first part) parts) e).
-    let l = lies_above whole (after_part whole first part) parts (λ other k. h other (Contains-rest part parts other k)) e d in
+    let l = lies_above whole (after_part whole first part) parts
+    (λ other k. h other (Contains-rest part parts other k)) e d in
     (omega (arith, l.0), omega (arith, l.1)))
     (Contains-append_cases (edges_of whole first part) (edges_from whole (after_part whole first part) parts) e c)
 
@@ -65,18 +80,23 @@ pub record AreAround (n first size : ℕ) (all mine : List Edge) : Type 0 where
 
 -- numbers cut at one of them
 cut : (n i k : ℕ) → n ≡ i + suc k → numbers_below n ≡ numbers_below i ++ i ∷ range_with_len (i + 1) k
-cut n i k e = ap (λ m. numbers_below m) e ∙ range-append 0 i (suc k) ∙ ap (λ (m : ℕ). numbers_below i ++ range_with_len m (suc k)) (nothing_before i)
+cut n i k e = ap (λ m. numbers_below m) e ∙ range-append 0 i (suc k)
+    ∙ ap (λ (m : ℕ). numbers_below i ++ range_with_len m (suc k)) (nothing_before i)
   where
     nothing_before : (m : ℕ) → 0 + m ≡ m
     nothing_before m = omega arith
 
-pieces : (f : ℕ → List Edge) (xs : List ℕ) (y : ℕ) (ys : List ℕ) (rest : List Edge) → flat_map f (xs ++ y ∷ ys) ++ rest ≡ flat_map f xs ++ (f y ++ (flat_map f ys ++ rest))
-pieces f xs y ys rest = ap (λ es. es ++ rest) (flat_map-append f xs (y ∷ ys)) ∙ append_assoc (flat_map f xs) (f y ++ flat_map f ys) rest ∙
+pieces : (f : ℕ → List Edge) (xs : List ℕ) (y : ℕ) (ys : List ℕ) (rest : List Edge) →
+    flat_map f (xs ++ y ∷ ys) ++ rest ≡ flat_map f xs ++ (f y ++ (flat_map f ys ++ rest))
+pieces f xs y ys rest =
+    ap (λ es. es ++ rest) (flat_map-append f xs (y ∷ ys)) ∙ append_assoc (flat_map f xs) (f y ++ flat_map f ys) rest ∙
     ap (λ es. flat_map f xs ++ es) (append_assoc (f y) (flat_map f ys) rest)
 
-around_in : (whole first i : ℕ) (part : Part) (rest : List Edge) → IsWithinLimits part.problem → i < whole / part.period →
+around_in : (whole first i : ℕ) (part : Part) (rest : List Edge) → IsWithinLimits part.problem →
+    i < whole / part.period →
     ((e : Edge) → Contains rest e → (after_part whole first part ≤ e.from) × (after_part whole first part ≤ e.to))
-    → AreAround (i * length part.problem.edges) (first_in first part i) (size_of part) (edges_of whole first part ++ rest) (edges_in first part i)
+    → AreAround (i * length part.problem.edges) (first_in first part i) (size_of part)
+    (edges_of whole first part ++ rest) (edges_in first part i)
 around_in whole first i part rest h l above =
     let f = edges_in first part in
     let n = whole / part.period in
@@ -85,8 +105,10 @@ around_in whole first i part rest h l above =
     record {
       front = flat_map f (numbers_below i);
       back = flat_map f (range_with_len (i + 1) k) ++ rest;
-      are = ap (λ xs. flat_map f xs ++ rest) (cut n i k (omega (arith, l))) ∙ pieces f (numbers_below i) i (range_with_len (i + 1) k) rest;
-      long = constant_pieces f (length part.problem.edges) (λ j. length-map part.problem.edges _) (numbers_below i) ∙ ap (λ m. m * length part.problem.edges) (length-range_with_len 0 i);
+      are = ap (λ xs. flat_map f xs ++ rest) (cut n i k (omega (arith, l)))
+          ∙ pieces f (numbers_below i) i (range_with_len (i + 1) k) rest;
+      long = constant_pieces f (length part.problem.edges) (λ j. length-map part.problem.edges _) (numbers_below i)
+          ∙ ap (λ m. m * length part.problem.edges) (length-range_with_len 0 i);
       earlier = λ e c.
           let b = lies_in first 0 i part h e c in
           (omega (arith, b.from_ends), omega (arith, b.to_ends));
@@ -100,7 +122,9 @@ around_in whole first i part rest h l above =
           (Contains-append_cases (flat_map f (range_with_len (i + 1) k)) rest e c);
     }
 
-around_later : (n own first size : ℕ) (mine new rest : List Edge) → length mine ≡ own → ((e : Edge) → Contains mine e → (e.from < first) × (e.to < first)) → AreAround n first size rest new →
+around_later : (n own first size : ℕ) (mine new rest : List Edge) → length mine ≡ own →
+    ((e : Edge) → Contains mine e → (e.from < first) × (e.to < first)) →
+    AreAround n first size rest new →
     AreAround (own + n) first size (mine ++ rest) new
 around_later n own first size mine new rest long below a = record {
   front = mine ++ a.front;
@@ -118,22 +142,30 @@ next_edges : (own b a : ℕ) → own + (b + a) ≡ own + b + a
 next_edges own b a = omega arith
 
 abbrev pub AreAroundAt : ℕ → ℕ → List Part → ℕ → ℕ → ℕ → Type 0
-AreAroundAt whole first parts p n begin = AreAround n begin (size_of (part_at parts p)) (edges_from whole first parts) (map (copied_edge begin) (part_at parts p).problem.edges)
+AreAroundAt whole first parts p n begin = AreAround n begin (size_of (part_at parts p)) (edges_from whole first parts)
+    (map (copied_edge begin) (part_at parts p).problem.edges)
 
-pub are_around : (whole first : ℕ) (parts : List Part) → ((part : Part) → Contains parts part → IsWithinLimits part.problem) → (p i : ℕ) → IsInstance whole parts p i
+pub are_around : (whole first : ℕ) (parts : List Part) →
+    ((part : Part) → Contains parts part → IsWithinLimits part.problem) → (p i : ℕ) →
+    IsInstance whole parts p i
     → AreAroundAt whole first parts p (first_edge_of whole parts p i) (first + first_of whole parts p i)
 are_around whole first [] h p i is = absurd (omega (arith, is.part))
 are_around whole first (part ∷ parts) h zero i is =
-    let here = around_in whole first i part (edges_from whole (after_part whole first part) parts) (h part (Contains-first part parts)) is.instance
+    let here = around_in whole first i part (edges_from whole (after_part whole first part) parts)
+    (h part (Contains-first part parts)) is.instance
     (lies_above whole (after_part whole first part) parts (λ other k. h other (Contains-rest part parts other k))) in
-    subst (AreAroundAt whole first (part ∷ parts) 0 (0 + i * length part.problem.edges)) (same_first first (i * size_of part))
-    (subst (λ n. AreAroundAt whole first (part ∷ parts) 0 n (first_in first part i)) (same_edges (i * length part.problem.edges)) here)
+    subst (AreAroundAt whole first (part ∷ parts) 0 (0 + i * length part.problem.edges))
+    (same_first first (i * size_of part))
+    (subst (λ n. AreAroundAt whole first (part ∷ parts) 0 n (first_in first part i))
+    (same_edges (i * length part.problem.edges)) here)
 are_around whole first (part ∷ parts) h (suc p) i is =
     let next = after_part whole first part in
     let begin = next + first_of whole parts p i in
     let own = whole / part.period * length part.problem.edges in
-    let rest = are_around whole next parts (λ other k. h other (Contains-rest part parts other k)) p i (record { part = omega (arith, is.part); instance = is.instance }) in
-    let here = around_later (first_edge_of whole parts p i) own begin (size_of (part_at parts p)) (edges_of whole first part) (map (copied_edge begin) (part_at parts p).problem.edges)
+    let rest = are_around whole next parts (λ other k. h other (Contains-rest part parts other k)) p i
+    (record { part = omega (arith, is.part); instance = is.instance }) in
+    let here = around_later (first_edge_of whole parts p i) own begin (size_of (part_at parts p))
+    (edges_of whole first part) (map (copied_edge begin) (part_at parts p).problem.edges)
     (edges_from whole next parts) (edges_size whole first part)
     (λ e c.
     let b = lies_in first 0 (whole / part.period) part (h part (Contains-first part parts)) e c in
@@ -141,4 +173,5 @@ are_around whole first (part ∷ parts) h (suc p) i is =
     rest in
     subst (AreAroundAt whole first (part ∷ parts) (suc p) (first_edge_of whole (part ∷ parts) (suc p) i))
     (next_first first (whole / part.period * size_of part) (before whole parts p) (i * size_of (part_at parts p)))
-    (subst (λ n. AreAroundAt whole first (part ∷ parts) (suc p) n begin) (next_edges own (edges_before whole parts p) (i * length (part_at parts p).problem.edges)) here)
+    (subst (λ n. AreAroundAt whole first (part ∷ parts) (suc p) n begin)
+    (next_edges own (edges_before whole parts p) (i * length (part_at parts p).problem.edges)) here)

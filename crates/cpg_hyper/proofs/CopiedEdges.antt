@@ -1,12 +1,14 @@
 -- Where the copies of an edge stand.
-use Rattle.std.proofs.Common.{◌≡◌, ℕ, zero, suc, ◌+◌, ◌*◌, ◌/◌, ◌<◌, false, List, [], ◌∷◌, ◌++◌, length, get_or, take, flat_map, None, sym, ap, ◌∙◌, arith}
+use Rattle.std.proofs.Common.{◌≡◌, ℕ, zero, suc, ◌+◌, ◌*◌, ◌/◌, ◌<◌, false, List, [], ◌∷◌, ◌++◌, length, get_or, take}
+use Rattle.std.proofs.Common.{flat_map, None, sym, ap, ◌∙◌, arith}
 use Rattle.std.proofs.lemmas.List.{length-map, get_or-map, get_or_append_left, get_or-append-add}
 use Rattle.std.proofs.lemmas.List.Concat.{get_or-flat_map}
 use Rattle.std.proofs.lemmas.List.FromFn.{length-range_with_len, get_or-range_with_len}
 use Rattle.cpg_base.specs.Graph.{edge_at}
 use Rattle.cpg_base.specs.declared.process.Edge.{Edge}
 use Rattle.cpg_hyper.specs.declared.part.Part.{Part}
-use Rattle.cpg_hyper.specs.Unrolled.{copied_edge, size_of, instances, first_in, after_part, edges_in, edges_of, edges_from}
+use Rattle.cpg_hyper.specs.Unrolled.{copied_edge, size_of, instances, first_in, after_part, edges_in, edges_of}
+use Rattle.cpg_hyper.specs.Unrolled.{edges_from}
 use Rattle.cpg_hyper.specs.Instances.{part_at, IsInstance, before, first_of, edges_before, first_edge_of}
 use Rattle.cpg_hyper.specs.Laws.{InstancesHaveEdges}
 use Rattle.cpg_hyper.proofs.Counted.{constant_pieces, edges_size}
@@ -17,16 +19,20 @@ abbrev pub no_edge : Edge
 no_edge = record { from = 0; to = 0; size = 0; when = None; frozen = false }
 
 in_part : (whole first i e : ℕ) (part : Part) → i < whole / part.period → e < length part.problem.edges →
-    get_or (edges_of whole first part) (i * length part.problem.edges + e) no_edge ≡ copied_edge (first_in first part i) (get_or part.problem.edges e no_edge)
+    get_or (edges_of whole first part) (i * length part.problem.edges + e) no_edge
+    ≡ copied_edge (first_in first part i) (get_or part.problem.edges e no_edge)
 in_part whole first i e part l h =
     let f = edges_in first part in
     let xs = instances whole part in
     let size = length part.problem.edges in
     let count : i < length xs = omega (arith, length-range_with_len 0 (whole / part.period), l) in
     let here : get_or xs i 0 ≡ i = get_or-range_with_len 0 (whole / part.period) i 0 l ∙ nothing_before i in
-    let front : length (flat_map f (take i xs)) ≡ i * size = constant_pieces f size (λ j. length-map part.problem.edges _) (take i xs) ∙ ap (λ n. n * size) (take_count whole i part l) in
+    let front : length (flat_map f (take i xs)) ≡ i * size =
+    constant_pieces f size (λ j. length-map part.problem.edges _) (take i xs)
+    ∙ ap (λ n. n * size) (take_count whole i part l) in
     ap (λ n. get_or (edges_of whole first part) (n + e) no_edge) (sym front)
-    ∙ get_or-flat_map f xs i e 0 no_edge count (omega (arith, length-map part.problem.edges (copied_edge (first_in first part (get_or xs i 0))), h))
+    ∙ get_or-flat_map f xs i e 0 no_edge count
+    (omega (arith, length-map part.problem.edges (copied_edge (first_in first part (get_or xs i 0))), h))
     ∙ ap (λ j. get_or (f j) e no_edge) here
     ∙ get_or-map (copied_edge (first_in first part i)) part.problem.edges e no_edge no_edge h
 
@@ -42,12 +48,15 @@ moved own b c e all is = omega (arith, is)
 pub next_first : (first own b a : ℕ) → first + own + (b + a) ≡ first + (own + b + a)
 next_first first own b a = omega arith
 
-pub edge_copy_at : (whole first : ℕ) (parts : List Part) (p i e : ℕ) → IsInstance whole parts p i → e < length (part_at parts p).problem.edges
-    → get_or (edges_from whole first parts) (first_edge_of whole parts p i + e) no_edge ≡ copied_edge (first + first_of whole parts p i) (get_or (part_at parts p).problem.edges e no_edge)
+pub edge_copy_at : (whole first : ℕ) (parts : List Part) (p i e : ℕ) → IsInstance whole parts p i →
+    e < length (part_at parts p).problem.edges
+    → get_or (edges_from whole first parts) (first_edge_of whole parts p i + e) no_edge
+    ≡ copied_edge (first + first_of whole parts p i) (get_or (part_at parts p).problem.edges e no_edge)
 edge_copy_at whole first [] p i e h l = absurd (omega (arith, h.part))
 edge_copy_at whole first (part ∷ parts) zero i e h l =
     let inside = within_pieces i (whole / part.period) (length part.problem.edges) e h.instance l in
-    get_or_append_left (edges_of whole first part) (edges_from whole (after_part whole first part) parts) no_edge (0 + i * length part.problem.edges + e)
+    get_or_append_left (edges_of whole first part) (edges_from whole (after_part whole first part) parts) no_edge
+    (0 + i * length part.problem.edges + e)
     (omega (arith, edges_size whole first part, inside))
     ∙ ap (λ n. get_or (edges_of whole first part) n no_edge) (drop_zero (i * length part.problem.edges) e)
     ∙ in_part whole first i e part h.instance l
@@ -56,10 +65,14 @@ edge_copy_at whole first (part ∷ parts) (suc p) i e h l =
     let size = edges_size whole first part in
     let n = first_edge_of whole parts p i + e in
     ap (λ m. get_or (edges_of whole first part ++ edges_from whole (after_part whole first part) parts) m no_edge)
-    (moved (whole / part.period * length part.problem.edges) (edges_before whole parts p) (i * length (part_at parts p).problem.edges) e (length (edges_of whole first part)) size)
+    (moved (whole / part.period * length part.problem.edges) (edges_before whole parts p)
+    (i * length (part_at parts p).problem.edges) e (length (edges_of whole first part)) size)
     ∙ get_or-append-add (edges_of whole first part) (edges_from whole (after_part whole first part) parts) n no_edge
-    ∙ edge_copy_at whole (after_part whole first part) parts p i e (record { part = omega (arith, h.part); instance = h.instance }) l
-    ∙ ap (λ m. copied_edge m (get_or (part_at parts p).problem.edges e no_edge)) (next_first first (whole / part.period * size_of part) (before whole parts p) (i * size_of (part_at parts p)))
+    ∙ edge_copy_at whole (after_part whole first part) parts p i e
+    (record { part = omega (arith, h.part); instance = h.instance }) l
+    ∙ ap (λ m. copied_edge m (get_or (part_at parts p).problem.edges e no_edge))
+    (next_first first (whole / part.period * size_of part) (before whole parts p) (i * size_of (part_at parts p)))
 
 pub have_edges : InstancesHaveEdges
-have_edges whole parts p i e h l = edge_copy_at whole 0 parts p i e h l ∙ ap (λ n. copied_edge n (edge_at (part_at parts p).problem e)) (nothing_before (first_of whole parts p i))
+have_edges whole parts p i e h l = edge_copy_at whole 0 parts p i e h l
+    ∙ ap (λ n. copied_edge n (edge_at (part_at parts p).problem e)) (nothing_before (first_of whole parts p i))

@@ -1,5 +1,6 @@
 -- The inputs and outputs of a copy are the copies of its process's.
-use Rattle.std.proofs.Common.{◌≡◌, ℕ, zero, suc, ◌+◌, ◌-◌, ◌<◌, ◌≤◌, Bool, false, ◌==◌, List, ◌∷◌, ◌++◌, length, length-append, append-nil, get_or, map, filter, Contains, is_some, refl, sym, ap, ap₂}
+use Rattle.std.proofs.Common.{◌≡◌, ℕ, zero, suc, ◌+◌, ◌-◌, ◌<◌, ◌≤◌, Bool, false, ◌==◌, List, ◌∷◌, ◌++◌, length}
+use Rattle.std.proofs.Common.{length-append, append-nil, get_or, map, filter, Contains, is_some, refl, sym, ap, ap₂}
 use Rattle.std.proofs.Common.{◌∙◌, subst, arith, eqb-true, eq-eqb}
 use Rattle.std.specs.List.{range_with_len, list_any}
 use Rattle.std.proofs.lemmas.Bool.{false_from_ne_true}
@@ -26,20 +27,26 @@ range-moved a b (suc n) = ap (λ xs. (a + b) ∷ xs) (ap (λ m. range_with_len m
     next x y = omega arith
 
 moved_test : (a x y : ℕ) → ((a + x) == (a + y)) ≡ (x == y)
-moved_test a x y = same_truth ((a + x) == (a + y)) (x == y) (λ t. eq-eqb x y (omega (arith, eqb-true (a + x) (a + y) t))) (λ t. eq-eqb (a + x) (a + y) (omega (arith, eqb-true x y t)))
+moved_test a x y =
+    same_truth ((a + x) == (a + y)) (x == y) (λ t. eq-eqb x y (omega (arith, eqb-true (a + x) (a + y) t)))
+    (λ t. eq-eqb (a + x) (a + y) (omega (arith, eqb-true x y t)))
 
 other_test : (x y : ℕ) → (x ≡ y → ⊥) → (x == y) ≡ false
 other_test x y h = false_from_ne_true (x == y) (λ t. h (eqb-true x y t))
 
 -- only numbers from n to before n + m pass
-within_range : (test : ℕ → Bool) (n m b : ℕ) → ((e : ℕ) → e < n → test e ≡ false) → ((k : ℕ) → k < b → test (n + m + k) ≡ false) →
+within_range : (test : ℕ → Bool) (n m b : ℕ) → ((e : ℕ) → e < n → test e ≡ false) →
+    ((k : ℕ) → k < b → test (n + m + k) ≡ false) →
     filter test (numbers_below (n + (m + b))) ≡ map (λ e. n + e) (filter (λ e. test (n + e)) (numbers_below m))
 within_range test n m b front back =
-    ap (filter test) (range-append 0 n (m + b) ∙ ap (λ k. numbers_below n ++ range_with_len k (m + b)) (nothing_before n) ∙ ap (λ xs. numbers_below n ++ xs) (range-append n m b))
+    ap (filter test) (range-append 0 n (m + b) ∙ ap (λ k. numbers_below n ++ range_with_len k (m + b))
+    (nothing_before n) ∙ ap (λ xs. numbers_below n ++ xs) (range-append n m b))
     ∙ filter-append test (numbers_below n) (range_with_len n m ++ range_with_len (n + m) b)
-    ∙ ap₂ (λ (xs : List ℕ) (ys : List ℕ). xs ++ ys) (filter_none test (numbers_below n) (λ e c. front e (numbers-Contains n e c)))
+    ∙ ap₂ (λ (xs : List ℕ) (ys : List ℕ). xs ++ ys)
+    (filter_none test (numbers_below n) (λ e c. front e (numbers-Contains n e c)))
     (filter-append test (range_with_len n m) (range_with_len (n + m) b)
-    ∙ ap₂ (λ (xs : List ℕ) (ys : List ℕ). xs ++ ys) (ap (filter test) (ap (λ k. range_with_len k m) (nothing_after n) ∙ range-moved n 0 m) ∙ filter-map test (λ e. n + e) (numbers_below m))
+    ∙ ap₂ (λ (xs : List ℕ) (ys : List ℕ). xs ++ ys) (ap (filter test) (ap (λ k. range_with_len k m) (nothing_after n)
+    ∙ range-moved n 0 m) ∙ filter-map test (λ e. n + e) (numbers_below m))
     (filter_none test (range_with_len (n + m) b) (λ e c. past e (from_range (n + m) b e c)))
     ∙ append-nil (map (λ e. n + e) (filter (λ e. test (n + e)) (numbers_below m))))
   where
@@ -50,9 +57,11 @@ within_range test n m b front back =
     nothing_after k = omega arith
 
     past : (e : ℕ) → (n + m ≤ e) × (e < n + m + b) → test e ≡ false
-    past e (l, h) = let k : ℕ = e - (n + m) in subst (λ x. test x ≡ false) (let is : n + m + k ≡ e = omega (arith, l) in is) (back k (omega (arith, l, h)))
+    past e (l, h) = let k : ℕ = e - (n + m) in
+        subst (λ x. test x ≡ false) (let is : n + m + k ≡ e = omega (arith, l) in is) (back k (omega (arith, l, h)))
 
-module _ (g part : Graph) (n first size : ℕ) (around : AreAround n first size g.edges (map (copied_edge first) part.edges))
+module _ (g part : Graph) (n first size : ℕ)
+    (around : AreAround n first size g.edges (map (copied_edge first) part.edges))
     (copies : (e : ℕ) → e < edge_count part → edge_at g (n + e) ≡ copied_edge first (edge_at part e)) where
   abbrev mine : List Edge
   mine = map (copied_edge first) part.edges
@@ -61,41 +70,60 @@ module _ (g part : Graph) (n first size : ℕ) (around : AreAround n first size 
   long = length-map part.edges (copied_edge first)
 
   pub edge_total : edge_count g ≡ n + (edge_count part + length around.back)
-  edge_total = omega (arith, ap length around.are, length-append around.front (mine ++ around.back), length-append mine around.back, long, around.long)
+  edge_total = omega (
+    arith,
+    ap length around.are,
+    length-append around.front (mine ++ around.back),
+    length-append mine around.back,
+    long,
+    around.long,
+  )
 
   front_at : (e : ℕ) → e < n → Contains around.front (edge_at g e)
   front_at e l =
       let inside : e < length around.front = omega (arith, around.long, l) in
-      subst (Contains around.front) (sym (ap (λ xs. get_or xs e no_edge) around.are ∙ get_or_append_left around.front (mine ++ around.back) no_edge e inside))
+      subst (Contains around.front) (sym (ap (λ xs. get_or xs e no_edge) around.are
+      ∙ get_or_append_left around.front (mine ++ around.back) no_edge e inside))
       (Contains-get_or around.front e no_edge inside)
 
   back_at : (k : ℕ) → k < length around.back → Contains around.back (edge_at g (n + edge_count part + k))
   back_at k l =
-      let place : n + edge_count part + k ≡ length around.front + (length mine + k) = omega (arith, around.long, long) in
-      subst (Contains around.back) (sym (ap₂ (λ xs j. get_or xs j no_edge) around.are place ∙ get_or-append-add around.front (mine ++ around.back) (length mine + k) no_edge ∙
+      let place : n + edge_count part + k ≡ length around.front + (length mine + k) =
+      omega (arith, around.long, long) in
+      subst (Contains around.back) (sym (ap₂ (λ xs j. get_or xs j no_edge) around.are place
+      ∙ get_or-append-add around.front (mine ++ around.back) (length mine + k) no_edge ∙
       get_or-append-add mine around.back k no_edge)) (Contains-get_or around.back k no_edge l)
 
   pub copied_inputs : (q : ℕ) → q < size → inputs g (first + q) ≡ map (λ e. n + e) (inputs part q)
   copied_inputs q l =
       ap (λ m. filter (λ e. target g e == (first + q)) (numbers_below m)) edge_total
       ∙ within_range (λ e. target g e == (first + q)) n (edge_count part) (length around.back)
-      (λ e k. other_test (target g e) (first + q) (λ is. omega (arith, (around.earlier (edge_at g e) (front_at e k)).1, is)))
-      (λ j k. other_test (target g (n + edge_count part + j)) (first + q) (λ is. omega (arith, (around.later (edge_at g (n + edge_count part + j)) (back_at j k)).1, is, l)))
-      ∙ ap (map (λ e. n + e)) (same_filter (λ e. target g (n + e) == (first + q)) (λ e. target part e == q) (numbers_below (edge_count part))
-      (λ e c. ap (λ (d : Edge). d.to == (first + q)) (copies e (numbers-Contains (edge_count part) e c)) ∙ moved_test first (target part e) q))
+      (λ e k. other_test (target g e) (first + q)
+      (λ is. omega (arith, (around.earlier (edge_at g e) (front_at e k)).1, is)))
+      (λ j k. other_test (target g (n + edge_count part + j)) (first + q)
+      (λ is. omega (arith, (around.later (edge_at g (n + edge_count part + j)) (back_at j k)).1, is, l)))
+      ∙ ap (map (λ e. n + e)) (same_filter (λ e. target g (n + e) == (first + q)) (λ e. target part e == q)
+      (numbers_below (edge_count part))
+      (λ e c. ap (λ (d : Edge). d.to == (first + q)) (copies e (numbers-Contains (edge_count part) e c))
+      ∙ moved_test first (target part e) q))
 
   pub copied_outputs : (q : ℕ) → q < size → outputs g (first + q) ≡ map (λ e. n + e) (outputs part q)
   copied_outputs q l =
       ap (λ m. filter (λ e. source g e == (first + q)) (numbers_below m)) edge_total
       ∙ within_range (λ e. source g e == (first + q)) n (edge_count part) (length around.back)
-      (λ e k. other_test (source g e) (first + q) (λ is. omega (arith, (around.earlier (edge_at g e) (front_at e k)).0, is)))
-      (λ j k. other_test (source g (n + edge_count part + j)) (first + q) (λ is. omega (arith, (around.later (edge_at g (n + edge_count part + j)) (back_at j k)).0, is, l)))
-      ∙ ap (map (λ e. n + e)) (same_filter (λ e. source g (n + e) == (first + q)) (λ e. source part e == q) (numbers_below (edge_count part))
-      (λ e c. ap (λ (d : Edge). d.from == (first + q)) (copies e (numbers-Contains (edge_count part) e c)) ∙ moved_test first (source part e) q))
+      (λ e k. other_test (source g e) (first + q)
+      (λ is. omega (arith, (around.earlier (edge_at g e) (front_at e k)).0, is)))
+      (λ j k. other_test (source g (n + edge_count part + j)) (first + q)
+      (λ is. omega (arith, (around.later (edge_at g (n + edge_count part + j)) (back_at j k)).0, is, l)))
+      ∙ ap (map (λ e. n + e)) (same_filter (λ e. source g (n + e) == (first + q)) (λ e. source part e == q)
+      (numbers_below (edge_count part))
+      (λ e c. ap (λ (d : Edge). d.from == (first + q)) (copies e (numbers-Contains (edge_count part) e c))
+      ∙ moved_test first (source part e) q))
 
   -- a copy has a condition if its process has one
   pub copied_condition : (q : ℕ) → q < size → is_disjunction g (first + q) ≡ is_disjunction part q
   copied_condition q l =
       ap (list_any (λ e. is_some (edge_at g e).when)) (copied_outputs q l)
       ∙ any_map (λ e. is_some (edge_at g e).when) (λ e. n + e) (outputs part q)
-      ∙ same_any (λ e. is_some (edge_at g (n + e)).when) (λ e. is_some (edge_at part e).when) (outputs part q) (λ e c. ap (λ (d : Edge). is_some d.when) (copies e (outputs_parts part q e c).0))
+      ∙ same_any (λ e. is_some (edge_at g (n + e)).when) (λ e. is_some (edge_at part e).when) (outputs part q)
+      (λ e c. ap (λ (d : Edge). is_some d.when) (copies e (outputs_parts part q e c).0))

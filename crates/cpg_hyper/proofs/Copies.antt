@@ -1,5 +1,6 @@
 -- Where the copies of a process stand.
-use Rattle.std.proofs.Common.{◌≡◌, ℕ, zero, suc, ◌+◌, ◌*◌, ◌/◌, ◌<◌, ◌≤◌, false, List, [], ◌∷◌, ◌++◌, length, length-append, get_or, take, flat_map, None, sym, ap, ◌∙◌, arith}
+use Rattle.std.proofs.Common.{◌≡◌, ℕ, zero, suc, ◌+◌, ◌*◌, ◌/◌, ◌<◌, ◌≤◌, false, List, [], ◌∷◌, ◌++◌, length}
+use Rattle.std.proofs.Common.{length-append, get_or, take, flat_map, None, sym, ap, ◌∙◌, arith}
 use Rattle.std.proofs.lemmas.List.{length-take, length-map, get_or-map, get_or_append_left, get_or-append-add}
 use Rattle.std.proofs.lemmas.List.Concat.{get_or-flat_map}
 use Rattle.std.proofs.lemmas.List.FromFn.{length-range_with_len, get_or-range_with_len}
@@ -22,36 +23,55 @@ within_pieces i n size q l h =
     omega (arith, most, h)
 
 abbrev pub none : Process
-none = record { name = []; node = 0; wcet = 0; parts = 1; alpha = 0; chi = 0; mu = 0; join = false; frozen = false; release = 0; deadline = None }
+none = record {
+  name = [];
+  node = 0;
+  wcet = 0;
+  parts = 1;
+  alpha = 0;
+  chi = 0;
+  mu = 0;
+  join = false;
+  frozen = false;
+  release = 0;
+  deadline = None;
+}
 
 pub take_count : (whole i : ℕ) (part : Part) → i < whole / part.period → length (take i (instances whole part)) ≡ i
-take_count whole i part l = omega (arith, length-take i (instances whole part), length-range_with_len 0 (whole / part.period), l)
+take_count whole i part l =
+    omega (arith, length-take i (instances whole part), length-range_with_len 0 (whole / part.period), l)
 
-in_part : (whole p i q : ℕ) (part : Part) → i < whole / part.period → q < size_of part → get_or (processes_of whole p part) (i * size_of part + q) none ≡ copied_process p i part
+in_part : (whole p i q : ℕ) (part : Part) → i < whole / part.period → q < size_of part →
+    get_or (processes_of whole p part) (i * size_of part + q) none ≡ copied_process p i part
     (get_or part.problem.processes q none)
 in_part whole p i q part l h =
     let f = processes_in p part in
     let xs = instances whole part in
     let count : i < length xs = omega (arith, length-range_with_len 0 (whole / part.period), l) in
     let here : get_or xs i 0 ≡ i = get_or-range_with_len 0 (whole / part.period) i 0 l ∙ nothing_before i in
-    let front : length (flat_map f (take i xs)) ≡ i * size_of part = constant_pieces f (size_of part) (λ j. length-map part.problem.processes _) (take i xs) ∙
+    let front : length (flat_map f (take i xs)) ≡ i * size_of part =
+    constant_pieces f (size_of part) (λ j. length-map part.problem.processes _) (take i xs) ∙
     ap (λ n. n * size_of part) (take_count whole i part l) in
     ap (λ n. get_or (processes_of whole p part) (n + q) none) (sym front)
-    ∙ get_or-flat_map f xs i q 0 none count (omega (arith, length-map part.problem.processes (copied_process p (get_or xs i 0) part), h))
+    ∙ get_or-flat_map f xs i q 0 none count
+    (omega (arith, length-map part.problem.processes (copied_process p (get_or xs i 0) part), h))
     ∙ ap (λ j. get_or (f j) q none) here
     ∙ get_or-map (copied_process p i part) part.problem.processes q none none h
   where
     nothing_before : (n : ℕ) → 0 + n ≡ n
     nothing_before n = omega arith
 
-pub copy_at : (whole first : ℕ) (parts : List Part) (p i q : ℕ) → IsInstance whole parts p i → q < size_of (part_at parts p)
-    → get_or (processes_from whole first parts) (before whole parts p + i * size_of (part_at parts p) + q) none ≡ copied_process (first + p) i (part_at parts p)
+pub copy_at : (whole first : ℕ) (parts : List Part) (p i q : ℕ) → IsInstance whole parts p i →
+    q < size_of (part_at parts p)
+    → get_or (processes_from whole first parts) (before whole parts p + i * size_of (part_at parts p) + q) none
+    ≡ copied_process (first + p) i (part_at parts p)
     (get_or (part_at parts p).problem.processes q none)
 copy_at whole first [] p i q h l = absurd (omega (arith, h.part))
 copy_at whole first (part ∷ parts) zero i q h l =
     let size = processes_size whole first part in
     let inside = within_pieces i (whole / part.period) (size_of part) q h.instance l in
-    get_or_append_left (processes_of whole first part) (processes_from whole (first + 1) parts) none (0 + i * size_of part + q) (omega (arith, size, inside))
+    get_or_append_left (processes_of whole first part) (processes_from whole (first + 1) parts) none
+    (0 + i * size_of part + q) (omega (arith, size, inside))
     ∙ ap (λ n. get_or (processes_of whole first part) n none) (drop_zero (i * size_of part) q)
     ∙ in_part whole first i q part h.instance l
     ∙ ap (λ n. copied_process n i part (get_or part.problem.processes q none)) (same_sum first)
@@ -65,10 +85,12 @@ copy_at whole first (part ∷ parts) (suc p) i q h l =
     let size = processes_size whole first part in
     let n = before whole parts p + i * size_of (part_at parts p) + q in
     ap (λ m. get_or (processes_of whole first part ++ processes_from whole (first + 1) parts) m none)
-    (moved (whole / part.period * size_of part) (before whole parts p) (i * size_of (part_at parts p)) q (length (processes_of whole first part)) size)
+    (moved (whole / part.period * size_of part) (before whole parts p) (i * size_of (part_at parts p)) q
+    (length (processes_of whole first part)) size)
     ∙ get_or-append-add (processes_of whole first part) (processes_from whole (first + 1) parts) n none
     ∙ copy_at whole (first + 1) parts p i q (record { part = omega (arith, h.part); instance = h.instance }) l
-    ∙ ap (λ m. copied_process m i (part_at parts p) (get_or (part_at parts p).problem.processes q none)) (next_sum first p)
+    ∙ ap (λ m. copied_process m i (part_at parts p) (get_or (part_at parts p).problem.processes q none))
+    (next_sum first p)
   where
     moved : (own b c q all : ℕ) → all ≡ own → own + b + c + q ≡ all + (b + c + q)
     moved own b c q all e = omega (arith, e)
@@ -77,11 +99,18 @@ copy_at whole first (part ∷ parts) (suc p) i q h l =
     next_sum a b = omega arith
 
 -- an instance lies within the whole
-pub within_whole : (whole first : ℕ) (parts : List Part) (p i : ℕ) → IsInstance whole parts p i → first_of whole parts p i + size_of (part_at parts p) ≤ length (processes_from whole first parts)
+pub within_whole : (whole first : ℕ) (parts : List Part) (p i : ℕ) → IsInstance whole parts p i →
+    first_of whole parts p i + size_of (part_at parts p) ≤ length (processes_from whole first parts)
 within_whole whole first [] p i h = absurd (omega (arith, h.part))
 within_whole whole first (part ∷ parts) zero i h =
-    let most : (i + 1) * size_of part ≤ whole / part.period * size_of part = product_le (i + 1) (whole / part.period) (size_of part) (omega (arith, h.instance)) in
-    omega (arith, most, processes_size whole first part, length-append (processes_of whole first part) (processes_from whole (first + 1) parts))
+    let most : (i + 1) * size_of part ≤ whole / part.period * size_of part =
+    product_le (i + 1) (whole / part.period) (size_of part) (omega (arith, h.instance)) in
+    omega (
+      arith,
+      most,
+      processes_size whole first part,
+      length-append (processes_of whole first part) (processes_from whole (first + 1) parts),
+    )
 within_whole whole first (part ∷ parts) (suc p) i h =
     omega (
       arith,
@@ -91,7 +120,8 @@ within_whole whole first (part ∷ parts) (suc p) i h =
     )
 
 pub are_copies : InstancesAreCopies
-are_copies whole parts p i q h l = copy_at whole 0 parts p i q h l ∙ ap (λ n. copied_process n i (part_at parts p) (process_at (part_at parts p).problem q)) (nothing_before p)
+are_copies whole parts p i q h l = copy_at whole 0 parts p i q h l
+    ∙ ap (λ n. copied_process n i (part_at parts p) (process_at (part_at parts p).problem q)) (nothing_before p)
   where
     nothing_before : (n : ℕ) → 0 + n ≡ n
     nothing_before n = omega arith

@@ -1,5 +1,6 @@
 -- How many processes and edges there are in all instances.
-use Rattle.std.proofs.Common.{◌≡◌, ℕ, ◌+◌, ◌*◌, ◌/◌, ◌<◌, ◌≤◌, Bool, true, false, List, [], ◌∷◌, ◌++◌, length, length-append, append-nil, append_assoc, get_or, drop, filter, refl, sym, ap, ◌∙◌, arith}
+use Rattle.std.proofs.Common.{◌≡◌, ℕ, ◌+◌, ◌*◌, ◌/◌, ◌<◌, ◌≤◌, Bool, true, false, List, [], ◌∷◌, ◌++◌, length}
+use Rattle.std.proofs.Common.{length-append, append-nil, append_assoc, get_or, drop, filter, refl, sym, ap, ◌∙◌, arith}
 use Rattle.std.specs.Prelude.{All}
 use Rattle.std.specs.List.{flat_map}
 use Rattle.std.proofs.Math.Nat.{div-le_self}
@@ -12,25 +13,32 @@ use Rattle.cpg_base.specs.declared.process.Edge.{Edge}
 use Rattle.cpg_base.proofs.Lists.{below_push, filter_below_push}
 use Rattle.cpg_reader.proofs.Each.{drop-here}
 use Rattle.cpg_hyper.specs.declared.part.Part.{Part}
-use Rattle.cpg_hyper.specs.Unrolled.{size_of, instances, processes_in, processes_of, processes_from, edges_in, edges_of, edges_from, after_part}
+use Rattle.cpg_hyper.specs.Unrolled.{size_of, instances, processes_in, processes_of, processes_from, edges_in, edges_of}
+use Rattle.cpg_hyper.specs.Unrolled.{edges_from, after_part}
 
-pub constant_pieces : {X Y : Type 0} (f : X → List Y) (n : ℕ) → ((x : X) → length (f x) ≡ n) → (xs : List X) → length (flat_map f xs) ≡ length xs * n
+pub constant_pieces : {X Y : Type 0} (f : X → List Y) (n : ℕ) → ((x : X) → length (f x) ≡ n) → (xs : List X) →
+    length (flat_map f xs) ≡ length xs * n
 constant_pieces f n h [] = omega arith
 constant_pieces f n h (x ∷ xs) = omega (arith, h x, constant_pieces f n h xs, length-append (f x) (flat_map f xs))
 
 instance_count : (whole : ℕ) (part : Part) → length (instances whole part) ≡ whole / part.period
 instance_count whole part = length-range_with_len 0 (whole / part.period)
 
-pub processes_size : (whole p : ℕ) (part : Part) → length (processes_of whole p part) ≡ whole / part.period * size_of part
-processes_size whole p part = constant_pieces (processes_in p part) (size_of part) (λ i. length-map part.problem.processes _) (instances whole part) ∙
+pub processes_size : (whole p : ℕ) (part : Part) →
+    length (processes_of whole p part) ≡ whole / part.period * size_of part
+processes_size whole p part = constant_pieces (processes_in p part) (size_of part)
+    (λ i. length-map part.problem.processes _) (instances whole part) ∙
     ap (λ n. n * size_of part) (instance_count whole part)
 
-pub edges_size : (whole first : ℕ) (part : Part) → length (edges_of whole first part) ≡ whole / part.period * length part.problem.edges
-edges_size whole first part = constant_pieces (edges_in first part) (length part.problem.edges) (λ i. length-map part.problem.edges _) (instances whole part) ∙
+pub edges_size : (whole first : ℕ) (part : Part) →
+    length (edges_of whole first part) ≡ whole / part.period * length part.problem.edges
+edges_size whole first part = constant_pieces (edges_in first part) (length part.problem.edges)
+    (λ i. length-map part.problem.edges _) (instances whole part) ∙
     ap (λ n. n * length part.problem.edges) (instance_count whole part)
 
 -- the number of edges does not depend on where they begin
-pub same_length : (whole a b : ℕ) (parts : List Part) → length (edges_from whole a parts) ≡ length (edges_from whole b parts)
+pub same_length : (whole a b : ℕ) (parts : List Part) →
+    length (edges_from whole a parts) ≡ length (edges_from whole b parts)
 same_length whole a b [] = refl
 same_length whole a b (part ∷ parts) = omega (
   arith,
@@ -44,14 +52,21 @@ same_length whole a b (part ∷ parts) = omega (
 product_le : (a b c d : ℕ) → a ≤ b → c ≤ d → a * c ≤ b * d
 product_le a b c d h k = grind (arith, common_steps)
 
-pub part_le : (whole period count most : ℕ) → whole ≤ 1000000000 → count ≤ most → whole / period * count ≤ 1000000000 * most
-part_le whole period count most h k = product_le (whole / period) 1000000000 count most (omega (arith, div-le_self whole period, h)) k
+pub part_le : (whole period count most : ℕ) → whole ≤ 1000000000 → count ≤ most →
+    whole / period * count ≤ 1000000000 * most
+part_le whole period count most h k =
+    product_le (whole / period) 1000000000 count most (omega (arith, div-le_self whole period, h)) k
 
-module _ (parts : List Part) (i : ℕ) (part : Part) (l : i < length parts) (is : part ≡ get_or parts i part) (whole : ℕ) where
+module _ (parts : List Part) (i : ℕ) (part : Part) (l : i < length parts) (is : part ≡ get_or parts i part)
+    (whole : ℕ) where
   pub more_processes : (all total : ℕ) → all ≡ total + length (processes_from whole i (drop i parts)) →
       all ≡ total + whole / part.period * size_of part + length (processes_from whole (i + 1) (drop (i + 1) parts))
   more_processes all total h = h ∙ rw (drop-here parts i part l is)
-      (omega (arith, length-append (processes_of whole i part) (processes_from whole (i + 1) (drop (i + 1) parts)), processes_size whole i part))
+      (omega (
+        arith,
+        length-append (processes_of whole i part) (processes_from whole (i + 1) (drop (i + 1) parts)),
+        processes_size whole i part,
+      ))
 
   pub more_edges : (all total : ℕ) → all ≡ total + length (edges_from whole 0 (drop i parts)) →
       all ≡ total + whole / part.period * length part.problem.edges + length (edges_from whole 0 (drop (i + 1) parts))
@@ -64,15 +79,20 @@ module _ (parts : List Part) (i : ℕ) (part : Part) (l : i < length parts) (is 
       ))
 
   -- the edges of one more part
-  pub next_edges : (all out new : List Edge) (first : ℕ) → all ≡ out ++ edges_from whole first (drop i parts) → new ≡ out ++ edges_of whole first part →
+  pub next_edges : (all out new : List Edge) (first : ℕ) → all ≡ out ++ edges_from whole first (drop i parts) →
+      new ≡ out ++ edges_of whole first part →
       all ≡ new ++ edges_from whole (after_part whole first part) (drop (i + 1) parts)
-  next_edges all out new first h k = h ∙ rw (drop-here parts i part l is) (sym (append_assoc out (edges_of whole first part) (edges_from whole (after_part whole first part) (drop (i + 1) parts)))) ∙
+  next_edges all out new first h k = h ∙ rw (drop-here parts i part l is) (sym (append_assoc out
+      (edges_of whole first part) (edges_from whole (after_part whole first part) (drop (i + 1) parts)))) ∙
       ap (λ xs. xs ++ edges_from whole (after_part whole first part) (drop (i + 1) parts)) (sym k)
 
 -- one more instance
-pub next_instance : {X : Type 0} (f : ℕ → List X) (n : ℕ) (old out new : List X) → out ≡ old ++ flat_map f (numbers_below n) → new ≡ out ++ f n → new ≡ old ++ flat_map f (numbers_below (n + 1))
+pub next_instance : {X : Type 0} (f : ℕ → List X) (n : ℕ) (old out new : List X) →
+    out ≡ old ++ flat_map f (numbers_below n) → new ≡ out ++ f n →
+    new ≡ old ++ flat_map f (numbers_below (n + 1))
 next_instance f n old out new h k = k ∙ ap (λ xs. xs ++ f n) h ∙ append_assoc old (flat_map f (numbers_below n)) (f n)
-    ∙ ap (λ xs. old ++ xs) (ap (λ xs. flat_map f (numbers_below n) ++ xs) (sym (append-nil (f n))) ∙ sym (flat_map-append f (numbers_below n) (n ∷ [])) ∙ ap (flat_map f) (sym (below_push n)))
+    ∙ ap (λ xs. old ++ xs) (ap (λ xs. flat_map f (numbers_below n) ++ xs) (sym (append-nil (f n)))
+    ∙ sym (flat_map-append f (numbers_below n) (n ∷ [])) ∙ ap (flat_map f) (sym (below_push n)))
 
 no_edges : (n : ℕ) (es : List Edge) → n ≡ 0 → All (IsEdgeWithin n) es → es ≡ []
 no_edges n [] e h = refl
@@ -83,14 +103,17 @@ empty_pieces f h [] = refl
 empty_pieces f h (x ∷ xs) = rw (h x) (empty_pieces f h xs)
 
 -- a part without processes has no edges
-pub nothing_added : (out : List Edge) (whole first : ℕ) (part : Part) → IsWithinLimits part.problem → size_of part ≡ 0 → out ≡ out ++ edges_of whole first part
+pub nothing_added : (out : List Edge) (whole first : ℕ) (part : Part) → IsWithinLimits part.problem → size_of part ≡ 0 →
+    out ≡ out ++ edges_of whole first part
 nothing_added out whole first part h e =
     let none = no_edges (size_of part) part.problem.edges e h.edges in
-    sym (ap (λ xs. out ++ xs) (empty_pieces (edges_in first part) (λ i. rw none refl) (instances whole part)) ∙ append-nil out)
+    sym (ap (λ xs. out ++ xs) (empty_pieces (edges_in first part) (λ i. rw none refl) (instances whole part))
+    ∙ append-nil out)
 
 module _ (p : ℕ → Bool) (n total new : ℕ) (h : total ≡ length (filter p (numbers_below n))) where
   pub counted : p n ≡ true → new ≡ total + 1 → new ≡ length (filter p (numbers_below (n + 1)))
-  counted e k = k ∙ rw (filter_below_push p n, e) (omega (arith, h, length-append (filter p (numbers_below n)) (n ∷ [])))
+  counted e k =
+      k ∙ rw (filter_below_push p n, e) (omega (arith, h, length-append (filter p (numbers_below n)) (n ∷ [])))
 
   pub passed : p n ≡ false → new ≡ total → new ≡ length (filter p (numbers_below (n + 1)))
   passed e k = k ∙ rw (filter_below_push p n, e) (omega (arith, h, ap length (append-nil (filter p (numbers_below n)))))

@@ -1,5 +1,6 @@
 -- If edges lead from lower to higher ranks, looking back along as many edges as there are processes is far enough.
-use Rattle.std.proofs.Common.{◌≡◌, ℕ, zero, suc, ◌+◌, ◌<◌, ◌≤◌, Bool, true, false, cond, ◌&&◌, nat_lt, List, [], ◌∷◌, length, filter, Contains, refl, sym, ap, ◌∙◌, subst, arith, ⊎_elim, lt-ltb}
+use Rattle.std.proofs.Common.{◌≡◌, ℕ, zero, suc, ◌+◌, ◌<◌, ◌≤◌, Bool, true, false, cond, ◌&&◌, nat_lt, List, [], ◌∷◌}
+use Rattle.std.proofs.Common.{length, filter, Contains, refl, sym, ap, ◌∙◌, subst, arith, ⊎_elim, lt-ltb}
 use Rattle.std.proofs.Common.{le-ltb}
 use Rattle.std.proofs.lemmas.Bool.{cases_lt, true≢false}
 use Rattle.std.proofs.lemmas.List.FromFn.{length-range_with_len}
@@ -11,19 +12,23 @@ use Rattle.cpg_base.proofs.Inputs.{inputs_parts, same_activation_by}
 use Rattle.cpg_base.proofs.Sums.{length-filter-le}
 
 -- a test that passes more, and one element that the other doesn't, keeps more
-filter_fewer : (p q : ℕ → Bool) (xs : List ℕ) (x : ℕ) → ((y : ℕ) → p y ≡ true → q y ≡ true) → Contains xs x → p x ≡ false → q x ≡ true → length (filter p xs) < length (filter q xs)
+filter_fewer : (p q : ℕ → Bool) (xs : List ℕ) (x : ℕ) → ((y : ℕ) → p y ≡ true → q y ≡ true) → Contains xs x →
+    p x ≡ false → q x ≡ true →
+    length (filter p xs) < length (filter q xs)
 filter_fewer p q [] x more c off on = absurd (Contains-nil x c)
 filter_fewer p q (y ∷ ys) x more c off on = ⊎_elim
     (λ (is : y ≡ x). here (p y) (q y) (ap p is ∙ off) (ap q is ∙ on) (length-filter-le p q ys more))
     (λ (d : Contains ys x). there (p y) (q y) (more y) (filter_fewer p q ys x more d off on))
     (Contains-cases y ys x c)
   where
-    here : (a b : Bool) → a ≡ false → b ≡ true → length (filter p ys) ≤ length (filter q ys) → length (cond a (y ∷ filter p ys) (filter p ys)) < length (cond b (y ∷ filter q ys) (filter q ys))
+    here : (a b : Bool) → a ≡ false → b ≡ true → length (filter p ys) ≤ length (filter q ys) →
+        length (cond a (y ∷ filter p ys) (filter p ys)) < length (cond b (y ∷ filter q ys) (filter q ys))
     here false true e f l = omega (arith, l)
     here true b e f l = cc
     here false false e f l = cc
 
-    there : (a b : Bool) → (a ≡ true → b ≡ true) → length (filter p ys) < length (filter q ys) → length (cond a (y ∷ filter p ys) (filter p ys)) < length (cond b (y ∷ filter q ys) (filter q ys))
+    there : (a b : Bool) → (a ≡ true → b ≡ true) → length (filter p ys) < length (filter q ys) →
+        length (cond a (y ∷ filter p ys) (filter p ys)) < length (cond b (y ∷ filter q ys) (filter q ys))
     there true true h l = omega (arith, l)
     there false true h l = omega (arith, l)
     there false false h l = l
@@ -38,7 +43,8 @@ module _ (size : ℕ) (height : ℕ → ℕ) where
   rank q = length (filter (λ j. nat_lt (height j) (height q)) (numbers_below size))
 
   pub rank_grows : (a b : ℕ) → a < size → height a < height b → rank a < rank b
-  rank_grows a b l h = filter_fewer (λ j. nat_lt (height j) (height a)) (λ j. nat_lt (height j) (height b)) (numbers_below size) a
+  rank_grows a b l h =
+      filter_fewer (λ j. nat_lt (height j) (height a)) (λ j. nat_lt (height j) (height b)) (numbers_below size) a
       (λ j t. lt-ltb (height j) (height b) (omega (arith, lower (height j) (height a) t, h)))
       (Contains-numbers size a l) (le-ltb (height a) (height a) (omega arith)) (lt-ltb (height a) (height b) h)
 
@@ -48,23 +54,31 @@ module _ (size : ℕ) (height : ℕ → ℕ) where
 
   pub rank_below : (q : ℕ) → q < size → rank q < size
   rank_below q l =
-      let fewer = filter_fewer (λ j. nat_lt (height j) (height q)) (λ j. true) (numbers_below size) q (λ j t. refl) (Contains-numbers size q l) (le-ltb (height q) (height q) (omega arith)) refl in
+      let fewer = filter_fewer (λ j. nat_lt (height j) (height q)) (λ j. true) (numbers_below size) q (λ j t. refl)
+      (Contains-numbers size q l) (le-ltb (height q) (height q) (omega arith)) refl in
       omega (arith, fewer, all_kept (numbers_below size), length-range_with_len 0 size)
 
-module _ (g : Graph) (values : List Bool) (height : ℕ → ℕ) (sources : (e : ℕ) → e < edge_count g → source g e < process_count g)
+module _ (g : Graph) (values : List Bool) (height : ℕ → ℕ)
+    (sources : (e : ℕ) → e < edge_count g → source g e < process_count g)
     (up : (e : ℕ) → e < edge_count g → height (source g e) < height (target g e)) where
-  more_depth : (depth q : ℕ) → rank (process_count g) height q < depth → activation_within depth g values q ≡ activation_within (suc depth) g values q
+  more_depth : (depth q : ℕ) → rank (process_count g) height q < depth →
+      activation_within depth g values q ≡ activation_within (suc depth) g values q
   more_depth zero q h = absurd (omega (arith, h))
   more_depth (suc d) q h = same_activation_by (process_at g q).join (inputs g q) _ _
       (λ e c.
       let (inside, is) = inputs_parts g q e c in
       let grows : rank (process_count g) height (source g e) < rank (process_count g) height q =
-      rank_grows (process_count g) height (source g e) q (sources e inside) (subst (λ t. height (source g e) < height t) is (up e inside)) in
-      ap (λ a. is_active a && takes (edge_at g e).when (value_of g values (source g e))) (more_depth d (source g e) (omega (arith, grows, h))))
+      rank_grows (process_count g) height (source g e) q (sources e inside)
+      (subst (λ t. height (source g e) < height t) is (up e inside)) in
+      ap (λ a. is_active a && takes (edge_at g e).when (value_of g values (source g e)))
+      (more_depth d (source g e) (omega (arith, grows, h))))
 
-  pub enough_depth : (more q : ℕ) → q < process_count g → activation_within (more + process_count g) g values q ≡ activation_within (process_count g) g values q
-  enough_depth zero q l = ap (λ n. activation_within n g values q) (let is : 0 + process_count g ≡ process_count g = omega arith in is)
+  pub enough_depth : (more q : ℕ) → q < process_count g →
+      activation_within (more + process_count g) g values q ≡ activation_within (process_count g) g values q
+  enough_depth zero q l =
+      ap (λ n. activation_within n g values q) (let is : 0 + process_count g ≡ process_count g = omega arith in is)
   enough_depth (suc more) q l =
-      ap (λ n. activation_within n g values q) (let is : suc more + process_count g ≡ suc (more + process_count g) = omega arith in is)
+      ap (λ n. activation_within n g values q) (let is : suc more + process_count g ≡ suc (more + process_count g) =
+      omega arith in is)
       ∙ sym (more_depth (more + process_count g) q (omega (arith, rank_below (process_count g) height q l)))
       ∙ enough_depth more q l

@@ -1,5 +1,6 @@
 -- Scenarios of instances, how long executions last in them, and when they start and end in valid tables.
-use Rattle.std.proofs.Common.{map, not, None, ◌≡◌, ℕ, ◌+◌, ◌*◌, ◌<◌, ◌≤◌, Bool, true, false, ◌&&◌, ◌||◌, nat_lt, List, [], ◌∷◌, take, drop, filter, sum, Some, Contains, refl, sym, ap, ◌∙◌, subst}
+use Rattle.std.proofs.Common.{map, not, None, ◌≡◌, ℕ, ◌+◌, ◌*◌, ◌<◌, ◌≤◌, Bool, true, false, ◌&&◌, ◌||◌, nat_lt, List}
+use Rattle.std.proofs.Common.{[], ◌∷◌, take, drop, filter, sum, Some, Contains, refl, sym, ap, ◌∙◌, subst}
 use Rattle.std.proofs.Common.{arith, lt-ltb, ⊎_elim}
 use Rattle.std.specs.List.{list_any}
 use Rattle.std.proofs.lemmas.Bool.{cases_lt, or_parts, true≢false}
@@ -10,7 +11,8 @@ use Rattle.cpg_base.specs.Activity.{item_active}
 use Rattle.cpg_base.specs.Duration.{duration, due, lesser_due}
 use Rattle.cpg_base.specs.declared.item.Item.TheVariants.{Start}
 use Rattle.cpg_base.specs.declared.process.Process.{Process}
-use Rattle.cpg_base.proofs.Lists.{Contains-map_parts, Contains-filter_parts, Contains-map, Contains-filter, list_any_parts}
+use Rattle.cpg_base.proofs.Lists.{Contains-map_parts, Contains-filter_parts, Contains-map, Contains-filter}
+use Rattle.cpg_base.proofs.Lists.{list_any_parts}
 use Rattle.cpg_base.specs.Scenario.{Scenario, IsScenario, fault_of}
 use Rattle.cpg_cube.specs.Cube.{matches}
 use Rattle.cpg_table.specs.Table.{NodeTable, columns_of}
@@ -20,7 +22,8 @@ use Rattle.cpg_table.specs.declared.rule.Rule.TheVariants.{Present, Inputs, Due}
 use Rattle.cpg_hyper.specs.declared.part.Part.{Part}
 use Rattle.cpg_hyper.specs.Unrolled.{size_of, unrolled, first_graph}
 use Rattle.cpg_hyper.specs.Instances.{part_at, first_of, scenario_of}
-use Rattle.cpg_hyper.specs.Laws.{InstancesHaveScenarios, InstancesLastAsLong, ValidTablesStartInstances, ValidTablesKeepPeriods}
+use Rattle.cpg_hyper.specs.Laws.{InstancesHaveScenarios, InstancesLastAsLong, ValidTablesStartInstances}
+use Rattle.cpg_hyper.specs.Laws.{ValidTablesKeepPeriods}
 use Rattle.cpg_hyper.proofs.Copies.{are_copies, within_whole}
 
 sum_part : (xs : List ℕ) (n m : ℕ) → sum (take m (drop n xs)) ≤ sum xs
@@ -33,19 +36,29 @@ have_scenarios whole parts p i s over h is =
     let inside = within_whole whole 0 parts p i h in
     record {
       values = length-map (disjunctions part.problem) _;
-      faults = omega (arith, length-take (size_of part) (drop first s.faults), length-drop first s.faults, is.faults, inside);
-      budget = omega (arith, sum_part s.faults first (size_of part), is.budget, (over.fitting.alike p (record { period = 0; problem = first_graph [] }) h.part).faults);
+      faults = omega
+          (arith, length-take (size_of part) (drop first s.faults), length-drop first s.faults, is.faults, inside);
+      budget = omega (
+        arith,
+        sum_part s.faults first (size_of part),
+        is.budget,
+        (over.fitting.alike p (record { period = 0; problem = first_graph [] }) h.part).faults,
+      );
     }
 
-fault_same : (whole : ℕ) (parts : List Part) (p i q : ℕ) (s : Scenario) → q < size_of (part_at parts p) → fault_of (scenario_of whole parts p i s) q ≡ fault_of s (first_of whole parts p i + q)
-fault_same whole parts p i q s l = get_or-take (size_of (part_at parts p)) (drop (first_of whole parts p i) s.faults) q 0 l ∙ get_or-drop (first_of whole parts p i) s.faults q 0
+fault_same : (whole : ℕ) (parts : List Part) (p i q : ℕ) (s : Scenario) → q < size_of (part_at parts p) →
+    fault_of (scenario_of whole parts p i s) q ≡ fault_of s (first_of whole parts p i + q)
+fault_same whole parts p i q s l =
+    get_or-take (size_of (part_at parts p)) (drop (first_of whole parts p i) s.faults) q 0 l
+    ∙ get_or-drop (first_of whole parts p i) s.faults q 0
 
 pub last_as_long : InstancesLastAsLong
 last_as_long whole parts p i q s h l is = rw (fault_same whole parts p i q s l, are_copies whole parts p i q h l) refl
 
 -- ---- valid tables
 
-column_there : (cs : List Column) (c : Column) (test : Column → Bool) → Contains cs c → (j : ℕ) × (list_any test (take 1 (drop j cs)) ≡ (test c || false))
+column_there : (cs : List Column) (c : Column) (test : Column → Bool) → Contains cs c →
+    (j : ℕ) × (list_any test (take 1 (drop j cs)) ≡ (test c || false))
 column_there cs c test (j, l, e) = (j, rw (drop_more cs j c l, e) refl)
 
 both_false : (a b : Bool) → ((a && b) || false) ≡ false → a ≡ true → b ≡ false
@@ -56,25 +69,33 @@ both_false false b h e = cc
 at_least : (a b : ℕ) → nat_lt a b ≡ false → b ≤ a
 at_least a b h = ⊎_elim (λ (l : a < b). absurd (true≢false (sym (lt-ltb a b l) ∙ h))) (λ (m : b ≤ a). m) (cases_lt a b)
 
-module _ (g : Graph) (tables : List NodeTable) (s : Scenario) (x : ℕ) (is : IsScenario g s) (valid : IsValid g tables) (l : x < process_count g) (c : Column)
+module _ (g : Graph) (tables : List NodeTable) (s : Scenario) (x : ℕ) (is : IsScenario g s) (valid : IsValid g tables)
+    (l : x < process_count g) (c : Column)
     (there : Contains (columns_of tables x) c) (match : matches c.cube s ≡ true) where
   start : item_at g x ≡ Start x
   start = rw (lt-ltb x (process_count g) l) refl
 
   released : (process_at g x).release ≤ c.time
   released =
-      let here : take 1 (drop there.0 (columns_of tables x)) ≡ c ∷ [] = rw (drop_more (columns_of tables x) there.0 c there.1, there.2) refl in
-      let rule : breaks Inputs g tables s x (Some there.0) ≡ false = valid.rules Inputs x (Some there.0) s is (omega (arith, l)) in
-      let inputs : breaks_inputs g tables s x c ≡ false = both_false (matches c.cube s) (breaks_inputs g tables s x c) (rw here at rule) match in
+      let here : take 1 (drop there.0 (columns_of tables x)) ≡ c ∷ [] =
+      rw (drop_more (columns_of tables x) there.0 c there.1, there.2) refl in
+      let rule : breaks Inputs g tables s x (Some there.0) ≡ false =
+      valid.rules Inputs x (Some there.0) s is (omega (arith, l)) in
+      let inputs : breaks_inputs g tables s x c ≡ false =
+      both_false (matches c.cube s) (breaks_inputs g tables s x c) (rw here at rule) match in
       let released : breaks_inputs_of g tables s c.time (Start x) ≡ false = rw start at inputs in
       at_least c.time (process_at g x).release (or_parts (nat_lt c.time (process_at g x).release) _ released).0
 
   ended : c.time + duration g x (fault_of s x) ≤ due g x
   ended =
-      let here : take 1 (drop there.0 (columns_of tables x)) ≡ c ∷ [] = rw (drop_more (columns_of tables x) there.0 c there.1, there.2) refl in
-      let rule : breaks Due g tables s x (Some there.0) ≡ false = valid.rules Due x (Some there.0) s is (omega (arith, l)) in
-      let late : breaks_due g s x c ≡ false = both_false (matches c.cube s) (breaks_due g s x c) (rw here at rule) match in
-      let late2 : nat_lt (due g x) (c.time + duration g x (fault_of s x)) ≡ false = rw (lt-ltb x (process_count g) l) at late in
+      let here : take 1 (drop there.0 (columns_of tables x)) ≡ c ∷ [] =
+      rw (drop_more (columns_of tables x) there.0 c there.1, there.2) refl in
+      let rule : breaks Due g tables s x (Some there.0) ≡ false =
+      valid.rules Due x (Some there.0) s is (omega (arith, l)) in
+      let late : breaks_due g s x c ≡ false =
+      both_false (matches c.cube s) (breaks_due g s x c) (rw here at rule) match in
+      let late2 : nat_lt (due g x) (c.time + duration g x (fault_of s x)) ≡ false =
+      rw (lt-ltb x (process_count g) l) at late in
       at_least (due g x) (c.time + duration g x (fault_of s x)) late2
 
 lesser_of : (whole own : ℕ) → lesser_due whole (Some own) ≤ own
@@ -86,12 +107,16 @@ keep_periods whole parts p i q s tables time h l is valid among =
     let part = part_at parts p in
     let x = first_of whole parts p i + q in
     let below : x < process_count g = omega (arith, within_whole whole 0 parts p i h, l) in
-    let (c, passed, at_time) = Contains-map_parts (λ (d : Column). d.time) (filter (λ (d : Column). matches d.cube s) (columns_of tables x)) time among in
+    let (c, passed, at_time) = Contains-map_parts (λ (d : Column). d.time)
+    (filter (λ (d : Column). matches d.cube s) (columns_of tables x)) time among in
     let (there, match) = Contains-filter_parts (λ (d : Column). matches d.cube s) (columns_of tables x) c passed in
     let copy = are_copies whole parts p i q h l in
-    let release : (process_at g x).release ≡ i * part.period + (process_at part.problem q).release = ap (λ (d : Process). d.release) copy in
-    let own : (process_at g x).deadline ≡ Some (i * part.period + due part.problem q) = ap (λ (d : Process). d.deadline) copy in
-    let least : due g x ≤ i * part.period + due part.problem q = subst (λ d. lesser_due whole d ≤ i * part.period + due part.problem q) (sym own)
+    let release : (process_at g x).release ≡ i * part.period + (process_at part.problem q).release =
+    ap (λ (d : Process). d.release) copy in
+    let own : (process_at g x).deadline ≡ Some (i * part.period + due part.problem q) =
+    ap (λ (d : Process). d.deadline) copy in
+    let least : due g x ≤ i * part.period + due part.problem q =
+    subst (λ d. lesser_due whole d ≤ i * part.period + due part.problem q) (sym own)
     (lesser_of whole (i * part.period + due part.problem q)) in
     record {
       released = omega (arith, released g tables s x is valid below c there match, release, at_time);
@@ -101,8 +126,11 @@ keep_periods whole parts p i q s tables time h l is valid among =
 some_passes : (cs : List Column) (s : Scenario) → list_any (λ (d : Column). matches d.cube s) cs ≡ true → (t : ℕ) ×
     Contains (map (λ (d : Column). d.time) (filter (λ (d : Column). matches d.cube s) cs)) t
 some_passes cs s h =
-    let (c, there, test) = list_any_parts (λ (d : Column). matches d.cube s) cs h in
-    (c.time, Contains-map (λ (d : Column). d.time) (filter (λ (d : Column). matches d.cube s) cs) c (Contains-filter (λ (d : Column). matches d.cube s) cs c test there))
+    let (c, there, test) = list_any_parts (λ (d : Column). matches d.cube s) cs h in (
+      c.time,
+      Contains-map (λ (d : Column). d.time) (filter (λ (d : Column). matches d.cube s) cs) c
+          (Contains-filter (λ (d : Column). matches d.cube s) cs c test there),
+    )
 
 present : (a b : Bool) → (a && not b) ≡ false → a ≡ true → b ≡ true
 present true true h e = refl
@@ -119,4 +147,5 @@ start_instances whole parts p i q s tables h l is valid alive =
     let below : x < process_count g = omega (arith, within_whole whole 0 parts p i h, l) in
     let rule : breaks_present g tables s x ≡ false = valid.rules Present x None s is (omega (arith, below)) in
     let acting : item_active g s.values (item_at g x) ≡ true = rw (start_at g x below) alive in
-    some_passes (columns_of tables x) s (present (item_active g s.values (item_at g x)) (list_any (λ (d : Column). matches d.cube s) (columns_of tables x)) rule acting)
+    some_passes (columns_of tables x) s (present (item_active g s.values (item_at g x))
+    (list_any (λ (d : Column). matches d.cube s) (columns_of tables x)) rule acting)

@@ -1,14 +1,21 @@
 -- Common divisors and multiples.
-use Rattle.std.proofs.Common.{◌≡◌, ℕ, zero, suc, ◌+◌, ◌*◌, ◌/◌, ◌%◌, ◌-◌, ◌<◌, ◌≤◌, List, length, get_or, take, sym, ap, ◌∙◌, subst, arith}
+use Rattle.std.proofs.Common.{◌≡◌, ℕ, zero, suc, ◌+◌, ◌*◌, ◌/◌, ◌%◌, ◌-◌, ◌<◌, ◌≤◌, List, length, get_or, take, sym, ap}
+use Rattle.std.proofs.Common.{◌∙◌, subst, arith}
 use Rattle.std.specs.Int.{◌∣◌}
 use Rattle.std.proofs.lemmas.Nat.Gcd.{dvd_refl, dvd-zero, dvd_trans, le_of_dvd}
-use Rattle.std.proofs.Math.Nat.{dvd-mul_left, dvd-mul_left_of_dvd, mul-dvd-mul_left, mul-dvd-mul_right, dvd_of_mul-dvd-mul_left, div-mul_cancel, dvd-sub, dvd-mod_iff, div-add-mod, one-dvd}
+use Rattle.std.proofs.Math.Nat.{dvd-mul_left, dvd-mul_left_of_dvd, mul-dvd-mul_left, mul-dvd-mul_right}
+use Rattle.std.proofs.Math.Nat.{dvd_of_mul-dvd-mul_left, div-mul_cancel, dvd-sub, dvd-mod_iff, div-add-mod, one-dvd}
 use Rattle.cpg_hyper.specs.Hyperperiod.{IsMeasure, IsLeastCommon, IsCommon, IsHyperperiod}
 use Rattle.cpg_hyper.specs.declared.part.Part.{Part}
 use Rattle.cpg_hyper.proofs.Taken.{all_more, all_less, all_same}
 
 pub measure_zero : (a b : ℕ) → 1 ≤ a → b ≡ 0 → IsMeasure a b a
-measure_zero a b some e = record { some = omega (arith, some); first = dvd_refl a; second = subst (λ n. a ∣ n) (sym e) (dvd-zero a); most = λ d m p q. p }
+measure_zero a b some e = record {
+  some = omega (arith, some);
+  first = dvd_refl a;
+  second = subst (λ n. a ∣ n) (sym e) (dvd-zero a);
+  most = λ d m p q. p;
+}
 
 by_parts : (m b q r a : ℕ) → b * q + r ≡ a → m * r ≡ m * a - q * (m * b)
 by_parts m b q r a e = rw (← e) (omega arith)
@@ -21,7 +28,8 @@ measure_step a b g h = record {
   some = h.some;
   first = (dvd-mod_iff g h.first).0 h.second;
   second = h.first;
-  most = λ d m p q. h.most d m q (subst (λ n. d ∣ n) (sym (rest_of m a b)) (dvd-sub d p (dvd-mul_left_of_dvd d q (a / b))));
+  most = λ d m p q.
+      h.most d m q (subst (λ n. d ∣ n) (sym (rest_of m a b)) (dvd-sub d p (dvd-mul_left_of_dvd d q (a / b))));
 }
 
 swap_inner : (x k g : ℕ) → x * (k * g) ≡ k * (x * g)
@@ -43,7 +51,8 @@ least_of a b g h =
       first = subst (λ n. a ∣ n) same (dvd-mul_left a (b / g));
       second = dvd-mul_left b k;
       least = λ m p q.
-          let both = h.most (a * b) m (subst (λ n. a * b ∣ n) (swap a m) (mul-dvd-mul_left b a q)) (mul-dvd-mul_right a p b) in
+          let both =
+          h.most (a * b) m (subst (λ n. a * b ∣ n) (swap a m) (mul-dvd-mul_left b a q)) (mul-dvd-mul_right a p b) in
           let left : a * b ≡ g * (k * b) = ap (λ x. x * b) (sym own) ∙ swap_outer k g b in
           dvd_of_mul-dvd-mul_left (k * b) h.some (subst (λ n. n ∣ g * m) left (subst (λ n. a * b ∣ n) (swap m g) both));
     }
@@ -63,14 +72,18 @@ pub record IsSoFar (parts : List Part) (whole : ℕ) : Type 0 where
 pub none_so_far : (parts : List Part) → IsSoFar (take 0 parts) 1
 none_so_far parts = record { common = λ k d l. absurd (omega arith); least = λ m h. one-dvd m }
 
-pub more_so_far : (parts : List Part) (i : ℕ) (part : Part) (whole new : ℕ) → i < length parts → part ≡ get_or parts i part → IsSoFar (take i parts) whole → IsLeastCommon whole part.period new →
+pub more_so_far : (parts : List Part) (i : ℕ) (part : Part) (whole new : ℕ) → i < length parts →
+    part ≡ get_or parts i part → IsSoFar (take i parts) whole →
+    IsLeastCommon whole part.period new →
     IsSoFar (take (i + 1) parts) new
 more_so_far parts i part whole new l is so_far h = record {
-  common = all_more parts i part l is (λ d. d.period ∣ new) (λ k d m. dvd_trans _ (so_far.common k d m) h.first) h.second;
+  common =
+      all_more parts i part l is (λ d. d.period ∣ new) (λ k d m. dvd_trans _ (so_far.common k d m) h.first) h.second;
   least = λ m c.
       let (before, here) = all_less parts i part l is (λ d. d.period ∣ m) c in
       h.least m (so_far.least m before) here;
 }
 
-pub least_below : (parts : List Part) (i whole new : ℕ) → IsSoFar (take i parts) new → IsHyperperiod parts whole → new ≤ whole
+pub least_below : (parts : List Part) (i whole new : ℕ) → IsSoFar (take i parts) new → IsHyperperiod parts whole →
+    new ≤ whole
 least_below parts i whole new h w = le_of_dvd w.some (h.least whole (all_same parts i (λ d. d.period ∣ whole) w.common))

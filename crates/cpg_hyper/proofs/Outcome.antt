@@ -10,27 +10,36 @@ use Rattle.cpg_base.specs.declared.process.Slot.{Slot}
 use Rattle.cpg_base.proofs.Found.{conditions_found}
 use Rattle.cpg_hyper.specs.declared.part.Part.{Part}
 use Rattle.cpg_hyper.specs.declared.part.HyperFault.{HyperFault}
-use Rattle.cpg_hyper.specs.declared.part.HyperFault.TheVariants.{Range, Differ, Over, Period, Count, LongName, Order, OutOfMemory}
+use Rattle.cpg_hyper.specs.declared.part.HyperFault.TheVariants.{Range, Differ, Over, Period, Count, LongName, Order}
+use Rattle.cpg_hyper.specs.declared.part.HyperFault.TheVariants.{OutOfMemory}
 use Rattle.cpg_hyper.specs.Unrolled.{processes_from, edges_from, first_graph, unrolled}
 use Rattle.cpg_hyper.specs.Refusals.{HoldsOfEach, HasFewEnough, AreOver, ShowsProcesses, ShowsUnrolled}
 use Rattle.cpg_hyper.proofs.Whole.{unrolled_within, first_there}
 
 -- the parts of which the graph is made
-pub made_within : (whole : ℕ) (parts : List Part) → 1 ≤ length parts → length parts ≤ 4 → AreOver parts whole → HoldsOfEach (λ p part. IsWithinLimits part.problem) parts →
+pub made_within : (whole : ℕ) (parts : List Part) → 1 ≤ length parts → length parts ≤ 4 → AreOver parts whole →
+    HoldsOfEach (λ p part. IsWithinLimits part.problem) parts →
     HasFewEnough (unrolled whole parts)
     → (first : Graph) (faults : ℕ) (nodes : List (List ℕ)) (slots : List Slot) (ps : List Process) (es : List Edge)
-    → first ≡ first_graph parts → faults ≡ first.faults → nodes ≡ first.nodes → slots ≡ first.slots → ps ≡ processes_from whole 0 parts → es ≡ edges_from whole 0 parts
+    → first ≡ first_graph parts → faults ≡ first.faults → nodes ≡ first.nodes → slots ≡ first.slots →
+    ps ≡ processes_from whole 0 parts → es ≡ edges_from whole 0 parts
     → IsWithinLimits (record { faults = faults; deadline = whole; nodes = nodes; slots = slots; processes = ps; edges = es; order = None })
 made_within whole parts some few over within counts first faults nodes slots ps es is a b c d e =
     rw (a, b, c, d, e, is) (unrolled_within whole parts some few over within counts)
 
-pub first_problem : (parts : List Part) (part : Part) → 1 ≤ length parts → part ≡ get_or parts 0 part → part.problem ≡ first_graph parts
+pub first_problem : (parts : List Part) (part : Part) → 1 ≤ length parts → part ≡ get_or parts 0 part →
+    part.problem ≡ first_graph parts
 first_problem parts part some is = ap (λ (d : Part). d.problem) is ∙ first_there parts part some
 
-pub count_is : (g : Graph) (es : List Edge) (n total : ℕ) → es ≡ g.edges → n ≡ process_count g → total ≡ length (filter (has_conditional_output es) (numbers_below n)) → total ≡ condition_count g
-count_is g es n total e k h = h ∙ ap length (ap₂ (λ ds m. filter (has_conditional_output ds) (numbers_below m)) e k ∙ conditions_found g)
+pub count_is : (g : Graph) (es : List Edge) (n total : ℕ) → es ≡ g.edges → n ≡ process_count g →
+    total ≡ length (filter (has_conditional_output es) (numbers_below n)) →
+    total ≡ condition_count g
+count_is g es n total e k h =
+    h ∙ ap length (ap₂ (λ ds m. filter (has_conditional_output ds) (numbers_below m)) e k ∙ conditions_found g)
 
-pub from_processes : (whole : ℕ) (parts : List Part) → AreOver parts whole → HasFewEnough (unrolled whole parts) → (f : HyperFault) → ShowsProcesses whole parts (Err f) → ShowsUnrolled parts (Err f)
+pub from_processes : (whole : ℕ) (parts : List Part) → AreOver parts whole → HasFewEnough (unrolled whole parts) →
+    (f : HyperFault) → ShowsProcesses whole parts (Err f) →
+    ShowsUnrolled parts (Err f)
 from_processes whole parts over few (Range p) h = absurd h
 from_processes whole parts over few (Differ p) h = absurd h
 from_processes whole parts over few (Over p) h = absurd h

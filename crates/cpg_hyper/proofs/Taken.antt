@@ -1,5 +1,6 @@
 -- What holds of all elements of the front of a list.
-use Rattle.std.proofs.Common.{◌≡◌, ℕ, zero, suc, refl, length-append, ◌+◌, ◌<◌, List, [], ◌∷◌, ◌++◌, length, get_or, take, sym, ap, ◌∙◌, subst, arith}
+use Rattle.std.proofs.Common.{◌≡◌, ℕ, zero, suc, refl, length-append, ◌+◌, ◌<◌, List, [], ◌∷◌, ◌++◌, length, get_or}
+use Rattle.std.proofs.Common.{take, sym, ap, ◌∙◌, subst, arith}
 use Rattle.std.specs.Prelude.{All}
 use Rattle.std.proofs.lemmas.List.{take_more}
 use Rattle.std.proofs.lemmas.List.Elements.{All-push, All-take}
@@ -15,8 +16,10 @@ at_last (x ∷ xs) y d = at_last xs y d
 
 All_parts : {X : Type 0} (P : X → Type 0) (xs : List X) (x : X) → All P (xs ++ x ∷ []) → All P xs × P x
 All_parts P xs x a =
-    let long = length-append xs (x ∷ []) in
-    (λ k d l. subst P (at_left xs (x ∷ []) k d l) (a k d (omega (arith, long, l))), subst P (at_last xs x x) (a (length xs) x (omega (arith, long))))
+    let long = length-append xs (x ∷ []) in (
+      λ k d l. subst P (at_left xs (x ∷ []) k d l) (a k d (omega (arith, long, l))),
+      subst P (at_last xs x x) (a (length xs) x (omega (arith, long))),
+    )
 
 module _ {X : Type 0} (xs : List X) (i : ℕ) (x : X) (h : i < length xs) (is : x ≡ get_or xs i x) where
   pub more : take (i + 1) xs ≡ take i xs ++ x ∷ []

@@ -1,5 +1,6 @@
 -- What copies are called.
-use Rattle.std.proofs.Common.{◌≡◌, ℕ, zero, suc, ◌+◌, ◌%◌, ◌^◌, ◌<◌, ◌≤◌, List, [], ◌∷◌, ◌++◌, codes, length, length-append, append_assoc, get_or, Option, Some, None, Result, Ok, Err, refl, sym, ap}
+use Rattle.std.proofs.Common.{◌≡◌, ℕ, zero, suc, ◌+◌, ◌%◌, ◌^◌, ◌<◌, ◌≤◌, List, [], ◌∷◌, ◌++◌, codes, length}
+use Rattle.std.proofs.Common.{length-append, append_assoc, get_or, Option, Some, None, Result, Ok, Err, refl, sym, ap}
 use Rattle.std.proofs.Common.{◌∙◌, subst, arith, ⊎_elim, le-leb, rules}
 use Rattle.std.specs.Prelude.{All, IfOk, IfNone, IsTrue}
 use Rattle.std.specs.Fmt.{decimal}
@@ -22,7 +23,8 @@ all_one P x h (suc k) d l = absurd (omega (arith, l))
 pub digits_only : (n : ℕ) → n < 2 ^ 64 → All IsDigit (decimal n)
 digits_only n h = decimal_by_steps (λ n ds. All IsDigit ds)
     (λ n l. all_one IsDigit (48 + n) (omega arith, omega (arith, l)))
-    (λ n ds l p. All-append IsDigit ds ((48 + n % 10) ∷ []) p (all_one IsDigit (48 + n % 10) (omega arith, omega arith)))
+    (λ n ds l p.
+    All-append IsDigit ds ((48 + n % 10) ∷ []) p (all_one IsDigit (48 + n % 10) (omega arith, omega arith)))
     n h
 
 digit_in_name : (b : ℕ) → IsDigit b → IsTrue (is_name_byte b)
@@ -36,27 +38,36 @@ point = all_one (λ b. IsTrue (is_name_byte b)) 46 refl
 
 -- a name with its points, from the left
 made_is : (p i : ℕ) (name : List ℕ) → name_in p i name ≡ decimal p ++ (46 ∷ (decimal i ++ (46 ∷ name)))
-made_is p i name = append_assoc ((decimal p ++ codes ".") ++ decimal i) (codes ".") name ∙ append_assoc (decimal p ++ codes ".") (decimal i) (46 ∷ name) ∙
+made_is p i name = append_assoc ((decimal p ++ codes ".") ++ decimal i) (codes ".") name
+    ∙ append_assoc (decimal p ++ codes ".") (decimal i) (46 ∷ name) ∙
     append_assoc (decimal p) (codes ".") (decimal i ++ (46 ∷ name))
 
-pub made_plain : (p i : ℕ) (name : List ℕ) → p < 2 ^ 64 → i < 2 ^ 64 → IsName name → All (λ b. IsTrue (is_name_byte b)) (name_in p i name)
+pub made_plain : (p i : ℕ) (name : List ℕ) → p < 2 ^ 64 → i < 2 ^ 64 → IsName name →
+    All (λ b. IsTrue (is_name_byte b)) (name_in p i name)
 made_plain p i name hp hi h =
     let plain : ℕ → Type 0 = λ b. IsTrue (is_name_byte b) in
     let last = All-append plain (codes ".") name point h.plain in
-    let rest = All-append plain (decimal i) (46 ∷ name) (all_weaker IsDigit plain (decimal i) digit_in_name (digits_only i hi)) last in
+    let rest = All-append plain (decimal i) (46 ∷ name)
+    (all_weaker IsDigit plain (decimal i) digit_in_name (digits_only i hi)) last in
     let after = All-append plain (codes ".") (decimal i ++ (46 ∷ name)) point rest in
-    subst (All plain) (sym (made_is p i name)) (All-append plain (decimal p) (46 ∷ (decimal i ++ (46 ∷ name))) (all_weaker IsDigit plain (decimal p) digit_in_name (digits_only p hp)) after)
+    subst (All plain) (sym (made_is p i name)) (All-append plain (decimal p) (46 ∷ (decimal i ++ (46 ∷ name)))
+    (all_weaker IsDigit plain (decimal p) digit_in_name (digits_only p hp)) after)
 
 pub made_some : (p i : ℕ) (name : List ℕ) → 1 ≤ length (name_in p i name)
-made_some p i name = omega (arith, ap length (made_is p i name), length-append (decimal p) (46 ∷ (decimal i ++ (46 ∷ name))))
+made_some p i name =
+    omega (arith, ap length (made_is p i name), length-append (decimal p) (46 ∷ (decimal i ++ (46 ∷ name))))
 
-pub long_name : (p i : ℕ) (name : List ℕ) → p < 2 ^ 64 → i < 2 ^ 64 → IsName name → (IsName (name_in p i name) → ⊥) → 32 < length (name_in p i name)
+pub long_name : (p i : ℕ) (name : List ℕ) → p < 2 ^ 64 → i < 2 ^ 64 → IsName name → (IsName (name_in p i name) → ⊥) →
+    32 < length (name_in p i name)
 long_name p i name hp hi h not_name = ⊎_elim
     (λ (long : 32 < length (name_in p i name)). long)
-    (λ (short : length (name_in p i name) ≤ 32). absurd (not_name (record { some = made_some p i name; short = short; plain = made_plain p i name hp hi h })))
+    (λ (short : length (name_in p i name) ≤ 32).
+    absurd (not_name (record { some = made_some p i name; short = short; plain = made_plain p i name hp hi h })))
     (cases_lt 32 (length (name_in p i name)))
 
-pub long_if : {E : Type 0} (r : Result (Option (List ℕ)) E) (text made : List ℕ) → IfOk r (λ r. IfNone r (IsName text → ⊥)) → text ≡ made → ((IsName made → ⊥) → 32 < length made) →
+pub long_if : {E : Type 0} (r : Result (Option (List ℕ)) E) (text made : List ℕ) →
+    IfOk r (λ r. IfNone r (IsName text → ⊥)) → text ≡ made →
+    ((IsName made → ⊥) → 32 < length made) →
     IfOk r (λ r. IfNone r (32 < length made))
 long_if (Ok (Some name)) text made h is f = tt
 long_if (Ok None) text made h is f = f (subst (λ t. IsName t → ⊥) is h)
@@ -68,18 +79,24 @@ tail : List ℕ → List ℕ
 tail [] = []
 tail (c ∷ cs) = cs
 
-no_point : (xs ys us vs : List ℕ) → All IsDigit xs → All IsDigit ys → xs ++ 46 ∷ us ≡ ys ++ 46 ∷ vs → (xs ≡ ys) × (us ≡ vs)
+no_point : (xs ys us vs : List ℕ) → All IsDigit xs → All IsDigit ys → xs ++ 46 ∷ us ≡ ys ++ 46 ∷ vs →
+    (xs ≡ ys) × (us ≡ vs)
 unfolding tail
 no_point [] [] us vs h k e = (refl, ap tail e)
 no_point [] (y ∷ ys) us vs h k e = absurd (omega (arith, (k 0 y (omega arith)).0, ap (λ cs. get_or cs 0 0) e))
-no_point (x ∷ xs) [] us vs h k e = absurd (omega (arith, (h 0 x (omega arith)).0, (h 0 x (omega arith)).0, ap (λ cs. get_or cs 0 0) e))
+no_point (x ∷ xs) [] us vs h k e =
+    absurd (omega (arith, (h 0 x (omega arith)).0, (h 0 x (omega arith)).0, ap (λ cs. get_or cs 0 0) e))
 no_point (x ∷ xs) (y ∷ ys) us vs h k e =
     let first : x ≡ y = ap (λ cs. get_or cs 0 0) e in
-    let (rest, after) = no_point xs ys us vs (λ j d l. h (suc j) d (omega (arith, l))) (λ j d l. k (suc j) d (omega (arith, l))) (ap tail e) in
+    let (rest, after) = no_point xs ys us vs (λ j d l. h (suc j) d (omega (arith, l)))
+    (λ j d l. k (suc j) d (omega (arith, l))) (ap tail e) in
     (rw (first, rest) refl, after)
 
-pub same_copy : (p i q j : ℕ) (a b : List ℕ) → p < 2 ^ 64 → i < 2 ^ 64 → q < 2 ^ 64 → j < 2 ^ 64 → name_in p i a ≡ name_in q j b → (p ≡ q) × (i ≡ j) × (a ≡ b)
+pub same_copy : (p i q j : ℕ) (a b : List ℕ) → p < 2 ^ 64 → i < 2 ^ 64 → q < 2 ^ 64 → j < 2 ^ 64 →
+    name_in p i a ≡ name_in q j b →
+    (p ≡ q) × (i ≡ j) × (a ≡ b)
 same_copy p i q j a b hp hi hq hj e =
-    let (parts, rest) = no_point (decimal p) (decimal q) (decimal i ++ (46 ∷ a)) (decimal j ++ (46 ∷ b)) (digits_only p hp) (digits_only q hq) (sym (made_is p i a) ∙ e ∙ made_is q j b) in
+    let (parts, rest) = no_point (decimal p) (decimal q) (decimal i ++ (46 ∷ a)) (decimal j ++ (46 ∷ b))
+    (digits_only p hp) (digits_only q hq) (sym (made_is p i a) ∙ e ∙ made_is q j b) in
     let (instances, names) = no_point (decimal i) (decimal j) a b (digits_only i hi) (digits_only j hj) rest in
     (decimal_injective p q hp hq parts, decimal_injective i j hi hj instances, names)

@@ -1,5 +1,6 @@
 -- The graph of all instances is within the limits.
-use Rattle.std.proofs.Common.{◌≡◌, ◌≢◌, ℕ, suc, ◌+◌, ◌*◌, ◌/◌, ◌^◌, ◌<◌, ◌≤◌, List, [], ◌∷◌, ◌++◌, length, length-append, get_or, Option, Some, None, AllPairs, Contains, refl, sym, ap, ◌∙◌, subst}
+use Rattle.std.proofs.Common.{◌≡◌, ◌≢◌, ℕ, suc, ◌+◌, ◌*◌, ◌/◌, ◌^◌, ◌<◌, ◌≤◌, List, [], ◌∷◌, ◌++◌, length}
+use Rattle.std.proofs.Common.{length-append, get_or, Option, Some, None, AllPairs, Contains, refl, sym, ap, ◌∙◌, subst}
 use Rattle.std.proofs.Common.{arith, ⊎_elim}
 use Rattle.std.specs.Prelude.{All}
 use Rattle.std.proofs.Math.Nat.{div-le_self, div-mul-le_self}
@@ -8,10 +9,13 @@ use Rattle.cpg_base.specs.Duration.{lesser_due}
 use Rattle.cpg_base.specs.Limits.{IsProcessWithin, IsEdgeWithin, IsWithinLimits}
 use Rattle.cpg_base.specs.declared.process.Process.{Process}
 use Rattle.cpg_base.specs.declared.process.Edge.{Edge}
-use Rattle.cpg_base.proofs.Lists.{Contains-first, Contains-rest, Contains-nil, Contains-map_parts, Contains-flat_map_parts, numbers-Contains}
+use Rattle.cpg_base.proofs.Lists.{Contains-first, Contains-rest, Contains-nil, Contains-map_parts}
+use Rattle.cpg_base.proofs.Lists.{Contains-flat_map_parts, numbers-Contains}
 use Rattle.cpg_base.proofs.Pairs.{AllPairs-nil, AllPairs-append, AllPairs-map, AllPairs-flat_map_in, numbers_apart}
 use Rattle.cpg_hyper.specs.declared.part.Part.{Part}
-use Rattle.cpg_hyper.specs.Unrolled.{copied_process, copied_edge, size_of, instances, first_in, after_part, processes_in, processes_of, processes_from, edges_in, edges_of, edges_from, first_graph}
+use Rattle.cpg_hyper.specs.Unrolled.{copied_process, copied_edge, size_of, instances, first_in, after_part}
+use Rattle.cpg_hyper.specs.Unrolled.{processes_in, processes_of, processes_from, edges_in, edges_of, edges_from}
+use Rattle.cpg_hyper.specs.Unrolled.{first_graph}
 use Rattle.cpg_hyper.specs.Unrolled.{unrolled}
 use Rattle.cpg_hyper.specs.Refusals.{IsAlike, FitsPeriod, HoldsOfEach, HasFewEnough, AreOver}
 use Rattle.cpg_hyper.proofs.Counted.{processes_size}
@@ -52,7 +56,8 @@ of_part whole p part x c =
     let (q, has, is) = Contains-map_parts (copied_process p i part) part.problem.processes x here in
     record { instance = i; process = q; early = numbers-Contains (whole / part.period) i among; has = has; is = is }
 
-pub of_parts : (whole p : ℕ) (parts : List Part) (x : Process) → Contains (processes_from whole p parts) x → IsCopyAmong whole p parts x
+pub of_parts : (whole p : ℕ) (parts : List Part) (x : Process) → Contains (processes_from whole p parts) x →
+    IsCopyAmong whole p parts x
 of_parts whole p [] x c = absurd (Contains-nil x c)
 of_parts whole p (part ∷ parts) x c = ⊎_elim
     (λ (d : Contains (processes_of whole p part) x). first_of (of_part whole p part x d))
@@ -60,10 +65,22 @@ of_parts whole p (part ∷ parts) x c = ⊎_elim
     (Contains-append_cases (processes_of whole p part) (processes_from whole (p + 1) parts) x c)
   where
     first_of : IsCopy whole p part x → IsCopyAmong whole p (part ∷ parts) x
-    first_of k = record { place = 0; part = part; within = omega arith; there = refl; copy = subst (λ n. IsCopy whole n part x) (same_sum p) k }
+    first_of k = record {
+      place = 0;
+      part = part;
+      within = omega arith;
+      there = refl;
+      copy = subst (λ n. IsCopy whole n part x) (same_sum p) k;
+    }
 
     later_of : IsCopyAmong whole (p + 1) parts x → IsCopyAmong whole p (part ∷ parts) x
-    later_of k = record { place = suc k.place; part = k.part; within = omega (arith, k.within); there = k.there; copy = subst (λ n. IsCopy whole n k.part x) (next_sum p k.place) k.copy }
+    later_of k = record {
+      place = suc k.place;
+      part = k.part;
+      within = omega (arith, k.within);
+      there = k.there;
+      copy = subst (λ n. IsCopy whole n k.part x) (next_sum p k.place) k.copy;
+    }
 
 -- ---- times
 
@@ -78,33 +95,45 @@ lesser_due_le d (Some own) = omega arith
 
 -- ---- edges
 
-edge_of_instance : (first i q size : ℕ) (e d : Edge) → i < q → IsEdgeWithin size d → copied_edge (first + i * size) d ≡ e → (count : ℕ) → first + q * size ≤ count → IsEdgeWithin count e
+edge_of_instance : (first i q size : ℕ) (e d : Edge) → i < q → IsEdgeWithin size d →
+    copied_edge (first + i * size) d ≡ e → (count : ℕ) → first + q * size ≤ count →
+    IsEdgeWithin count e
 edge_of_instance first i q size e d l h is count few =
     let most : (i + 1) * size ≤ q * size = product_le (i + 1) q size (omega (arith, l)) in
     let from : e.from ≡ first + i * size + d.from = ap (λ (x : Edge). x.from) (sym is) in
     let to : e.to ≡ first + i * size + d.to = ap (λ (x : Edge). x.to) (sym is) in
     let same : e.size ≡ d.size = ap (λ (x : Edge). x.size) (sym is) in
-    record { from = omega (arith, most, from, h.from, few); to = omega (arith, most, to, h.to, few); sized = omega (arith, same, h.sized); size = omega (arith, same, h.size) }
+    record {
+      from = omega (arith, most, from, h.from, few);
+      to = omega (arith, most, to, h.to, few);
+      sized = omega (arith, same, h.sized);
+      size = omega (arith, same, h.size);
+    }
 
 pub contained : {X : Type 0} (P : X → Type 0) (xs : List X) (x : X) → All P xs → Contains xs x → P x
 contained P xs x h (k, l, e) = subst P e (h k x l)
 
-edges_within : (whole first p : ℕ) (parts : List Part) → ((part : Part) → Contains parts part → IsWithinLimits part.problem) → (e : Edge) → Contains (edges_from whole first parts) e
+edges_within : (whole first p : ℕ) (parts : List Part) →
+    ((part : Part) → Contains parts part → IsWithinLimits part.problem) → (e : Edge) →
+    Contains (edges_from whole first parts) e
     → IsEdgeWithin (first + length (processes_from whole p parts)) e
 edges_within whole first p [] h e c = absurd (Contains-nil e c)
 edges_within whole first p (part ∷ parts) h e c =
     let rest = processes_from whole (p + 1) parts in
-    let long : length (processes_of whole p part ++ rest) ≡ whole / part.period * size_of part + length rest = length-append (processes_of whole p part) rest ∙
+    let long : length (processes_of whole p part ++ rest) ≡ whole / part.period * size_of part + length rest =
+    length-append (processes_of whole p part) rest ∙
     ap (λ n. n + length rest) (processes_size whole p part) in
     ⊎_elim
     (λ (d : Contains (edges_of whole first part) e).
     let (i, among, here) = Contains-flat_map_parts (edges_in first part) (instances whole part) e d in
     let (old, has, is) = Contains-map_parts (copied_edge (first_in first part i)) part.problem.edges e here in
     edge_of_instance first i (whole / part.period) (size_of part) e old (numbers-Contains (whole / part.period) i among)
-    (contained (IsEdgeWithin (size_of part)) part.problem.edges old (h part (Contains-first part parts)).edges has) is _ (omega (arith, long)))
+    (contained (IsEdgeWithin (size_of part)) part.problem.edges old (h part (Contains-first part parts)).edges has) is _
+    (omega (arith, long)))
     (λ (d : Contains (edges_from whole (after_part whole first part) parts) e).
     subst (λ n. IsEdgeWithin n e) (moved first (whole / part.period * size_of part) (length rest) _ long)
-    (edges_within whole (after_part whole first part) (p + 1) parts (λ other k. h other (Contains-rest part parts other k)) e d))
+    (edges_within whole (after_part whole first part) (p + 1) parts
+    (λ other k. h other (Contains-rest part parts other k)) e d))
     (Contains-append_cases (edges_of whole first part) (edges_from whole (after_part whole first part) parts) e c)
 
 -- ---- names
@@ -115,32 +144,38 @@ Differ a b = a.name ≢ b.name
 small : (whole period i : ℕ) → whole ≤ 1000000000 → i < whole / period → i < 2 ^ 64
 small whole period i short l = omega (arith, short, l, div-le_self whole period)
 
-own_names : (whole p : ℕ) (part : Part) → whole ≤ 1000000000 → p < 10 → IsWithinLimits part.problem → AllPairs Differ (processes_of whole p part)
+own_names : (whole p : ℕ) (part : Part) → whole ≤ 1000000000 → p < 10 → IsWithinLimits part.problem →
+    AllPairs Differ (processes_of whole p part)
 own_names whole p part short few h =
     AllPairs-flat_map_in (λ (i : ℕ) (j : ℕ). i ≢ j) Differ (processes_in p part) (instances whole part)
     (λ i c. AllPairs-map Differ Differ (copied_process p i part) part.problem.processes
-    (λ a b apart same. apart (same_copy p i p i a.name b.name (omega (arith, few)) (small whole part.period i short (numbers-Contains (whole / part.period) i c)) (omega (arith, few))
+    (λ a b apart same. apart (same_copy p i p i a.name b.name (omega (arith, few))
+    (small whole part.period i short (numbers-Contains (whole / part.period) i c)) (omega (arith, few))
     (small whole part.period i short (numbers-Contains (whole / part.period) i c)) same).2)
     h.process_names)
     (λ i j a b ci cj apart ca cb same.
     let (x, _, is) = Contains-map_parts (copied_process p i part) part.problem.processes a ca in
     let (y, _, be) = Contains-map_parts (copied_process p j part) part.problem.processes b cb in
-    apart (same_copy p i p j x.name y.name (omega (arith, few)) (small whole part.period i short (numbers-Contains (whole / part.period) i ci)) (omega (arith, few))
+    apart (same_copy p i p j x.name y.name (omega (arith, few))
+    (small whole part.period i short (numbers-Contains (whole / part.period) i ci)) (omega (arith, few))
     (small whole part.period j short (numbers-Contains (whole / part.period) j cj))
     (ap (λ (q : Process). q.name) is ∙ same ∙ ap (λ (q : Process). q.name) (sym be))).1)
     (numbers_apart (whole / part.period))
 
-names_differ : (whole p : ℕ) (parts : List Part) → whole ≤ 1000000000 → p + length parts ≤ 10 → ((part : Part) → Contains parts part → IsWithinLimits part.problem) →
+names_differ : (whole p : ℕ) (parts : List Part) → whole ≤ 1000000000 → p + length parts ≤ 10 →
+    ((part : Part) → Contains parts part → IsWithinLimits part.problem) →
     AllPairs Differ (processes_from whole p parts)
 names_differ whole p [] short few h = AllPairs-nil Differ
 names_differ whole p (part ∷ parts) short few h =
     AllPairs-append Differ (processes_of whole p part) (processes_from whole (p + 1) parts)
     (own_names whole p part short (omega (arith, few)) (h part (Contains-first part parts)))
-    (names_differ whole (p + 1) parts short (omega (arith, few)) (λ other k. h other (Contains-rest part parts other k)))
+    (names_differ whole (p + 1) parts short (omega (arith, few))
+    (λ other k. h other (Contains-rest part parts other k)))
     (λ a b ca cb same.
     let x = of_part whole p part a ca in
     let y = of_parts whole (p + 1) parts b cb in
-    let numbers = same_copy p x.instance (p + 1 + y.place) y.copy.instance x.process.name y.copy.process.name (omega (arith, few)) (small whole part.period x.instance short x.early)
+    let numbers = same_copy p x.instance (p + 1 + y.place) y.copy.instance x.process.name y.copy.process.name
+    (omega (arith, few)) (small whole part.period x.instance short x.early)
     (omega (arith, few, y.within)) (small whole y.part.period y.copy.instance short y.copy.early)
     (ap (λ (q : Process). q.name) x.is ∙ same ∙ ap (λ (q : Process). q.name) (sym y.copy.is)) in
     absurd (omega (arith, numbers.0)))
@@ -150,34 +185,45 @@ names_differ whole p (part ∷ parts) short few h =
 all_from : {X : Type 0} (P : X → Type 0) (xs : List X) → ((x : X) → Contains xs x → P x) → All P xs
 all_from P xs h k d l = h (get_or xs k d) (Contains-get_or xs k d l)
 
-pub each_contained : (P : ℕ → Part → Type 0) (parts : List Part) → HoldsOfEach P parts → (part : Part) → Contains parts part → (p : ℕ) × P p part
+pub each_contained : (P : ℕ → Part → Type 0) (parts : List Part) → HoldsOfEach P parts → (part : Part) →
+    Contains parts part →
+    (p : ℕ) × P p part
 each_contained P parts h part (k, l, e) = (k, subst (P k) e (h k part l))
 
 pub first_there : (parts : List Part) (d : Part) → 1 ≤ length parts → (get_or parts 0 d).problem ≡ first_graph parts
 first_there [] d h = absurd (omega (arith, h))
 first_there (part ∷ parts) d h = refl
 
-module _ (whole : ℕ) (parts : List Part) (some : 1 ≤ length parts) (few : length parts ≤ 4) (over : AreOver parts whole) (within : HoldsOfEach (λ p part. IsWithinLimits part.problem) parts) where
+module _ (whole : ℕ) (parts : List Part) (some : 1 ≤ length parts) (few : length parts ≤ 4) (over : AreOver parts whole)
+    (within : HoldsOfEach (λ p part. IsWithinLimits part.problem) parts) where
   first_within : IsWithinLimits (first_graph parts)
   first_within = subst IsWithinLimits (first_there parts none some) (within 0 none some)
     where
       none : Part
       none = record { period = 0; problem = first_graph [] }
 
-  process_within : (x : Process) → Contains (processes_from whole 0 parts) x → IsProcessWithin (length (first_graph parts).nodes) x
+  process_within : (x : Process) → Contains (processes_from whole 0 parts) x →
+      IsProcessWithin (length (first_graph parts).nodes) x
   process_within x c =
       let among = of_parts whole 0 parts x c in
       let part = among.part in
       let q = among.copy.process in
-      let here : IsWithinLimits part.problem = subst (λ (d : Part). IsWithinLimits d.problem) among.there (within among.place part among.within) in
-      let alike = subst (λ d. IsAlike (first_graph parts) d) among.there (over.fitting.alike among.place part among.within) in
+      let here : IsWithinLimits part.problem =
+      subst (λ (d : Part). IsWithinLimits d.problem) among.there (within among.place part among.within) in
+      let alike =
+      subst (λ d. IsAlike (first_graph parts) d) among.there (over.fitting.alike among.place part among.within) in
       let fits = subst FitsPeriod among.there (over.fitting.fitting among.place part among.within) in
-      let old : IsProcessWithin (length part.problem.nodes) q = contained (IsProcessWithin (length part.problem.nodes)) part.problem.processes q here.processes among.copy.has in
-      let soon : q.release ≤ part.period = contained (λ r. r.release ≤ part.period) part.problem.processes q fits.releases among.copy.has in
-      let release = in_time among.copy.instance (whole / part.period) part.period whole q.release among.copy.early (div-mul-le_self whole part.period) soon in
-      let due = in_time among.copy.instance (whole / part.period) part.period whole (lesser_due part.problem.deadline q.deadline) among.copy.early (div-mul-le_self whole part.period)
+      let old : IsProcessWithin (length part.problem.nodes) q = contained (IsProcessWithin (length part.problem.nodes))
+      part.problem.processes q here.processes among.copy.has in
+      let soon : q.release ≤ part.period =
+      contained (λ r. r.release ≤ part.period) part.problem.processes q fits.releases among.copy.has in
+      let release = in_time among.copy.instance (whole / part.period) part.period whole q.release among.copy.early
+      (div-mul-le_self whole part.period) soon in
+      let due = in_time among.copy.instance (whole / part.period) part.period whole
+      (lesser_due part.problem.deadline q.deadline) among.copy.early (div-mul-le_self whole part.period)
       (omega (arith, lesser_due_le part.problem.deadline q.deadline, fits.deadline)) in
-      let made : IsProcessWithin (length (first_graph parts).nodes) (copied_process (0 + among.place) among.copy.instance part q) = record {
+      let made : IsProcessWithin (length (first_graph parts).nodes)
+      (copied_process (0 + among.place) among.copy.instance part q) = record {
         node = omega (arith, old.node, ap length alike.nodes);
         works = old.works;
         wcet = old.wcet;
@@ -193,7 +239,8 @@ module _ (whole : ℕ) (parts : List Part) (some : 1 ≤ length parts) (few : le
 
   pub unrolled_within : HasFewEnough (unrolled whole parts) → IsWithinLimits (unrolled whole parts)
   unrolled_within counts =
-      let limits = λ (part : Part) (c : Contains parts part). (each_contained (λ p d. IsWithinLimits d.problem) parts within part c).1 in
+      let limits = λ (part : Part) (c : Contains parts part).
+      (each_contained (λ p d. IsWithinLimits d.problem) parts within part c).1 in
       record {
         faults = first_within.faults;
         deadline = over.short;
@@ -203,9 +250,11 @@ module _ (whole : ℕ) (parts : List Part) (some : 1 ≤ length parts) (few : le
         few_edges = counts.edges;
         few_conditions = counts.conditions;
         slots = first_within.slots;
-        processes = all_from (IsProcessWithin (length (first_graph parts).nodes)) (processes_from whole 0 parts) process_within;
+        processes =
+            all_from (IsProcessWithin (length (first_graph parts).nodes)) (processes_from whole 0 parts) process_within;
         edges = all_from (IsEdgeWithin (length (processes_from whole 0 parts))) (edges_from whole 0 parts)
-            (λ e c. subst (λ n. IsEdgeWithin n e) (nothing_before (length (processes_from whole 0 parts))) (edges_within whole 0 0 parts limits e c));
+            (λ e c. subst (λ n. IsEdgeWithin n e) (nothing_before (length (processes_from whole 0 parts)))
+            (edges_within whole 0 0 parts limits e c));
         node_names = first_within.node_names;
         process_names = names_differ whole 0 parts over.short (omega (arith, few)) limits;
         own_slots = first_within.own_slots;

@@ -41,7 +41,8 @@ abbrev pub scenario_of : ℕ → List Part → ℕ → ℕ → Scenario → Scen
 scenario_of whole parts p i s =
     record {
       values = map (λ q.
-          value_of (unrolled whole parts) s.values (first_of whole parts p i + q)) (disjunctions (part_at parts p).problem);
+          value_of (unrolled whole parts) s.values (first_of whole parts p i + q))
+          (disjunctions (part_at parts p).problem);
       faults = take (size_of (part_at parts p)) (drop (first_of whole parts p i) s.faults);
     }
 

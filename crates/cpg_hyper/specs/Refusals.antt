@@ -1,5 +1,6 @@
 -- The answer for parts, and why it is given.
-use Rattle.std.specs.Prelude.{ℕ, ◌≡◌, ◌<◌, ◌≤◌, ◌/◌, Bool, true, false, List, ◌++◌, None, length, get_or, All, Result, Ok, Err, Vec, ⊤}
+use Rattle.std.specs.Prelude.{ℕ, ◌≡◌, ◌<◌, ◌≤◌, ◌/◌, Bool, true, false, List, ◌++◌, None, length, get_or, All, Result}
+use Rattle.std.specs.Prelude.{Ok, Err, Vec, ⊤}
 use Rattle.std.specs.declared.alloc.Global.{Global}
 use Rattle.cpg_base.specs.declared.limits.TheConstants.{LONGEST, MOST_PROCESSES, MOST_EDGES, MOST_CONDITIONS}
 use Rattle.cpg_base.specs.declared.process.Process.{Process}
@@ -8,7 +9,8 @@ use Rattle.cpg_reader.specs.declared.place.What.{What}
 use Rattle.cpg_reader.specs.declared.place.What.TheVariants.{Processes, Edges, Conditions}
 use Rattle.cpg_hyper.specs.declared.part.Part.{Part}
 use Rattle.cpg_hyper.specs.declared.part.HyperFault.{HyperFault}
-use Rattle.cpg_hyper.specs.declared.part.HyperFault.TheVariants.{Range, Differ, Over, Period, Count, LongName, Order, OutOfMemory}
+use Rattle.cpg_hyper.specs.declared.part.HyperFault.TheVariants.{Range, Differ, Over, Period, Count, LongName, Order}
+use Rattle.cpg_hyper.specs.declared.part.HyperFault.TheVariants.{OutOfMemory}
 use Rattle.cpg_hyper.specs.Hyperperiod.{IsHyperperiod}
 use Rattle.cpg_hyper.specs.Unrolled.{unrolled, first_graph, name_in, processes_from}
 
@@ -30,7 +32,8 @@ pub record FitsPeriod (part : Part) : Type 0 where
 
 -- each name made for a part is short enough
 abbrev pub HasShortNames : ℕ → ℕ → Part → Type 0
-HasShortNames whole p part = (i : ℕ) → i < whole / part.period → All (λ q. length (name_in p i q.name) ≤ 32) part.problem.processes
+HasShortNames whole p part =
+    (i : ℕ) → i < whole / part.period → All (λ q. length (name_in p i q.name) ≤ 32) part.problem.processes
 
 -- a part gives no order to compile under
 abbrev pub GivesNoOrder : Part → Type 0
@@ -53,7 +56,8 @@ pub record FailsFirst (P : ℕ → Part → Type 0) (parts : List Part) (p : ℕ
 abbrev pub Exceeds : What → Graph → Type 0
 Exceeds Processes g = MOST_PROCESSES < process_count g
 Exceeds Edges g = (process_count g ≤ MOST_PROCESSES) × (MOST_EDGES < edge_count g)
-Exceeds Conditions g = (process_count g ≤ MOST_PROCESSES) × (edge_count g ≤ MOST_EDGES) × (MOST_CONDITIONS < condition_count g)
+Exceeds Conditions g =
+    (process_count g ≤ MOST_PROCESSES) × (edge_count g ≤ MOST_EDGES) × (MOST_CONDITIONS < condition_count g)
 Exceeds _ g = ⊥
 
 pub record HasFewEnough (g : Graph) : Type 0 where
@@ -80,16 +84,19 @@ pub record AreOver (parts : List Part) (whole : ℕ) : Type 0 where
 -- each answer, with the exact condition for it
 abbrev pub ShowsUnrolled : List Part → Result Graph HyperFault → Type 0
 ShowsUnrolled parts (Err (Range p)) = FailsFirst (λ p part. IsInRange part) parts p
-ShowsUnrolled parts (Err (Differ p)) = HoldsOfEach (λ p part. IsInRange part) parts × FailsFirst (λ p part. IsAlike (first_graph parts) part) parts p
+ShowsUnrolled parts (Err (Differ p)) =
+    HoldsOfEach (λ p part. IsInRange part) parts × FailsFirst (λ p part. IsAlike (first_graph parts) part) parts p
 ShowsUnrolled parts (Err (Over p)) = AreAlike parts × FailsFirst (λ p part. FitsPeriod part) parts p
 ShowsUnrolled parts (Err Period) = AreFitting parts × ((whole : ℕ) → IsHyperperiod parts whole → LONGEST < whole)
 ShowsUnrolled parts (Err (Count what)) = (whole : ℕ) × AreOver parts whole × Exceeds what (unrolled whole parts)
-ShowsUnrolled parts (Err (LongName p)) = (whole : ℕ) × AreOver parts whole × HasFewEnough (unrolled whole parts) × FailsFirst (HasShortNames whole) parts p
+ShowsUnrolled parts (Err (LongName p)) =
+    (whole : ℕ) × AreOver parts whole × HasFewEnough (unrolled whole parts) × FailsFirst (HasShortNames whole) parts p
 ShowsUnrolled parts (Err (Order p)) = (whole : ℕ) × AreOver parts whole × HasFewEnough (unrolled whole parts) ×
     HoldsOfEach (HasShortNames whole) parts × FailsFirst (λ q part. GivesNoOrder part) parts p
 ShowsUnrolled parts (Err OutOfMemory) = ⊤
 ShowsUnrolled parts (Ok g) = (whole : ℕ) × AreOver parts whole × HasFewEnough (unrolled whole parts) ×
-    HoldsOfEach (HasShortNames whole) parts × HoldsOfEach (λ p part. GivesNoOrder part) parts × (g ≡ unrolled whole parts)
+    HoldsOfEach (HasShortNames whole) parts × HoldsOfEach (λ p part. GivesNoOrder part) parts ×
+    (g ≡ unrolled whole parts)
 
 -- the names made for one instance are short enough
 abbrev pub AreShort : ℕ → Part → ℕ → Type 0
@@ -102,7 +109,8 @@ AddsShort false old new more short = short → ⊥
 
 -- the processes of all instances, or the first part that has too long a name
 abbrev pub ShowsProcesses : ℕ → List Part → Result (Vec Process Global) HyperFault → Type 0
-ShowsProcesses whole parts (Ok processes) = (processes.items ≡ processes_from whole 0 parts) × HoldsOfEach (HasShortNames whole) parts
+ShowsProcesses whole parts (Ok processes) =
+    (processes.items ≡ processes_from whole 0 parts) × HoldsOfEach (HasShortNames whole) parts
 ShowsProcesses whole parts (Err (LongName p)) = FailsFirst (HasShortNames whole) parts p
 ShowsProcesses whole parts (Err OutOfMemory) = ⊤
 ShowsProcesses whole parts (Err _) = ⊥

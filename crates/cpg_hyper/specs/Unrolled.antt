@@ -61,7 +61,8 @@ after_part whole first part = first + whole / part.period * size_of part
 
 abbrev pub edges_from : ℕ → ℕ → List Part → List Edge
 edges_from whole first [] = []
-edges_from whole first (part ∷ parts) = edges_of whole first part ++ edges_from whole (after_part whole first part) parts
+edges_from whole first (part ∷ parts) =
+    edges_of whole first part ++ edges_from whole (after_part whole first part) parts
 
 -- the graph of the first part
 abbrev pub first_graph : List Part → Graph

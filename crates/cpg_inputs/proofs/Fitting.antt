@@ -32,11 +32,14 @@ log_fits g bytes l (m, e, are) =
     let same : m ≡ l = subst (IsValueOf l) e refl in subst (IsLog g) same are.lawful
 
 play_fits : (a : Admission) (t : Tables) (p : Played) (graph pack scenario : Text) (turns : ℕ) (past now : List Fetch) →
-    Reads None (files_of (Play graph pack scenario turns)) past now (graph_value a ∷ tables_value t ∷ played_value p ∷ []) → IsPlayed a.graph p
-play_fits a t p graph pack scenario turns past now reads = let last = reads.2.2 in played_fits a.graph last.0.given p last.1.says
+    Reads None (files_of (Play graph pack scenario turns)) past now
+    (graph_value a ∷ tables_value t ∷ played_value p ∷ []) → IsPlayed a.graph p
+play_fits a t p graph pack scenario turns past now reads = let last = reads.2.2 in
+    played_fits a.graph last.0.given p last.1.says
 
 audit_fits : (a : Admission) (t : Tables) (l : Log) (graph pack log : Text) (past now : List Fetch) →
-    Reads None (files_of (Audit graph pack log)) past now (graph_value a ∷ tables_value t ∷ log_value l ∷ []) → IsLog a.graph l
+    Reads None (files_of (Audit graph pack log)) past now (graph_value a ∷ tables_value t ∷ log_value l ∷ []) →
+    IsLog a.graph l
 audit_fits a t l graph pack log past now reads = let last = reads.2.2 in log_fits a.graph last.0.given l last.1.says
 
 pub inputs_fit : (c : Command) (past now : List Fetch) (inputs : Inputs) → HasInputs c past now inputs → AreFit inputs
@@ -44,16 +47,20 @@ inputs_fit c past now (Inputs.Graph a purpose) has = tt
 inputs_fit c past now (Inputs.Check a t) has = tt
 inputs_fit c past now (Inputs.Play a t p turns) has = go has.values has.reads has.are
   where
-    go : (vs : List Value) → Reads None (files_of c) past now vs → (graph : Text) × (pack : Text) × (scenario : Text) × (c ≡ Play graph pack scenario turns) ×
+    go : (vs : List Value) → Reads None (files_of c) past now vs →
+        (graph : Text) × (pack : Text) × (scenario : Text) × (c ≡ Play graph pack scenario turns) ×
         (vs ≡ graph_value a ∷ tables_value t ∷ played_value p ∷ []) → IsPlayed a.graph p
     go vs reads (graph, pack, scenario, e, is) = play_fits a t p graph pack scenario turns past now
-        (subst (Reads None (files_of (Play graph pack scenario turns)) past now) is (subst (λ (k : Command). Reads None (files_of k) past now vs) e reads))
+        (subst (Reads None (files_of (Play graph pack scenario turns)) past now) is
+        (subst (λ (k : Command). Reads None (files_of k) past now vs) e reads))
 inputs_fit c past now (Inputs.Audit a t l) has = go has.values has.reads has.are
   where
-    go : (vs : List Value) → Reads None (files_of c) past now vs → (graph : Text) × (pack : Text) × (log : Text) × (c ≡ Audit graph pack log) ×
+    go : (vs : List Value) → Reads None (files_of c) past now vs →
+        (graph : Text) × (pack : Text) × (log : Text) × (c ≡ Audit graph pack log) ×
         (vs ≡ graph_value a ∷ tables_value t ∷ log_value l ∷ []) → IsLog a.graph l
     go vs reads (graph, pack, log, e, is) = audit_fits a t l graph pack log past now
-        (subst (Reads None (files_of (Audit graph pack log)) past now) is (subst (λ (k : Command). Reads None (files_of k) past now vs) e reads))
+        (subst (Reads None (files_of (Audit graph pack log)) past now) is
+        (subst (λ (k : Command). Reads None (files_of k) past now vs) e reads))
 inputs_fit c past now (Inputs.Node t name) has = tt
 inputs_fit c past now (Inputs.Live t name stream) has = tt
 inputs_fit c past now (Inputs.Hyper parts) has = tt

@@ -8,7 +8,8 @@ use Rattle.cpg_io.specs.State.{ShelfState}
 use Rattle.cpg_io.proofs.Agreeing.{fetched_on, fetched_same}
 
 module _ (old mid new : ShelfState) (a : KeepsShelf old mid) (b : KeepsShelf mid new) where
-  counted_rose : (fetch : Fetch) (past : List Fetch) → new.history ≡ fetch ∷ past → fetch.failed ≡ true → (new.history ≡ old.history) ⊎ Rose old.faults new.faults
+  counted_rose : (fetch : Fetch) (past : List Fetch) → new.history ≡ fetch ∷ past → fetch.failed ≡ true →
+      (new.history ≡ old.history) ⊎ Rose old.faults new.faults
   counted_rose fetch past is failed = elim (b.rose fetch past is failed) [
     | inl same ↦ elim (a.rose fetch past (sym same ∙ is) failed) [
       | inl before ↦ inl (same ∙ before)
@@ -27,7 +28,12 @@ module _ (old mid new : ShelfState) (a : KeepsShelf old mid) (b : KeepsShelf mid
 
 -- nothing was read
 pub keeps_same : (s : ShelfState) → KeepsShelf s s
-keeps_same s = record { names = λ name. refl; fetched = fetched_same s; later = omega arith; rose = λ fetch past is failed. inl refl }
+keeps_same s = record {
+  names = λ name. refl;
+  fetched = fetched_same s;
+  later = omega arith;
+  rose = λ fetch past is failed. inl refl;
+}
 
 -- the same names may be fetched after two steps
 pub access_on : (a b c : List ℕ → Type 0) → SameAccess a b → SameAccess b c → SameAccess a c

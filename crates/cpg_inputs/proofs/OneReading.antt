@@ -1,5 +1,6 @@
 -- What the files of a run say is one thing; and if all of them were read, none stops the run, unless memory runs out.
-use Rattle.std.proofs.Common.{ℕ, ◌≡◌, ◌∙◌, Bool, true, false, List, [], ◌∷◌, ◌++◌, Option, Some, None, length, refl, sym, ap, subst, arith, append-nil, inl, inr}
+use Rattle.std.proofs.Common.{ℕ, ◌≡◌, ◌∙◌, Bool, true, false, List, [], ◌∷◌, ◌++◌, Option, Some, None, length, refl}
+use Rattle.std.proofs.Common.{sym, ap, subst, arith, append-nil, inl, inr}
 use Rattle.std.specs.Prelude.{Result, Ok, Err}
 use Rattle.std.proofs.lemmas.Bool.{both_ways, true≢false}
 use Rattle.std.proofs.lemmas.List.{append_assoc, length-append}
@@ -21,7 +22,8 @@ use Rattle.cpg_refusal.specs.Halts.{halt_of_rules}
 use Rattle.cpg_inputs.specs.declared.kind.FileKind.{FileKind}
 use Rattle.cpg_inputs.specs.declared.kind.FileKind.TheVariants.{GraphFile, PartFile, PackFile, ScenarioFile, LogFile}
 use Rattle.cpg_inputs.specs.Files.{File}
-use Rattle.cpg_inputs.specs.Says.{Value, graph_value, part_value, tables_value, played_value, log_value, graph_after, AreAdmitted, Refuses, Says}
+use Rattle.cpg_inputs.specs.Says.{Value, graph_value, part_value, tables_value, played_value, log_value, graph_after}
+use Rattle.cpg_inputs.specs.Says.{AreAdmitted, Refuses, Says}
 use Rattle.cpg_inputs.specs.Reading.{IsRead, Reads, StopsAt, StopsReading}
 
 -- ---- results are one thing
@@ -49,7 +51,11 @@ pub record AreAlike (a b : Admission) : Type 0 where
 pub admitted_alike : (bytes : Text) (a b : Admission) → AreAdmitted bytes a → AreAdmitted bytes b → AreAlike a b
 admitted_alike bytes a b x y =
     let same : b.graph ≡ a.graph = same_value (problem_of bytes) b.graph a.graph y.says x.says in
-    record { graph = same; order = one_urgency_order a.graph b.order a.order (subst (λ g. IsUrgencyOrder g b.order) same y.admitted.urgency) x.admitted.urgency }
+    record {
+      graph = same;
+      order = one_urgency_order a.graph b.order a.order
+          (subst (λ g. IsUrgencyOrder g b.order) same y.admitted.urgency) x.admitted.urgency;
+    }
 
 -- what is said of one is said of the other
 pub moved : (a b : Admission) → AreAlike a b → (P : Graph → List ℕ → Type 0) → P b.graph b.order → P a.graph a.order
@@ -75,34 +81,45 @@ AllAlike (v ∷ vs) (w ∷ ws) = IsAlike v w × AllAlike vs ws
 as_known : (v w x y : Value) → v ≡ x → w ≡ y → IsAlike x y → IsAlike v w
 as_known v w x y e f k = subst (λ u. IsAlike u w) (sym e) (subst (IsAlike x) (sym f) k)
 
-pub says_alike : (g : Option Graph) (k : FileKind) (bytes : Text) (v w : Value) → Says g k bytes v → Says g k bytes w → IsAlike v w
-says_alike g GraphFile bytes v w (a, e, x) (b, f, y) = as_known v w (graph_value a) (graph_value b) e f (admitted_alike bytes a b x y)
-says_alike g PartFile bytes v w (a, e, x) (b, f, y) = as_known v w (part_value a) (part_value b) e f (same_value (problem_of bytes) b a y x)
+pub says_alike : (g : Option Graph) (k : FileKind) (bytes : Text) (v w : Value) → Says g k bytes v → Says g k bytes w →
+    IsAlike v w
+says_alike g GraphFile bytes v w (a, e, x) (b, f, y) =
+    as_known v w (graph_value a) (graph_value b) e f (admitted_alike bytes a b x y)
+says_alike g PartFile bytes v w (a, e, x) (b, f, y) =
+    as_known v w (part_value a) (part_value b) e f (same_value (problem_of bytes) b a y x)
 says_alike g PackFile bytes v w (t, e, x) (u, f, y) = as_known v w (tables_value t) (tables_value u) e f
     (sym (one_spelling t u [] x.lawful y.lawful (sym x.spelled ∙ y.spelled ∙ sym (append-nil _))).0)
-says_alike (Some g) ScenarioFile bytes v w (p, e, x) (q, f, y) = as_known v w (played_value p) (played_value q) e f (same_value _ q p y.says x.says)
+says_alike (Some g) ScenarioFile bytes v w (p, e, x) (q, f, y) =
+    as_known v w (played_value p) (played_value q) e f (same_value _ q p y.says x.says)
 says_alike (Some g) LogFile bytes v w (l, e, x) (m, f, y) = as_known v w (log_value l) (log_value m) e f tt
 says_alike None ScenarioFile bytes v w x y = absurd x
 says_alike None LogFile bytes v w x y = absurd x
 
 -- the same graph comes after two values that the same bytes say
-pub says_after : (g : Option Graph) (k : FileKind) (bytes : Text) (v w : Value) → Says g k bytes v → Says g k bytes w → graph_after g w ≡ graph_after g v
-says_after g GraphFile bytes v w (a, e, x) (b, f, y) = ap (graph_after g) f ∙ (ap Some (admitted_alike bytes a b x y).graph ∙ sym (ap (graph_after g) e))
+pub says_after : (g : Option Graph) (k : FileKind) (bytes : Text) (v w : Value) → Says g k bytes v → Says g k bytes w →
+    graph_after g w ≡ graph_after g v
+says_after g GraphFile bytes v w (a, e, x) (b, f, y) =
+    ap (graph_after g) f ∙ (ap Some (admitted_alike bytes a b x y).graph ∙ sym (ap (graph_after g) e))
 says_after g PartFile bytes v w (a, e, x) (b, f, y) = ap (graph_after g) f ∙ sym (ap (graph_after g) e)
 says_after g PackFile bytes v w (t, e, x) (u, f, y) = ap (graph_after g) f ∙ sym (ap (graph_after g) e)
-says_after (Some g) ScenarioFile bytes v w (p, e, x) (q, f, y) = ap (graph_after (Some g)) f ∙ sym (ap (graph_after (Some g)) e)
-says_after (Some g) LogFile bytes v w (l, e, x) (m, f, y) = ap (graph_after (Some g)) f ∙ sym (ap (graph_after (Some g)) e)
+says_after (Some g) ScenarioFile bytes v w (p, e, x) (q, f, y) =
+    ap (graph_after (Some g)) f ∙ sym (ap (graph_after (Some g)) e)
+says_after (Some g) LogFile bytes v w (l, e, x) (m, f, y) =
+    ap (graph_after (Some g)) f ∙ sym (ap (graph_after (Some g)) e)
 says_after None ScenarioFile bytes v w x y = absurd x
 says_after None LogFile bytes v w x y = absurd x
 
 -- ---- no file that is read stops a run
 
-pub not_refused : (g : Option Graph) (k : FileKind) (bytes : Text) (v : Value) (h : Halt) → Says g k bytes v → Refuses g k bytes h → h ≡ Memory
-not_refused g GraphFile bytes v h (a, e, x) (inl faulty) = absurd (not_both (problem_of bytes) a.graph faulty.fault x.says faulty.first)
+pub not_refused : (g : Option Graph) (k : FileKind) (bytes : Text) (v : Value) (h : Halt) → Says g k bytes v →
+    Refuses g k bytes h → h ≡ Memory
+not_refused g GraphFile bytes v h (a, e, x) (inl faulty) =
+    absurd (not_both (problem_of bytes) a.graph faulty.fault x.says faulty.first)
 not_refused g GraphFile bytes v h (a, e, x) (inr none) =
     let b = none.breaks in
     let same : none.graph ≡ a.graph = same_value (problem_of bytes) none.graph a.graph none.says x.says in
-    b.halt_is ∙ ap (halt_of_rules none.graph) (no_fault a.graph a.order a.guards x.admitted b.fault (subst (λ g. ShowsFault g b.fault) same b.shows))
+    b.halt_is ∙ ap (halt_of_rules none.graph)
+    (no_fault a.graph a.order a.guards x.admitted b.fault (subst (λ g. ShowsFault g b.fault) same b.shows))
 not_refused g PartFile bytes v h (a, e, x) faulty = absurd (not_both (problem_of bytes) a faulty.fault x faulty.first)
 not_refused g PackFile bytes v h (t, e, x) none = absurd (none.bad.no_pack t x.lawful x.spelled)
 not_refused (Some g) ScenarioFile bytes v h (p, e, x) none = absurd (not_both _ p none.fault x.says none.first)
@@ -110,9 +127,11 @@ not_refused (Some g) LogFile bytes v h (l, e, x) none = absurd (no_bad_line g by
 not_refused None ScenarioFile bytes v h x none = absurd x
 not_refused None LogFile bytes v h x none = absurd x
 
-not_stopped : (g : Option Graph) (f : File) (fetch : Fetch) (v : Value) (h : Halt) → IsRead g f fetch v → StopsAt g f fetch h → h ≡ Memory
+not_stopped : (g : Option Graph) (f : File) (fetch : Fetch) (v : Value) (h : Halt) → IsRead g f fetch v →
+    StopsAt g f fetch h → h ≡ Memory
 not_stopped g f fetch v h r (inl unread) = absurd (true≢false (sym unread.failed ∙ r.whole.sound))
-not_stopped g f fetch v h r (inr (inl long)) = absurd (let l = long.over in let s = r.whole.short in omega (arith, l, s))
+not_stopped g f fetch v h r (inr (inl long)) =
+    absurd (let l = long.over in let s = r.whole.short in omega (arith, l, s))
 not_stopped g f fetch v h r (inr (inr (inl refused))) = not_refused g f.kind fetch.given v h r.says refused.refuses
 not_stopped g f fetch v h r (inr (inr (inr wanting))) = wanting.halt_is
 
@@ -124,18 +143,25 @@ pub record HasGrown (past now : List Fetch) : Type 0 where
   pub is : now ≡ fetches ++ past
 
 grown_on : (fetch : Fetch) (past now : List Fetch) → HasGrown (fetch ∷ past) now → HasGrown past now
-grown_on fetch past now g = record { fetches = g.fetches ++ fetch ∷ []; is = g.is ∙ sym (append_assoc g.fetches (fetch ∷ []) past) }
+grown_on fetch past now g =
+    record { fetches = g.fetches ++ fetch ∷ []; is = g.is ∙ sym (append_assoc g.fetches (fetch ∷ []) past) }
 
-pub reads_grown : (g : Option Graph) (files : List File) (past now : List Fetch) (vs : List Value) → Reads g files past now vs → HasGrown past now
+pub reads_grown : (g : Option Graph) (files : List File) (past now : List Fetch) (vs : List Value) →
+    Reads g files past now vs →
+    HasGrown past now
 reads_grown g [] past now [] r = record { fetches = []; is = r }
 reads_grown g [] past now (v ∷ vs) r = absurd r
 reads_grown g (f ∷ fs) past now [] r = absurd r
-reads_grown g (f ∷ fs) past now (v ∷ vs) r = grown_on r.0 past now (reads_grown (graph_after g v) fs (r.0 ∷ past) now vs r.2)
+reads_grown g (f ∷ fs) past now (v ∷ vs) r =
+    grown_on r.0 past now (reads_grown (graph_after g v) fs (r.0 ∷ past) now vs r.2)
 
-pub stops_grown : (g : Option Graph) (files : List File) (past now : List Fetch) (h : Halt) → StopsReading g files past now h → HasGrown past now
+pub stops_grown : (g : Option Graph) (files : List File) (past now : List Fetch) (h : Halt) →
+    StopsReading g files past now h →
+    HasGrown past now
 stops_grown g [] past now h s = absurd s
 stops_grown g (f ∷ fs) past now h (fetch, inl here) = record { fetches = fetch ∷ []; is = here.1 }
-stops_grown g (f ∷ fs) past now h (fetch, inr (v, read, there)) = grown_on fetch past now (stops_grown (graph_after g v) fs (fetch ∷ past) now h there)
+stops_grown g (f ∷ fs) past now h (fetch, inr (v, read, there)) =
+    grown_on fetch past now (stops_grown (graph_after g v) fs (fetch ∷ past) now h there)
 
 abbrev head_or : Fetch → List Fetch → Fetch
 head_or d [] = d
@@ -159,32 +185,39 @@ one_fetch past now f e x y = same_fetch x.fetches y.fetches f e past (sym x.is �
 
 -- ---- one reading
 
-pub reads_alike : (g : Option Graph) (files : List File) (past now : List Fetch) (vs ws : List Value) → Reads g files past now vs → Reads g files past now ws → AllAlike vs ws
+pub reads_alike : (g : Option Graph) (files : List File) (past now : List Fetch) (vs ws : List Value) →
+    Reads g files past now vs → Reads g files past now ws → AllAlike vs ws
 reads_alike g [] past now [] [] r s = tt
 reads_alike g [] past now [] (w ∷ ws) r s = absurd s
 reads_alike g [] past now (v ∷ vs) ws r s = absurd r
 reads_alike g (f ∷ fs) past now [] ws r s = absurd r
 reads_alike g (f ∷ fs) past now (v ∷ vs) [] r s = absurd s
 reads_alike g (f ∷ fs) past now (v ∷ vs) (w ∷ ws) r s =
-    let same : s.0 ≡ r.0 = one_fetch past now s.0 r.0 (reads_grown (graph_after g w) fs (s.0 ∷ past) now ws s.2) (reads_grown (graph_after g v) fs (r.0 ∷ past) now vs r.2) in
+    let same : s.0 ≡ r.0 = one_fetch past now s.0 r.0 (reads_grown (graph_after g w) fs (s.0 ∷ past) now ws s.2)
+    (reads_grown (graph_after g v) fs (r.0 ∷ past) now vs r.2) in
     let also = subst (λ (e : Fetch). Says g f.kind e.given w) same s.1.says in (
       says_alike g f.kind r.0.given v w r.1.says also,
       reads_alike (graph_after g v) fs (r.0 ∷ past) now vs ws r.2
-          (subst (λ o. Reads o fs (r.0 ∷ past) now ws) (says_after g f.kind r.0.given v w r.1.says also) (subst (λ e. Reads (graph_after g w) fs (e ∷ past) now ws) same s.2)),
+          (subst (λ o. Reads o fs (r.0 ∷ past) now ws) (says_after g f.kind r.0.given v w r.1.says also)
+          (subst (λ e. Reads (graph_after g w) fs (e ∷ past) now ws) same s.2)),
     )
 
 -- if all files were read, memory alone is left to stop a run
-pub stops_memory : (g : Option Graph) (files : List File) (past now : List Fetch) (vs : List Value) (h : Halt) → Reads g files past now vs → StopsReading g files past now h → h ≡ Memory
+pub stops_memory : (g : Option Graph) (files : List File) (past now : List Fetch) (vs : List Value) (h : Halt) →
+    Reads g files past now vs → StopsReading g files past now h → h ≡ Memory
 stops_memory g [] past now vs h r s = absurd s
 stops_memory g (f ∷ fs) past now [] h r s = absurd r
 stops_memory g (f ∷ fs) past now (v ∷ vs) h r (fetch, inl here) =
-    let same : fetch ≡ r.0 = one_fetch past now fetch r.0 (record { fetches = []; is = here.1 }) (reads_grown (graph_after g v) fs (r.0 ∷ past) now vs r.2) in
+    let same : fetch ≡ r.0 = one_fetch past now fetch r.0 (record { fetches = []; is = here.1 })
+    (reads_grown (graph_after g v) fs (r.0 ∷ past) now vs r.2) in
     not_stopped g f r.0 v h r.1 (subst (λ e. StopsAt g f e h) same here.0)
 stops_memory g (f ∷ fs) past now (v ∷ vs) h r (fetch, inr (w, read, there)) =
-    let same : fetch ≡ r.0 = one_fetch past now fetch r.0 (stops_grown (graph_after g w) fs (fetch ∷ past) now h there) (reads_grown (graph_after g v) fs (r.0 ∷ past) now vs r.2) in
+    let same : fetch ≡ r.0 = one_fetch past now fetch r.0 (stops_grown (graph_after g w) fs (fetch ∷ past) now h there)
+    (reads_grown (graph_after g v) fs (r.0 ∷ past) now vs r.2) in
     let also = subst (λ (e : Fetch). Says g f.kind e.given w) same read.says in
     stops_memory (graph_after g v) fs (r.0 ∷ past) now vs h r.2
-    (subst (λ o. StopsReading o fs (r.0 ∷ past) now h) (says_after g f.kind r.0.given v w r.1.says also) (subst (λ e. StopsReading (graph_after g w) fs (e ∷ past) now h) same there))
+    (subst (λ o. StopsReading o fs (r.0 ∷ past) now h) (says_after g f.kind r.0.given v w r.1.says also)
+    (subst (λ e. StopsReading (graph_after g w) fs (e ∷ past) now h) same there))
 
 -- ---- graphs that were read are admitted, and tables lawful
 
@@ -208,8 +241,10 @@ value_lawful (Some g) LogFile bytes v (l, e, x) = subst IsLawfulValue (sym e) tt
 value_lawful None ScenarioFile bytes v x = absurd x
 value_lawful None LogFile bytes v x = absurd x
 
-pub values_lawful : (g : Option Graph) (files : List File) (past now : List Fetch) (vs : List Value) → Reads g files past now vs → AllLawful vs
+pub values_lawful : (g : Option Graph) (files : List File) (past now : List Fetch) (vs : List Value) →
+    Reads g files past now vs → AllLawful vs
 values_lawful g [] past now [] r = tt
 values_lawful g [] past now (v ∷ vs) r = absurd r
 values_lawful g (f ∷ fs) past now [] r = absurd r
-values_lawful g (f ∷ fs) past now (v ∷ vs) r = (value_lawful g f.kind r.0.given v r.1.says, values_lawful (graph_after g v) fs (r.0 ∷ past) now vs r.2)
+values_lawful g (f ∷ fs) past now (v ∷ vs) r =
+    (value_lawful g f.kind r.0.given v r.1.says, values_lawful (graph_after g v) fs (r.0 ∷ past) now vs r.2)

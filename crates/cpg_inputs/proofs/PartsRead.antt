@@ -1,5 +1,6 @@
 -- The graphs of parts that files say, file by file.
-use Rattle.std.proofs.Common.{◌≡◌, ℕ, ◌+◌, ◌<◌, ◌≤◌, List, [], ◌∷◌, ◌++◌, length, map, take, drop, get_or, None, refl, sym, ap, ◌∙◌, subst, arith, inr}
+use Rattle.std.proofs.Common.{◌≡◌, ℕ, ◌+◌, ◌<◌, ◌≤◌, List, [], ◌∷◌, ◌++◌, length, map, take, drop, get_or, None, refl}
+use Rattle.std.proofs.Common.{sym, ap, ◌∙◌, subst, arith, inr}
 use Rattle.std.specs.Prelude.{All}
 use Rattle.std.proofs.lemmas.List.{get_or-map, length-map, take_all, take_more, take-append-drop}
 use Rattle.cpg_base.specs.Graph.{Graph}
@@ -27,7 +28,8 @@ values_more : (ps qs : List Part) → part_values (ps ++ qs) ≡ part_values ps 
 values_more [] qs = refl
 values_more (p ∷ ps) qs = ap (λ vs. part_value p.problem ∷ vs) (values_more ps qs)
 
-periods_more : (ps : List Pair) (ds : List Part) (p : Pair) (d : Part) → HavePeriods ps ds → d.period ≡ p.period → HavePeriods (ps ++ p ∷ []) (ds ++ d ∷ [])
+periods_more : (ps : List Pair) (ds : List Part) (p : Pair) (d : Part) → HavePeriods ps ds → d.period ≡ p.period →
+    HavePeriods (ps ++ p ∷ []) (ds ++ d ∷ [])
 periods_more [] [] p d have e = (e, tt)
 periods_more [] (x ∷ ds) p d have e = absurd have
 periods_more (q ∷ ps) [] p d have e = absurd have
@@ -49,7 +51,8 @@ periods_length (p ∷ ps) (d ∷ ds) have = omega (arith, periods_length ps ds h
 abbrev part_of : ℕ → Graph → Part
 part_of period problem = record { period = period; problem = problem }
 
-module _ (pairs : List Pair) (i : ℕ) (pair : Pair) (l : i < length pairs) (is : pair ≡ get_or pairs i pair) (parts : List Part) (past mid now : List Fetch)
+module _ (pairs : List Pair) (i : ℕ) (pair : Pair) (l : i < length pairs) (is : pair ≡ get_or pairs i pair)
+    (parts : List Part) (past mid now : List Fetch)
     (read : Reads None (part_files (take i pairs)) past mid (part_values parts)) where
   next : take (i + 1) pairs ≡ take i pairs ++ pair ∷ []
   next = take_more pairs i pair l ∙ ap (λ p. take i pairs ++ p ∷ []) (sym is)
@@ -57,49 +60,72 @@ module _ (pairs : List Pair) (i : ℕ) (pair : Pair) (l : i < length pairs) (is 
   files_next : part_files (take (i + 1) pairs) ≡ part_files (take i pairs) ++ file PartFile pair.graph ∷ []
   files_next = ap part_files next ∙ files_more (take i pairs) (pair ∷ [])
 
-  files_all : part_files pairs ≡ (part_files (take i pairs) ++ file PartFile pair.graph ∷ []) ++ part_files (drop (i + 1) pairs)
-  files_all = ap part_files (sym (take-append-drop (i + 1) pairs)) ∙ (files_more (take (i + 1) pairs) (drop (i + 1) pairs) ∙ ap (λ fs. fs ++ part_files (drop (i + 1) pairs)) files_next)
+  files_all : part_files pairs ≡ (part_files (take i pairs) ++ file PartFile pair.graph ∷ [])
+      ++ part_files (drop (i + 1) pairs)
+  files_all =
+      ap part_files (sym (take-append-drop (i + 1) pairs)) ∙ (files_more (take (i + 1) pairs) (drop (i + 1) pairs)
+      ∙ ap (λ fs. fs ++ part_files (drop (i + 1) pairs)) files_next)
 
   -- that says a graph
-  pub read_next : (g : Graph) (new : List Part) → ReadsNext None (file PartFile pair.graph) mid now (part_value g) → new ≡ parts ++ part_of pair.period g ∷ [] →
+  pub read_next : (g : Graph) (new : List Part) → ReadsNext None (file PartFile pair.graph) mid now (part_value g) →
+      new ≡ parts ++ part_of pair.period g ∷ [] →
       Reads None (part_files (take (i + 1) pairs)) past now (part_values new)
   read_next g new r e =
-      let one = subst (λ o. Reads o (file PartFile pair.graph ∷ []) mid now (part_value g ∷ [])) (sym (behind_parts parts)) (reads_one None (file PartFile pair.graph) mid now (part_value g) r) in
-      let both = reads_more None (part_files (take i pairs)) (file PartFile pair.graph ∷ []) past mid now (part_values parts) (part_value g ∷ []) read one in
+      let one = subst (λ o. Reads o (file PartFile pair.graph ∷ []) mid now (part_value g ∷ []))
+      (sym (behind_parts parts)) (reads_one None (file PartFile pair.graph) mid now (part_value g) r) in
+      let both = reads_more None (part_files (take i pairs)) (file PartFile pair.graph ∷ []) past mid now
+      (part_values parts) (part_value g ∷ []) read one in
       subst (λ fs. Reads None fs past now (part_values new)) (sym files_next)
-      (subst (Reads None (part_files (take i pairs) ++ file PartFile pair.graph ∷ []) past now) (sym (ap part_values e ∙ values_more parts (part_of pair.period g ∷ []))) both)
+      (subst (Reads None (part_files (take i pairs) ++ file PartFile pair.graph ∷ []) past now)
+      (sym (ap part_values e ∙ values_more parts (part_of pair.period g ∷ []))) both)
 
-  pub periods_next : (g : Graph) (new : List Part) → HavePeriods (take i pairs) parts → new ≡ parts ++ part_of pair.period g ∷ [] → HavePeriods (take (i + 1) pairs) new
+  pub periods_next : (g : Graph) (new : List Part) → HavePeriods (take i pairs) parts →
+      new ≡ parts ++ part_of pair.period g ∷ [] →
+      HavePeriods (take (i + 1) pairs) new
   periods_next g new have e = subst (λ ps. HavePeriods ps new) (sym next)
-      (subst (HavePeriods (take i pairs ++ pair ∷ [])) (sym e) (periods_more (take i pairs) parts pair (part_of pair.period g) have refl))
+      (subst (HavePeriods (take i pairs ++ pair ∷ [])) (sym e)
+      (periods_more (take i pairs) parts pair (part_of pair.period g) have refl))
 
   -- that stops
-  pub stops_next : (h : Halt) → StopsNext None (file PartFile pair.graph) mid now h → StopsReading None (part_files pairs) past now h
+  pub stops_next : (h : Halt) → StopsNext None (file PartFile pair.graph) mid now h →
+      StopsReading None (part_files pairs) past now h
   stops_next h s =
-      let one = subst (λ o. StopsReading o (file PartFile pair.graph ∷ []) mid now h) (sym (behind_parts parts)) (stops_one None (file PartFile pair.graph) [] mid now h s) in
-      let here = stops_after None (part_files (take i pairs)) (file PartFile pair.graph ∷ []) past mid now (part_values parts) h read one in
-      subst (λ fs. StopsReading None fs past now h) (sym files_all) (stops_more None (part_files (take i pairs) ++ file PartFile pair.graph ∷ []) (part_files (drop (i + 1) pairs)) past now h here)
+      let one = subst (λ o. StopsReading o (file PartFile pair.graph ∷ []) mid now h) (sym (behind_parts parts))
+      (stops_one None (file PartFile pair.graph) [] mid now h s) in
+      let here = stops_after None (part_files (take i pairs)) (file PartFile pair.graph ∷ []) past mid now
+      (part_values parts) h read one in
+      subst (λ fs. StopsReading None fs past now h) (sym files_all) (stops_more None (part_files (take i pairs)
+      ++ file PartFile pair.graph ∷ []) (part_files (drop (i + 1) pairs)) past now h here)
 
   -- that was read, if memory runs out then
-  pub wants_next : (g : Graph) (h : Halt) → ReadsNext None (file PartFile pair.graph) mid now (part_value g) → h ≡ Memory → StopsReading None (part_files pairs) past now h
+  pub wants_next : (g : Graph) (h : Halt) → ReadsNext None (file PartFile pair.graph) mid now (part_value g) →
+      h ≡ Memory →
+      StopsReading None (part_files pairs) past now h
   wants_next g h r e =
       let w = r.read.whole in
       stops_next h (record {
         fetch = r.fetch;
-        stops = inr (inr (inr (record { of = record { named = w.named }; sound = w.sound; few = (let s = w.short in omega (arith, s)); halt_is = e })));
+        stops =
+            inr (inr (inr (record { of = record { named = w.named }; sound = w.sound; few = (let s = w.short in omega (arith, s)); halt_is = e })));
         history = r.history;
       })
 
 -- all files
-pub read_all : (pairs : List Pair) (i : ℕ) (parts : List Part) (past now : List Fetch) → length pairs ≤ i → Reads None (part_files (take i pairs)) past now (part_values parts) →
+pub read_all : (pairs : List Pair) (i : ℕ) (parts : List Part) (past now : List Fetch) → length pairs ≤ i →
+    Reads None (part_files (take i pairs)) past now (part_values parts) →
     Reads None (part_files pairs) past now (part_values parts)
-read_all pairs i parts past now l read = subst (λ ps. Reads None (part_files ps) past now (part_values parts)) (take_all i pairs l) read
+read_all pairs i parts past now l read =
+    subst (λ ps. Reads None (part_files ps) past now (part_values parts)) (take_all i pairs l) read
 
-pub periods_all : (pairs : List Pair) (i : ℕ) (parts : List Part) → length pairs ≤ i → HavePeriods (take i pairs) parts → HavePeriods pairs parts
+pub periods_all : (pairs : List Pair) (i : ℕ) (parts : List Part) → length pairs ≤ i →
+    HavePeriods (take i pairs) parts →
+    HavePeriods pairs parts
 periods_all pairs i parts l have = subst (λ ps. HavePeriods ps parts) (take_all i pairs l) have
 
 -- each file may be fetched
-pub may_at : (may : Text → Type 0) (pairs : List Pair) (i : ℕ) (pair : Pair) → i < length pairs → pair ≡ get_or pairs i pair → All may (map (λ (p : Pair). p.graph) pairs) → may pair.graph
+pub may_at : (may : Text → Type 0) (pairs : List Pair) (i : ℕ) (pair : Pair) → i < length pairs →
+    pair ≡ get_or pairs i pair → All may (map (λ (p : Pair). p.graph) pairs) → may pair.graph
 may_at may pairs i pair l is all =
-    let named : get_or (map (λ (p : Pair). p.graph) pairs) i pair.graph ≡ pair.graph = get_or-map (λ (p : Pair). p.graph) pairs i pair pair.graph l ∙ ap (λ (p : Pair). p.graph) (sym is) in
+    let named : get_or (map (λ (p : Pair). p.graph) pairs) i pair.graph ≡ pair.graph =
+    get_or-map (λ (p : Pair). p.graph) pairs i pair pair.graph l ∙ ap (λ (p : Pair). p.graph) (sym is) in
     subst may named (all i pair.graph (omega (arith, length-map pairs (λ (p : Pair). p.graph), l)))

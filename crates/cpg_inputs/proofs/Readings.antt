@@ -13,27 +13,39 @@ abbrev pub graph_behind : Option Graph → List Value → Option Graph
 graph_behind g [] = g
 graph_behind g (v ∷ vs) = graph_behind (graph_after g v) vs
 
-pub reads_one : (g : Option Graph) (file : File) (past now : List Fetch) (value : Value) → ReadsNext g file past now value → Reads g (file ∷ []) past now (value ∷ [])
+pub reads_one : (g : Option Graph) (file : File) (past now : List Fetch) (value : Value) →
+    ReadsNext g file past now value →
+    Reads g (file ∷ []) past now (value ∷ [])
 reads_one g file past now value r = (r.fetch, r.read, r.history)
 
-pub stops_one : (g : Option Graph) (file : File) (rest : List File) (past now : List Fetch) (halt : Halt) → StopsNext g file past now halt → StopsReading g (file ∷ rest) past now halt
+pub stops_one : (g : Option Graph) (file : File) (rest : List File) (past now : List Fetch) (halt : Halt) →
+    StopsNext g file past now halt →
+    StopsReading g (file ∷ rest) past now halt
 stops_one g file rest past now halt s = (s.fetch, inl (s.stops, s.history))
 
-pub reads_more : (g : Option Graph) (files rest : List File) (past mid now : List Fetch) (values others : List Value) → Reads g files past mid values →
+pub reads_more : (g : Option Graph) (files rest : List File) (past mid now : List Fetch) (values others : List Value) →
+    Reads g files past mid values →
     Reads (graph_behind g values) rest mid now others → Reads g (files ++ rest) past now (values ++ others)
 reads_more g [] rest past mid now [] others r s = subst (λ p. Reads g rest p now others) r s
 reads_more g [] rest past mid now (v ∷ vs) others r s = absurd r
 reads_more g (f ∷ fs) rest past mid now [] others r s = absurd r
-reads_more g (f ∷ fs) rest past mid now (v ∷ vs) others r s = (r.0, r.1, reads_more (graph_after g v) fs rest (r.0 ∷ past) mid now vs others r.2 s)
+reads_more g (f ∷ fs) rest past mid now (v ∷ vs) others r s =
+    (r.0, r.1, reads_more (graph_after g v) fs rest (r.0 ∷ past) mid now vs others r.2 s)
 
-pub stops_after : (g : Option Graph) (files rest : List File) (past mid now : List Fetch) (values : List Value) (halt : Halt) → Reads g files past mid values →
+pub stops_after : (g : Option Graph) (files rest : List File) (past mid now : List Fetch) (values : List Value)
+    (halt : Halt) →
+    Reads g files past mid values →
     StopsReading (graph_behind g values) rest mid now halt → StopsReading g (files ++ rest) past now halt
 stops_after g [] rest past mid now [] halt r s = subst (λ p. StopsReading g rest p now halt) r s
 stops_after g [] rest past mid now (v ∷ vs) halt r s = absurd r
 stops_after g (f ∷ fs) rest past mid now [] halt r s = absurd r
-stops_after g (f ∷ fs) rest past mid now (v ∷ vs) halt r s = (r.0, inr (v, r.1, stops_after (graph_after g v) fs rest (r.0 ∷ past) mid now vs halt r.2 s))
+stops_after g (f ∷ fs) rest past mid now (v ∷ vs) halt r s =
+    (r.0, inr (v, r.1, stops_after (graph_after g v) fs rest (r.0 ∷ past) mid now vs halt r.2 s))
 
-pub stops_more : (g : Option Graph) (files rest : List File) (past now : List Fetch) (halt : Halt) → StopsReading g files past now halt → StopsReading g (files ++ rest) past now halt
+pub stops_more : (g : Option Graph) (files rest : List File) (past now : List Fetch) (halt : Halt) →
+    StopsReading g files past now halt →
+    StopsReading g (files ++ rest) past now halt
 stops_more g [] rest past now halt s = absurd s
 stops_more g (f ∷ fs) rest past now halt (fetch, inl here) = (fetch, inl here)
-stops_more g (f ∷ fs) rest past now halt (fetch, inr (value, read, there)) = (fetch, inr (value, read, stops_more (graph_after g value) fs rest (fetch ∷ past) now halt there))
+stops_more g (f ∷ fs) rest past now halt (fetch, inr (value, read, there)) =
+    (fetch, inr (value, read, stops_more (graph_after g value) fs rest (fetch ∷ past) now halt there))

@@ -25,11 +25,14 @@ sound_on fetch past now one s = record {
   sound = All-push IsSound s.fetches fetch s.sound one;
 }
 
-pub reads_sound : (g : Option Graph) (files : List File) (past now : List Fetch) (vs : List Value) → Reads g files past now vs → AreSound past now
+pub reads_sound : (g : Option Graph) (files : List File) (past now : List Fetch) (vs : List Value) →
+    Reads g files past now vs →
+    AreSound past now
 reads_sound g [] past now [] r = sound_none past now r
 reads_sound g [] past now (v ∷ vs) r = absurd r
 reads_sound g (f ∷ fs) past now [] r = absurd r
-reads_sound g (f ∷ fs) past now (v ∷ vs) r = sound_on r.0 past now r.1.whole.sound (reads_sound (graph_after g v) fs (r.0 ∷ past) now vs r.2)
+reads_sound g (f ∷ fs) past now (v ∷ vs) r =
+    sound_on r.0 past now r.1.whole.sound (reads_sound (graph_after g v) fs (r.0 ∷ past) now vs r.2)
 
 stop_sound : (g : Option Graph) (f : File) (fetch : Fetch) (h : Halt) → StopsAt g f fetch h → IsSound fetch ⊎ (h ≡ Read)
 stop_sound g f fetch h (inl unread) = inr unread.halt_is
@@ -37,13 +40,16 @@ stop_sound g f fetch h (inr (inl long)) = inl long.sound
 stop_sound g f fetch h (inr (inr (inl refused))) = inl refused.whole.sound
 stop_sound g f fetch h (inr (inr (inr wanting))) = inl wanting.sound
 
-pub stops_sound : (g : Option Graph) (files : List File) (past now : List Fetch) (h : Halt) → StopsReading g files past now h → AreSound past now ⊎ (h ≡ Read)
+pub stops_sound : (g : Option Graph) (files : List File) (past now : List Fetch) (h : Halt) →
+    StopsReading g files past now h →
+    AreSound past now ⊎ (h ≡ Read)
 stops_sound g [] past now h s = absurd s
 stops_sound g (f ∷ fs) past now h (fetch, inl here) = elim (stop_sound g f fetch h here.0) [
   | inl one ↦ inl (sound_on fetch past now one (sound_none (fetch ∷ past) now here.1))
   | inr read ↦ inr read
 ]
-stops_sound g (f ∷ fs) past now h (fetch, inr (v, read, there)) = elim (stops_sound (graph_after g v) fs (fetch ∷ past) now h there) [
-  | inl rest ↦ inl (sound_on fetch past now read.whole.sound rest)
-  | inr stopped ↦ inr stopped
-]
+stops_sound g (f ∷ fs) past now h (fetch, inr (v, read, there)) =
+    elim (stops_sound (graph_after g v) fs (fetch ∷ past) now h there) [
+      | inl rest ↦ inl (sound_on fetch past now read.whole.sound rest)
+      | inr stopped ↦ inr stopped
+    ]

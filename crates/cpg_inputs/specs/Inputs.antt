@@ -5,7 +5,8 @@ use Rattle.cpg_io.specs.State.{ShelfState}
 use Rattle.cpg_words.specs.Parts.{Text}
 use Rattle.cpg_words.specs.declared.command.Pair.{Pair}
 use Rattle.cpg_words.specs.declared.command.Command.{Command}
-use Rattle.cpg_words.specs.declared.command.Command.TheVariants.{Show, Compile, Check, Play, Node, Trial, Live, Hyper, Tune, Audit}
+use Rattle.cpg_words.specs.declared.command.Command.TheVariants.{Show, Compile, Check, Play, Node, Trial, Live, Hyper}
+use Rattle.cpg_words.specs.declared.command.Command.TheVariants.{Tune, Audit}
 use Rattle.cpg_scenario.specs.File.{IsPlayed}
 use Rattle.cpg_log.specs.Log.{IsLog}
 use Rattle.cpg_refusal.specs.declared.halt.Halt.{Halt}
@@ -24,15 +25,21 @@ command_with Purpose.Tune graph = Tune graph
 
 -- inputs are those of a command whose files say the values
 abbrev pub AreInputs : Command → List Value → Inputs → Type 0
-AreInputs command values (Inputs.Graph a purpose) = (graph : Text) × (command ≡ command_with purpose graph) × (values ≡ graph_value a ∷ [])
-AreInputs command values (Inputs.Check a t) = (graph : Text) × (pack : Text) × (command ≡ Check graph pack) × (values ≡ graph_value a ∷ tables_value t ∷ [])
+AreInputs command values (Inputs.Graph a purpose) =
+    (graph : Text) × (command ≡ command_with purpose graph) × (values ≡ graph_value a ∷ [])
+AreInputs command values (Inputs.Check a t) =
+    (graph : Text) × (pack : Text) × (command ≡ Check graph pack) × (values ≡ graph_value a ∷ tables_value t ∷ [])
 AreInputs command values (Inputs.Play a t p turns) = (graph : Text) × (pack : Text) × (scenario : Text) ×
     (command ≡ Play graph pack scenario turns) × (values ≡ graph_value a ∷ tables_value t ∷ played_value p ∷ [])
-AreInputs command values (Inputs.Audit a t l) = (graph : Text) × (pack : Text) × (log : Text) × (command ≡ Audit graph pack log) ×
+AreInputs command values (Inputs.Audit a t l) =
+    (graph : Text) × (pack : Text) × (log : Text) × (command ≡ Audit graph pack log) ×
     (values ≡ graph_value a ∷ tables_value t ∷ log_value l ∷ [])
-AreInputs command values (Inputs.Node t name) = (pack : Text) × (command ≡ Node pack name) × (values ≡ tables_value t ∷ [])
-AreInputs command values (Inputs.Live t name stream) = (pack : Text) × (command ≡ Live pack name stream) × (values ≡ tables_value t ∷ [])
-AreInputs command values (Inputs.Hyper parts) = (pairs : List Pair) × (command ≡ Hyper pairs) × (values ≡ part_values parts) × HavePeriods pairs parts
+AreInputs command values (Inputs.Node t name) =
+    (pack : Text) × (command ≡ Node pack name) × (values ≡ tables_value t ∷ [])
+AreInputs command values (Inputs.Live t name stream) =
+    (pack : Text) × (command ≡ Live pack name stream) × (values ≡ tables_value t ∷ [])
+AreInputs command values (Inputs.Hyper parts) =
+    (pairs : List Pair) × (command ≡ Hyper pairs) × (values ≡ part_values parts) × HavePeriods pairs parts
 AreInputs command values (Inputs.Trial number) = (command ≡ Trial number) × (values ≡ [])
 
 -- the files of a command were read, and the inputs are what they say

@@ -1,4 +1,5 @@
--- What a run has read: its files one after another, each fetched once, in the order of the words. A history is that of a shelf:
+-- What a run has read: its files one after another, each fetched once, in the order of the words. A history is that of
+-- a shelf:
 -- its fetches, the newest first.
 use Rattle.std.specs.Prelude.{◌≡◌, ◌≤◌, ◌+◌, ◌⊎◌, true, false, All, List, [], ◌∷◌, ◌++◌, Option, length}
 use Rattle.cpg_base.specs.Graph.{Graph}
@@ -52,14 +53,16 @@ pub record IsWanting (file : File) (fetch : Fetch) (halt : Halt) : Type 0 where
 
 -- a file stops a run
 abbrev pub StopsAt : Option Graph → File → Fetch → Halt → Type 0
-StopsAt g file fetch halt = IsUnread file fetch halt ⊎ (IsLong file fetch halt ⊎ (IsRefused g file fetch halt ⊎ IsWanting file fetch halt))
+StopsAt g file fetch halt =
+    IsUnread file fetch halt ⊎ (IsLong file fetch halt ⊎ (IsRefused g file fetch halt ⊎ IsWanting file fetch halt))
 
 -- all files were read, in order, and say these values; nothing else was fetched
 abbrev pub Reads : Option Graph → List File → List Fetch → List Fetch → List Value → Type 0
 Reads g [] past now [] = now ≡ past
 Reads g [] past now (value ∷ values) = ⊥
 Reads g (file ∷ files) past now [] = ⊥
-Reads g (file ∷ files) past now (value ∷ values) = (fetch : Fetch) × IsRead g file fetch value × Reads (graph_after g value) files (fetch ∷ past) now values
+Reads g (file ∷ files) past now (value ∷ values) =
+    (fetch : Fetch) × IsRead g file fetch value × Reads (graph_after g value) files (fetch ∷ past) now values
 
 -- a file stops the run: every earlier file was read, and none was fetched after it
 abbrev pub StopsReading : Option Graph → List File → List Fetch → List Fetch → Halt → Type 0

@@ -1,5 +1,5 @@
--- What the files of a command say, by their shape. A fact holds of the graph, of the tables, of both, or also of the third
--- file.
+-- What the files of a command say, by their shape. A fact holds of the graph, of the tables, of both, or also of the
+-- third file.
 use Rattle.std.specs.Prelude.{◌≡◌, List, [], ◌∷◌, ⊤}
 use Rattle.cpg_words.specs.declared.command.Pair.{Pair}
 use Rattle.cpg_rules.specs.Admission.{Admission}
@@ -23,11 +23,13 @@ OnJudged values Fact = (a : Admission) × (t : Tables) × (values ≡ graph_valu
 
 -- the files say a graph, tables to be judged for it and what happens in a play, and the fact holds of them
 abbrev pub OnPlayed : List Value → (Admission → Tables → Played → Type 0) → Type 0
-OnPlayed values Fact = (a : Admission) × (t : Tables) × (p : Played) × (values ≡ graph_value a ∷ tables_value t ∷ played_value p ∷ []) × Fact a t p
+OnPlayed values Fact = (a : Admission) × (t : Tables) × (p : Played) ×
+    (values ≡ graph_value a ∷ tables_value t ∷ played_value p ∷ []) × Fact a t p
 
 -- the files say a graph, tables to be judged for it and a log, and the fact holds of them
 abbrev pub OnLogged : List Value → (Admission → Tables → Log → Type 0) → Type 0
-OnLogged values Fact = (a : Admission) × (t : Tables) × (l : Log) × (values ≡ graph_value a ∷ tables_value t ∷ log_value l ∷ []) × Fact a t l
+OnLogged values Fact = (a : Admission) × (t : Tables) × (l : Log) ×
+    (values ≡ graph_value a ∷ tables_value t ∷ log_value l ∷ []) × Fact a t l
 
 -- the values of parts
 abbrev pub part_values : List Part → List Value

@@ -1,5 +1,6 @@
 -- What calls of a shelf gave, and what stands under the names that they were given of.
-use Rattle.std.proofs.Common.{get_or, ℕ, zero, suc, ◌≡◌, ◌<◌, ◌∙◌, ◌||◌, Bool, true, false, true≢false, List, [], ◌∷◌, ◌++◌, All, Option, Some, None, IfSome, append_assoc, arith, ap, length, refl}
+use Rattle.std.proofs.Common.{get_or, ℕ, zero, suc, ◌≡◌, ◌<◌, ◌∙◌, ◌||◌, Bool, true, false, true≢false, List, [], ◌∷◌}
+use Rattle.std.proofs.Common.{◌++◌, All, Option, Some, None, IfSome, append_assoc, arith, ap, length, refl}
 use Rattle.std.proofs.Common.{subst, sym, take}
 use Rattle.std.specs.Prelude.{Result, Ok, Err}
 use Rattle.std.specs.Io.KnownBytes.{Consumes, IsAtEnd, Keeps, ReadConsumes}
@@ -10,7 +11,8 @@ use Rattle.cpg_io.specs.Agreement.{Agrees, AreFetched, IsFrontOf, IsLeft, IsRest
 use Rattle.cpg_io.specs.Shelf.{HasGiven, SameNames, StartsAt, opened}
 use Rattle.cpg_io.specs.State.{ShelfState}
 
-on_some : (told : Option (List ℕ)) (P Q : List ℕ → Type 0) → ((whole : List ℕ) → P whole → Q whole) → IfSome told P → IfSome told Q
+on_some : (told : Option (List ℕ)) (P Q : List ℕ → Type 0) → ((whole : List ℕ) → P whole → Q whole) → IfSome told P →
+    IfSome told Q
 on_some None P Q f p = tt
 on_some (Some whole) P Q f p = f whole p
 
@@ -29,25 +31,32 @@ either_end : (a b : Bool) (P : Type 0) → (a ≡ true → P) → (b ≡ true �
 either_end true b P f g e = f refl
 either_end false b P f g e = g e
 
-end_on : (whole given piece : List ℕ) (left rest : Option (List ℕ)) → Consumes (Some whole) left given → Consumes left rest piece → IsAtEnd left → IsAtEnd rest
+end_on : (whole given piece : List ℕ) (left rest : Option (List ℕ)) → Consumes (Some whole) left given →
+    Consumes left rest piece → IsAtEnd left → IsAtEnd rest
 end_on whole given piece None rest came more end = absurd came
 end_on whole given piece (Some ys) None came more end = absurd more
 end_on whole given piece (Some ys) (Some zs) came more end = none_left piece zs (sym end ∙ more)
 
-end_kept : (whole given : List ℕ) (left rest : Option (List ℕ)) → Consumes (Some whole) left given → Keeps left rest → IsAtEnd left → IsAtEnd rest
+end_kept : (whole given : List ℕ) (left rest : Option (List ℕ)) → Consumes (Some whole) left given → Keeps left rest →
+    IsAtEnd left → IsAtEnd rest
 end_kept whole given None rest came kept end = absurd came
 end_kept whole given (Some ys) None came kept end = absurd kept
 end_kept whole given (Some ys) (Some zs) came kept end = kept ∙ end
 
 module _ (old new : ShelfState) (names : SameNames old new) where
-  gave_rest : (past : List Fetch) (piece : List ℕ) → Consumes old.left new.left piece → (is_none piece ≡ true → IsAtEnd new.left) → IsRestLeft old past → IsRestLeft new (gave piece past)
+  gave_rest : (past : List Fetch) (piece : List ℕ) → Consumes old.left new.left piece →
+      (is_none piece ≡ true → IsAtEnd new.left) → IsRestLeft old past →
+      IsRestLeft new (gave piece past)
   gave_rest [] piece more end r = tt
   gave_rest (f ∷ past) piece more end r =
-      let grown : Fetch = record { name = f.name; given = f.given ++ piece; ended = is_none piece || f.ended; failed = f.failed } in
+      let grown : Fetch =
+      record { name = f.name; given = f.given ++ piece; ended = is_none piece || f.ended; failed = f.failed } in
       subst (λ told. IfSome told (λ whole. IsLeft whole new.left grown)) (sym (names f.name))
-      (on_some (old.stands f.name) (λ whole. IsLeft whole old.left f) (λ whole. IsLeft whole new.left grown) (λ whole l. record {
+      (on_some (old.stands f.name) (λ whole. IsLeft whole old.left f) (λ whole. IsLeft whole new.left grown)
+      (λ whole l. record {
         came = Consumes-trans (Some whole) old.left new.left f.given piece l.came more;
-        end = either_end (is_none piece) f.ended (IsAtEnd new.left) end (λ e. end_on whole f.given piece old.left new.left l.came more (l.end e));
+        end = either_end (is_none piece) f.ended (IsAtEnd new.left) end
+            (λ e. end_on whole f.given piece old.left new.left l.came more (l.end e));
       }) r)
 
   failed_rest : (past : List Fetch) → Keeps old.left new.left → IsRestLeft old past → IsRestLeft new (failed past)
@@ -55,29 +64,36 @@ module _ (old new : ShelfState) (names : SameNames old new) where
   failed_rest (f ∷ past) kept r =
       let same : Fetch = record f { failed = true } in
       subst (λ told. IfSome told (λ whole. IsLeft whole new.left same)) (sym (names f.name))
-      (on_some (old.stands f.name) (λ whole. IsLeft whole old.left f) (λ whole. IsLeft whole new.left same) (λ whole l. record {
+      (on_some (old.stands f.name) (λ whole. IsLeft whole old.left f) (λ whole. IsLeft whole new.left same)
+      (λ whole l. record {
         came = Consumes-kept (Some whole) old.left new.left f.given l.came kept;
         end = λ e. end_kept whole f.given old.left new.left l.came kept (l.end e);
       }) r)
 
-  pub read_rest : {E : Type 0} (result : Result ℕ E) (buf : List ℕ) → 0 < length buf → HasGiven old.history new.history result buf → ReadConsumes old.left new.left result buf → LeavesRest old →
+  pub read_rest : {E : Type 0} (result : Result ℕ E) (buf : List ℕ) → 0 < length buf →
+      HasGiven old.history new.history result buf → ReadConsumes old.left new.left result buf →
+      LeavesRest old →
       LeavesRest new
-  read_rest (Ok n) buf some given more r = subst (IsRestLeft new) (sym given) (gave_rest old.history (take n buf) more.0 (λ e. more.1 (none_read n buf some e) some) r)
+  read_rest (Ok n) buf some given more r = subst (IsRestLeft new) (sym given)
+      (gave_rest old.history (take n buf) more.0 (λ e. more.1 (none_read n buf some e) some) r)
   read_rest (Err fault) buf some given more r = subst (IsRestLeft new) (sym given) (failed_rest old.history more r)
 
   -- ---- a fetch
 
-  starts : (told : Option (List ℕ)) (f : Fetch) → f.given ≡ [] → f.ended ≡ false → StartsAt told new.left → IfSome told (λ whole. IsLeft whole new.left f)
+  starts : (told : Option (List ℕ)) (f : Fetch) → f.given ≡ [] → f.ended ≡ false → StartsAt told new.left →
+      IfSome told (λ whole. IsLeft whole new.left f)
   starts None f none unended s = tt
   starts (Some whole) f none unended s = record {
     came = subst (λ left. Consumes (Some whole) left f.given) (sym s) (sym (ap (λ given. given ++ whole) none));
     end = λ e. absurd (true≢false (sym e ∙ unended));
   }
 
-  pub fetch_rest : (name : List ℕ) → new.history ≡ opened name false old.history → StartsAt (old.stands name) new.left → LeavesRest new
+  pub fetch_rest : (name : List ℕ) → new.history ≡ opened name false old.history → StartsAt (old.stands name) new.left →
+      LeavesRest new
   fetch_rest name is s =
       let f : Fetch = record { name = name; given = []; ended = false; failed = false } in
-      subst (IsRestLeft new) (sym is) (subst (λ told. IfSome told (λ whole. IsLeft whole new.left f)) (sym (names name)) (starts (old.stands name) f refl refl s))
+      subst (IsRestLeft new) (sym is) (subst (λ told. IfSome told (λ whole. IsLeft whole new.left f)) (sym (names name))
+      (starts (old.stands name) f refl refl s))
 
   -- ---- what was fetched
 
@@ -90,24 +106,39 @@ module _ (old new : ShelfState) (names : SameNames old new) where
       let told : IfSome (new.stands f.name) (λ whole. IsLeft whole new.left f) = subst (IsRestLeft new) is r in
       let agrees : Agrees old.stands f = subst (λ told. IfSome told (λ whole. IsFrontOf whole f)) (names f.name)
       (on_some (new.stands f.name) _ (λ whole. IsFrontOf whole f) (λ whole l. front_of whole new.left f l) told) in
-      record { fetches = f ∷ []; history = is; agree = All-cons (Agrees old.stands) f [] agrees (All-nil (Agrees old.stands)) }
+      record {
+        fetches = f ∷ [];
+        history = is;
+        agree = All-cons (Agrees old.stands) f [] agrees (All-nil (Agrees old.stands));
+      }
 
   pub fetched_on : (last : ShelfState) → AreFetched old new → AreFetched new last → AreFetched old last
   fetched_on last x y = record {
     fetches = y.fetches ++ x.fetches;
     history = y.history ∙ ap (λ past. y.fetches ++ past) x.history ∙ sym (append_assoc y.fetches x.fetches old.history);
     agree = All-append (Agrees old.stands) y.fetches x.fetches
-        (λ i d lt. subst (λ told. IfSome told (λ whole. IsFrontOf whole (get_or y.fetches i d))) (names (get_or y.fetches i d).name) (y.agree i d lt)) x.agree;
+        (λ i d lt. subst (λ told. IfSome told (λ whole. IsFrontOf whole (get_or y.fetches i d)))
+        (names (get_or y.fetches i d).name) (y.agree i d lt)) x.agree;
   }
 
-unfetched : (told : Option (List ℕ)) (f : Fetch) → f.given ≡ [] → f.ended ≡ false → IfSome told (λ whole. IsFrontOf whole f)
+unfetched : (told : Option (List ℕ)) (f : Fetch) → f.given ≡ [] → f.ended ≡ false →
+    IfSome told (λ whole. IsFrontOf whole f)
 unfetched None f none unended = tt
-unfetched (Some whole) f none unended = record { rest = whole; front = sym (ap (λ given. given ++ whole) none); all = λ e. absurd (true≢false (sym e ∙ unended)) }
+unfetched (Some whole) f none unended = record {
+  rest = whole;
+  front = sym (ap (λ given. given ++ whole) none);
+  all = λ e. absurd (true≢false (sym e ∙ unended));
+}
 
-pub fetched_none : (old new : ShelfState) (name : List ℕ) → new.history ≡ opened name true old.history → AreFetched old new
+pub fetched_none : (old new : ShelfState) (name : List ℕ) → new.history ≡ opened name true old.history →
+    AreFetched old new
 fetched_none old new name is =
     let f : Fetch = record { name = name; given = []; ended = false; failed = true } in
-    record { fetches = f ∷ []; history = is; agree = All-cons (Agrees old.stands) f [] (unfetched (old.stands name) f refl refl) (All-nil (Agrees old.stands)) }
+    record {
+      fetches = f ∷ [];
+      history = is;
+      agree = All-cons (Agrees old.stands) f [] (unfetched (old.stands name) f refl refl) (All-nil (Agrees old.stands));
+    }
 
 pub fetched_same : (s : ShelfState) → AreFetched s s
 fetched_same s = record { fetches = []; history = refl; agree = All-nil (Agrees s.stands) }

@@ -1,5 +1,5 @@
--- What contracts see of the adapters over files and over a writer: counts, whether a file is open, what calls gave and took,
--- and what the file and the writer report of their bytes, which those of the machine don't.
+-- What contracts see of the adapters over files and over a writer: counts, whether a file is open, what calls gave and
+-- took, and what the file and the writer report of their bytes, which those of the machine don't.
 use Rattle.std.specs.Prelude.{ℕ, Bool, List, [], Option, Some, None}
 use Rattle.cpg_history.specs.Fetch.{Fetch}
 use Rattle.cpg_io.specs.State.{ShelfState, SinkState}

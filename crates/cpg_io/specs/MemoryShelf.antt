@@ -1,5 +1,6 @@
 -- A shelf in memory.
-use Rattle.std.specs.Prelude.{ℕ, ◌≡◌, ◌≢◌, ◌<◌, ◌≤◌, Bool, List, [], ◌∷◌, Option, Some, None, IfSome, length, slice_index_or, if◌then◌else◌}
+use Rattle.std.specs.Prelude.{ℕ, ◌≡◌, ◌≢◌, ◌<◌, ◌≤◌, Bool, List, [], ◌∷◌, Option, Some, None, IfSome, length}
+use Rattle.std.specs.Prelude.{slice_index_or, if◌then◌else◌}
 use Rattle.std.specs.Str.{bytes_eq}
 use Rattle.cpg_history.specs.Fetch.{Fetch}
 use Rattle.cpg_io.specs.State.{ShelfState}
@@ -9,8 +10,8 @@ pub record File : Type 0 where
   pub name : List ℕ
   pub bytes : List ℕ
 
--- The files, what is left of the fetched one, the place in it, the number of faults, the number of the next call, the numbers
--- of the calls that fail, and all fetches.
+-- The files, what is left of the fetched one, the place in it, the number of faults, the number of the next call, the
+-- numbers of the calls that fail, and all fetches.
 pub record MemoryShelfState : Type 0 where
   pub files : List File
   pub left : List ℕ
@@ -43,4 +44,5 @@ bytes_at files (Some place) = (slice_index_or files place (record { name = []; b
 
 -- the place in the fetched file isn't past its end
 abbrev pub GivesWithin : List File → Option ℕ → ℕ → Type 0
-GivesWithin files fetched at = IfSome fetched (λ place. (place < length files) × (at ≤ length (bytes_at files (Some place))))
+GivesWithin files fetched at =
+    IfSome fetched (λ place. (place < length files) × (at ≤ length (bytes_at files (Some place))))

@@ -1,5 +1,6 @@
 -- Reading all that a shelf gives of a name.
-use Rattle.std.specs.Prelude.{ℕ, ◌≡◌, ◌+◌, ◌≤◌, Bool, true, false, List, ◌∷◌, Option, Result, Ok, Err, length, take, drop}
+use Rattle.std.specs.Prelude.{ℕ, ◌≡◌, ◌+◌, ◌≤◌, Bool, true, false, List, ◌∷◌, Option, Result, Ok, Err, length, take}
+use Rattle.std.specs.Prelude.{drop}
 use Rattle.std.specs.Io.KnownBytes.{Consumes, IsAtEnd}
 use Rattle.cpg_history.specs.Fetch.{Fetch, gave, failed}
 use Rattle.cpg_io.specs.declared.reading.ReadAll.{ReadAll}
@@ -18,8 +19,8 @@ pub record IsLost (past now : List Fetch) (count : ℕ) : Type 0 where
   pub gave : now ≡ gave piece past
   pub long : length piece ≡ count
 
--- what one read gave: the bytes that came to the end of those that were read before; one byte past the limit; or what there is
--- no memory for
+-- what one read gave: the bytes that came to the end of those that were read before; one byte past the limit; or what
+-- there is no memory for
 abbrev pub GivesPiece : ℕ → List Fetch → List Fetch → List ℕ → List ℕ → Result ℕ ReadAll → Type 0
 GivesPiece limit past now old new (Ok n) = now ≡ gave (drop (length old) new) past
 GivesPiece limit past now old new (Err Failed) = now ≡ failed past
@@ -39,5 +40,7 @@ pub record IsReadWhole (past now : List Fetch) (name : List ℕ) (limit : ℕ) (
 -- one fetch more, of the name, not read whole: it failed, or gave one byte more than so many, or there is no memory
 abbrev pub IsReadInPart : List Fetch → List Fetch → List ℕ → ℕ → ReadAll → Type 0
 IsReadInPart past now name limit Failed = (given : List ℕ) × (length given ≤ limit) × IsFetch past now name given true
-IsReadInPart past now name limit TooLong = (given : List ℕ) × (length given ≡ limit + 1) × IsFetch past now name given false
-IsReadInPart past now name limit OutOfMemory = (given : List ℕ) × (length given ≤ limit) × IsFetch past now name given false
+IsReadInPart past now name limit TooLong =
+    (given : List ℕ) × (length given ≡ limit + 1) × IsFetch past now name given false
+IsReadInPart past now name limit OutOfMemory =
+    (given : List ℕ) × (length given ≤ limit) × IsFetch past now name given false

@@ -1,5 +1,6 @@
 -- How calls change what a shelf reports.
-use Rattle.std.specs.Prelude.{ℕ, ◌≡◌, ◌≤◌, ◌↔◌, ◌⊎◌, Bool, true, false, List, [], ◌∷◌, Option, Some, None, Result, MatchResult, take, ⊤}
+use Rattle.std.specs.Prelude.{ℕ, ◌≡◌, ◌≤◌, ◌↔◌, ◌⊎◌, Bool, true, false, List, [], ◌∷◌, Option, Some, None, Result}
+use Rattle.std.specs.Prelude.{MatchResult, take, ⊤}
 use Rattle.cpg_history.specs.Fetch.{Fetch, gave, failed}
 use Rattle.cpg_io.specs.Agreement.{AreFetched}
 use Rattle.cpg_io.specs.Causes.{Rose}
@@ -26,10 +27,11 @@ opened name fails past = record { name = name; given = []; ended = false; failed
 abbrev pub HasGiven : {E : Type 0} → List Fetch → List Fetch → Result ℕ E → List ℕ → Type 0
 HasGiven old new result buf = MatchResult result (λ n. new ≡ gave (take n buf) old) (λ _. new ≡ failed old)
 
--- What names stand for is unchanged, and the count of faults didn't fall. Each fetch gave the bytes of its name, if the shelf
--- reports them. If files were fetched and the last one failed, the count rose.
+-- What names stand for is unchanged, and the count of faults didn't fall. Each fetch gave the bytes of its name, if the
+-- shelf reports them. If files were fetched and the last one failed, the count rose.
 pub record KeepsShelf (old new : ShelfState) : Type 0 where
   pub names : SameNames old new
   pub fetched : AreFetched old new
   pub later : old.faults ≤ new.faults
-  pub rose : (fetch : Fetch) (past : List Fetch) → new.history ≡ fetch ∷ past → fetch.failed ≡ true → (new.history ≡ old.history) ⊎ Rose old.faults new.faults
+  pub rose : (fetch : Fetch) (past : List Fetch) → new.history ≡ fetch ∷ past → fetch.failed ≡ true →
+      (new.history ≡ old.history) ⊎ Rose old.faults new.faults

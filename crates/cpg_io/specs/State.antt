@@ -2,8 +2,8 @@
 use Rattle.std.specs.Prelude.{ℕ, List, Option, length}
 use Rattle.cpg_history.specs.Fetch.{Fetch, newest_given}
 
--- The bytes of each name and those that are left of the fetched one, if the shelf reports them; the number of faults; and all
--- fetches, newest first, with what they gave.
+-- The bytes of each name and those that are left of the fetched one, if the shelf reports them; the number of faults;
+-- and all fetches, newest first, with what they gave.
 pub record ShelfState : Type 0 where
   pub stands : List ℕ → Option (List ℕ)
   pub left : Option (List ℕ)

@@ -9,5 +9,6 @@ use Rattle.cpg_label.specs.Labels.{condition_name, labels_of, process_name}
 pub process_called : (g : Graph) (p : ℕ) → process_name (labels_of g) p ≡ (process_at g p).name
 process_called g p = get_or-mapped (λ (p : Process). p.name) g.processes p _
 
-pub condition_called : (g : Graph) (c : ℕ) → c < condition_count g → condition_name (labels_of g) c ≡ (process_at g (process_of g c)).name
+pub condition_called : (g : Graph) (c : ℕ) → c < condition_count g →
+    condition_name (labels_of g) c ≡ (process_at g (process_of g c)).name
 condition_called g c l = get_or-map (λ p. (process_at g p).name) (disjunctions g) c 0 [] l

@@ -1,12 +1,14 @@
 -- Lines with a literal more, and with fewer.
-use Rattle.std.proofs.Common.{◌≡◌, ◌==◌, false, ℕ, ◌+◌, ◌-◌, ◌*◌, suc, ◌<◌, ◌≤◌, List, [], ◌∷◌, ◌++◌, inl, inr, refl, zero}
+use Rattle.std.proofs.Common.{◌≡◌, ◌==◌, false, ℕ, ◌+◌, ◌-◌, ◌*◌, suc, ◌<◌, ◌≤◌, List, [], ◌∷◌, ◌++◌, inl, inr, refl}
+use Rattle.std.proofs.Common.{zero}
 use Rattle.std.proofs.Common.{append-nil, arith, drop, get_or, length, replicate, set, sym, take, ap, ap₂, ◌∙◌}
 use Rattle.std.specs.List.{flat_map}
 use Rattle.std.proofs.Math.ListN.{get_or-append}
 use Rattle.std.proofs.Math.Seq.{get_or-append_seam, take-add, take-append_seam, take-length}
 use Rattle.std.proofs.lemmas.Bool.{cases_lt, ne_eqb}
 use Rattle.std.proofs.lemmas.Grind.{flat_map-append}
-use Rattle.std.proofs.lemmas.List.{append_assoc, get_or-set_same, get_or-take, length-append, length-drop, length-take-le, take-append-drop, take-append-le, take-take, take_all, take_more_set}
+use Rattle.std.proofs.lemmas.List.{append_assoc, get_or-set_same, get_or-take, length-append, length-drop}
+use Rattle.std.proofs.lemmas.List.{length-take-le, take-append-drop, take-append-le, take-take, take_all, take_more_set}
 use Rattle.cpg_cube.specs.Cube.{IsRising}
 use Rattle.cpg_cube.specs.declared.literal.Literal.{Literal}
 use Rattle.cpg_label.specs.CubeText.{literal_text}
@@ -14,32 +16,40 @@ use Rattle.cpg_label.specs.Labels.{Labels}
 use Rattle.cpg_label.specs.Lines.{AreAlike, AreLine, added_text, front_text, piece_text, rest_text, text_after}
 
 -- the text of two lists
-pub front-append : (labels : Labels) (xs ys : List Literal) → front_text labels (xs ++ ys) ≡ front_text labels xs ++ rest_text labels xs ys
+pub front-append : (labels : Labels) (xs ys : List Literal) →
+    front_text labels (xs ++ ys) ≡ front_text labels xs ++ rest_text labels xs ys
 front-append labels [] ys = refl
 front-append labels (x ∷ xs) ys = ap (λ t. literal_text labels x ++ t) (flat_map-append (piece_text labels) xs ys)
     ∙ sym (append_assoc (literal_text labels x) (flat_map (piece_text labels) xs) (flat_map (piece_text labels) ys))
 
-rest_of_one : (labels : Labels) (xs : List Literal) (l : Literal) → rest_text labels xs (l ∷ []) ≡ added_text labels xs l
+rest_of_one : (labels : Labels) (xs : List Literal) (l : Literal) →
+    rest_text labels xs (l ∷ []) ≡ added_text labels xs l
 rest_of_one labels [] l = append-nil (literal_text labels l)
 rest_of_one labels (x ∷ xs) l = append-nil (piece_text labels l)
 
 -- what a literal adds to the text of a list, by how many it has
-after_is : (labels : Labels) (xs : List Literal) (n : ℕ) (l : Literal) → length xs ≡ n → text_after labels n l ≡ added_text labels xs l
+after_is : (labels : Labels) (xs : List Literal) (n : ℕ) (l : Literal) → length xs ≡ n →
+    text_after labels n l ≡ added_text labels xs l
 after_is labels [] n l e = rw (← e) refl
 after_is labels (x ∷ xs) n l e =
     let some : suc (length xs) ≡ n = e in
     let other : (n == 0) ≡ false = ne_eqb n 0 (λ none. omega (arith, none, some)) in
     rw other refl
 
-pub front_more : (labels : Labels) (xs : List Literal) (l : Literal) → front_text labels (xs ++ l ∷ []) ≡ front_text labels xs ++ added_text labels xs l
+pub front_more : (labels : Labels) (xs : List Literal) (l : Literal) →
+    front_text labels (xs ++ l ∷ []) ≡ front_text labels xs ++ added_text labels xs l
 front_more labels xs l = front-append labels xs (l ∷ []) ∙ ap (λ t. front_text labels xs ++ t) (rest_of_one labels xs l)
 
 -- a list is its first elements and the rest
-front_parted : (labels : Labels) (ls : List Literal) (n : ℕ) → front_text labels ls ≡ front_text labels (take n ls) ++ rest_text labels (take n ls) (drop n ls)
-front_parted labels ls n = ap (front_text labels) (sym (take-append-drop n ls)) ∙ front-append labels (take n ls) (drop n ls)
+front_parted : (labels : Labels) (ls : List Literal) (n : ℕ) →
+    front_text labels ls ≡ front_text labels (take n ls) ++ rest_text labels (take n ls) (drop n ls)
+front_parted labels ls n =
+    ap (front_text labels) (sym (take-append-drop n ls)) ∙ front-append labels (take n ls) (drop n ls)
 
 -- some more literals that are the same
-pub alike_more : (first second : List Literal) (n k : ℕ) → AreAlike first second n → k ≤ length first - n → k ≤ length second - n → take k (drop n first) ≡ take k (drop n second) →
+pub alike_more : (first second : List Literal) (n k : ℕ) → AreAlike first second n → k ≤ length first - n →
+    k ≤ length second - n →
+    take k (drop n first) ≡ take k (drop n second) →
     AreAlike first second (n + k)
 alike_more first second n k h a b e = record {
   same = take-add n k first ∙ ap₂ (λ xs ys. xs ++ ys) h.same e ∙ sym (take-add n k second);
@@ -48,12 +58,16 @@ alike_more first second n k h a b e = record {
 }
 
 -- a block of what is left of each list
-pub block_more : (first second left right block rest other behind : List Literal) (n k : ℕ) → AreAlike first second n → left ≡ drop n first → right ≡ drop n second → block ≡ take k left →
-    length rest + k ≡ length left → other ≡ take k right → length behind + k ≡ length right → block ≡ other → AreAlike first second (n + k)
+pub block_more : (first second left right block rest other behind : List Literal) (n k : ℕ) → AreAlike first second n →
+    left ≡ drop n first → right ≡ drop n second →
+    block ≡ take k left →
+    length rest + k ≡ length left → other ≡ take k right → length behind + k ≡ length right → block ≡ other →
+    AreAlike first second (n + k)
 block_more first second left right block rest other behind n k h l r is some also more same =
     let a : length left ≡ length first - n = ap length l ∙ length-drop n first in
     let b : length right ≡ length second - n = ap length r ∙ length-drop n second in
-    alike_more first second n k h (omega (arith, a, some)) (omega (arith, b, more)) (sym (is ∙ ap (take k) l) ∙ same ∙ also ∙ ap (take k) r)
+    alike_more first second n k h (omega (arith, a, some)) (omega (arith, b, more))
+    (sym (is ∙ ap (take k) l) ∙ same ∙ also ∙ ap (take k) r)
 
 pub rest_of : (n : ℕ) (ls : List Literal) → take (length ls - n) (drop n ls) ≡ drop n ls
 rest_of n ls = take_all (length ls - n) (drop n ls) (omega (arith, length-drop n ls))
@@ -71,21 +85,28 @@ line_none labels = record { text = refl; count = refl; ends = λ n le. none n le
     none (suc n) le = absurd (omega (arith, le))
 
 -- the text is short
-pub line_short : (labels : Labels) (ls : List Literal) (text ends : List ℕ) → AreLine labels ls text ends → length text ≤ 84 * length ls
+pub line_short : (labels : Labels) (ls : List Literal) (text ends : List ℕ) → AreLine labels ls text ends →
+    length text ≤ 84 * length ls
 line_short labels ls text ends h =
-    let all : get_or ends (length ls) 0 ≡ length text = h.ends (length ls) (omega arith) ∙ ap (λ xs. length (front_text labels xs)) (take-length ls) ∙ ap length (sym h.text) in
+    let all : get_or ends (length ls) 0 ≡ length text = h.ends (length ls) (omega arith)
+    ∙ ap (λ xs. length (front_text labels xs)) (take-length ls) ∙ ap length (sym h.text) in
     let few = h.short (length ls) (omega arith) in
     omega (arith, all, few)
 
 -- one more
-pub line_more : (labels : Labels) (ls : List Literal) (text ends : List ℕ) (l : Literal) (now : List ℕ) → AreLine labels ls text ends → now ≡ text ++ added_text labels ls l →
+pub line_more : (labels : Labels) (ls : List Literal) (text ends : List ℕ) (l : Literal) (now : List ℕ) →
+    AreLine labels ls text ends →
+    now ≡ text ++ added_text labels ls l →
     length now ≤ length text + 84 → AreLine labels (ls ++ l ∷ []) now (ends ++ length now ∷ [])
 line_more labels ls text ends l now h is few =
     record {
       text = text_is;
       count = omega (arith, length-append ends (length now ∷ []), long, h.count);
       ends = λ n le. elim (cases_lt (length ls) n) [ inl lt ↦ last n le lt | inr ge ↦ before n ge ];
-      short = λ n le. elim (cases_lt (length ls) n) [ inl lt ↦ last_short n le lt | inr ge ↦ rw (get_or-append ends (length now ∷ []) 0 n (omega (arith, h.count))) (h.short n ge) ];
+      short = λ n le. elim (cases_lt (length ls) n) [
+        | inl lt ↦ last_short n le lt
+        | inr ge ↦ rw (get_or-append ends (length now ∷ []) 0 n (omega (arith, h.count))) (h.short n ge)
+      ];
     }
   where
     long : length (ls ++ l ∷ []) ≡ length ls + 1
@@ -94,58 +115,77 @@ line_more labels ls text ends l now h is few =
     text_is : now ≡ front_text labels (ls ++ l ∷ [])
     text_is = is ∙ ap (λ t. t ++ added_text labels ls l) h.text ∙ sym (front_more labels ls l)
 
-    before : (n : ℕ) → n ≤ length ls → get_or (ends ++ length now ∷ []) n 0 ≡ length (front_text labels (take n (ls ++ l ∷ [])))
-    before n le = get_or-append ends (length now ∷ []) 0 n (omega (arith, h.count)) ∙ h.ends n le ∙ ap (λ xs. length (front_text labels xs)) (sym (take-append-le n ls (l ∷ []) le))
+    before : (n : ℕ) → n ≤ length ls →
+        get_or (ends ++ length now ∷ []) n 0 ≡ length (front_text labels (take n (ls ++ l ∷ [])))
+    before n le = get_or-append ends (length now ∷ []) 0 n (omega (arith, h.count)) ∙ h.ends n le
+        ∙ ap (λ xs. length (front_text labels xs)) (sym (take-append-le n ls (l ∷ []) le))
 
     last_short : (n : ℕ) → n ≤ length (ls ++ l ∷ []) → length ls < n → get_or (ends ++ length now ∷ []) n 0 ≤ 84 * n
     last_short n le lt =
-        let at : get_or (ends ++ length now ∷ []) n 0 ≡ length now = ap (λ i. get_or (ends ++ length now ∷ []) i 0) (omega (arith, long, h.count)) ∙ get_or-append_seam ends (length now) [] 0 in
+        let at : get_or (ends ++ length now ∷ []) n 0 ≡ length now =
+        ap (λ i. get_or (ends ++ length now ∷ []) i 0) (omega (arith, long, h.count))
+        ∙ get_or-append_seam ends (length now) [] 0 in
         let whole : length text ≤ 84 * length ls = line_short labels ls text ends h in
         omega (arith, at, whole, few, le, lt, long)
 
-    last : (n : ℕ) → n ≤ length (ls ++ l ∷ []) → length ls < n → get_or (ends ++ length now ∷ []) n 0 ≡ length (front_text labels (take n (ls ++ l ∷ [])))
-    last n le lt = ap (λ i. get_or (ends ++ length now ∷ []) i 0) (omega (arith, long, h.count)) ∙ get_or-append_seam ends (length now) [] 0 ∙ ap length text_is
-        ∙ ap (λ xs. length (front_text labels xs)) (sym (ap (λ i. take i (ls ++ l ∷ [])) (omega (arith, long)) ∙ take-length (ls ++ l ∷ [])))
+    last : (n : ℕ) → n ≤ length (ls ++ l ∷ []) → length ls < n →
+        get_or (ends ++ length now ∷ []) n 0 ≡ length (front_text labels (take n (ls ++ l ∷ [])))
+    last n le lt = ap (λ i. get_or (ends ++ length now ∷ []) i 0) (omega (arith, long, h.count))
+        ∙ get_or-append_seam ends (length now) [] 0 ∙ ap length text_is
+        ∙ ap (λ xs. length (front_text labels xs))
+        (sym (ap (λ i. take i (ls ++ l ∷ [])) (omega (arith, long)) ∙ take-length (ls ++ l ∷ [])))
 
 -- the first ones
-pub line_less : (labels : Labels) (ls : List Literal) (text ends : List ℕ) (count : ℕ) → AreLine labels ls text ends → count ≤ length ls →
+pub line_less : (labels : Labels) (ls : List Literal) (text ends : List ℕ) (count : ℕ) → AreLine labels ls text ends →
+    count ≤ length ls →
     AreLine labels (take count ls) (take (get_or ends count 0) text) (take (count + 1) ends)
 line_less labels ls text ends count h le =
     record {
       text = text_is;
       count = omega (arith, length-take-le (count + 1) ends (omega (arith, h.count)), length-take-le count ls le);
       ends = ends_are;
-      short = λ n few. rw (get_or-take (count + 1) ends n 0 (omega (arith, length-take-le count ls le))) (h.short n (omega (arith, length-take-le count ls le)));
+      short = λ n few. rw (get_or-take (count + 1) ends n 0 (omega (arith, length-take-le count ls le)))
+          (h.short n (omega (arith, length-take-le count ls le)));
     }
   where
     text_is : take (get_or ends count 0) text ≡ front_text labels (take count ls)
-    text_is = ap (λ n. take n text) (h.ends count le) ∙ ap (take (length (front_text labels (take count ls)))) (h.text ∙ front_parted labels ls count)
+    text_is = ap (λ n. take n text) (h.ends count le)
+        ∙ ap (take (length (front_text labels (take count ls)))) (h.text ∙ front_parted labels ls count)
         ∙ take-append_seam (front_text labels (take count ls)) (rest_text labels (take count ls) (drop count ls))
 
-    ends_are : (n : ℕ) → n ≤ length (take count ls) → get_or (take (count + 1) ends) n 0 ≡ length (front_text labels (take n (take count ls)))
-    ends_are n few = get_or-take (count + 1) ends n 0 (omega (arith, length-take-le count ls le)) ∙ h.ends n (omega (arith, length-take-le count ls le))
-        ∙ ap (λ xs. length (front_text labels xs)) (ap (take n) (sym (take-append-drop count ls)) ∙ take-append-le n (take count ls) (drop count ls) few)
+    ends_are : (n : ℕ) → n ≤ length (take count ls) →
+        get_or (take (count + 1) ends) n 0 ≡ length (front_text labels (take n (take count ls)))
+    ends_are n few = get_or-take (count + 1) ends n 0 (omega (arith, length-take-le count ls le))
+        ∙ h.ends n (omega (arith, length-take-le count ls le))
+        ∙ ap (λ xs. length (front_text labels xs))
+        (ap (take n) (sym (take-append-drop count ls)) ∙ take-append-le n (take count ls) (drop count ls) few)
 
 -- the text of the first ones is no longer
-front_no_longer : (labels : Labels) (ls : List Literal) (n : ℕ) → length (front_text labels (take n ls)) ≤ length (front_text labels ls)
+front_no_longer : (labels : Labels) (ls : List Literal) (n : ℕ) →
+    length (front_text labels (take n ls)) ≤ length (front_text labels ls)
 front_no_longer labels ls n =
-    let e : length (front_text labels ls) ≡ length (front_text labels (take n ls)) + length (rest_text labels (take n ls) (drop n ls)) =
-    ap length (front_parted labels ls n) ∙ length-append (front_text labels (take n ls)) (rest_text labels (take n ls) (drop n ls)) in
+    let e : length (front_text labels ls)
+    ≡ length (front_text labels (take n ls)) + length (rest_text labels (take n ls) (drop n ls)) =
+    ap length (front_parted labels ls n)
+    ∙ length-append (front_text labels (take n ls)) (rest_text labels (take n ls) (drop n ls)) in
     omega (arith, e)
 
 -- ---- lists that have more behind a line
 
-pub line_new : (labels : Labels) (ls : List Literal) (text ends : List ℕ) → ends ≡ replicate 257 0 → AreLine labels (take 0 ls) (take (get_or ends 0 0) text) (take (0 + 1) ends)
+pub line_new : (labels : Labels) (ls : List Literal) (text ends : List ℕ) → ends ≡ replicate 257 0 →
+    AreLine labels (take 0 ls) (take (get_or ends 0 0) text) (take (0 + 1) ends)
 line_new labels ls text ends e = rw e (line_none labels)
 
 module _ (labels : Labels) (ls : List Literal) (text ends : List ℕ) (count : ℕ)
-    (h : AreLine labels (take count ls) (take (get_or ends count 0) text) (take (count + 1) ends)) (room : count ≤ length ls) where
+    (h : AreLine labels (take count ls) (take (get_or ends count 0) text) (take (count + 1) ends))
+    (room : count ≤ length ls) where
   long : length (take count ls) ≡ count
   long = length-take-le count ls room
 
   -- where the text ends
   end_is : get_or ends count 0 ≡ length (front_text labels (take count ls))
-  end_is = sym (get_or-take (count + 1) ends count 0 (omega arith)) ∙ h.ends count (omega (arith, long)) ∙ ap (λ xs. length (front_text labels xs)) (take-take count count ls (omega arith))
+  end_is = sym (get_or-take (count + 1) ends count 0 (omega arith)) ∙ h.ends count (omega (arith, long))
+      ∙ ap (λ xs. length (front_text labels xs)) (take-take count count ls (omega arith))
 
   text_long : length (take (get_or ends count 0) text) ≡ get_or ends count 0
   text_long = ap length h.text ∙ sym end_is
@@ -155,34 +195,48 @@ module _ (labels : Labels) (ls : List Literal) (text ends : List ℕ) (count : �
   end_short = rw (← get_or-take (count + 1) ends count 0 (omega arith)) (h.short count (omega (arith, long)))
 
   -- fewer
-  pub line_kept : (new : ℕ) → new ≤ count → AreLine labels (take new ls) (take (get_or ends new 0) text) (take (new + 1) ends)
+  pub line_kept : (new : ℕ) → new ≤ count →
+      AreLine labels (take new ls) (take (get_or ends new 0) text) (take (new + 1) ends)
   line_kept new le =
-      let at : get_or (take (count + 1) ends) new 0 ≡ get_or ends new 0 = get_or-take (count + 1) ends new 0 (omega (arith, le)) in
-      let it : get_or ends new 0 ≡ length (front_text labels (take new (take count ls))) = sym at ∙ h.ends new (omega (arith, le, long)) in
-      let before : get_or ends new 0 ≤ get_or ends count 0 = omega (arith, it, end_is, front_no_longer labels (take count ls) new) in
-      rw (← take-take new count ls le) (rw (← take-take (new + 1) (count + 1) ends (omega (arith, le))) (rw (← take-take (get_or ends new 0) (get_or ends count 0) text before)
-      (rw (← at) (line_less labels (take count ls) (take (get_or ends count 0) text) (take (count + 1) ends) new h (omega (arith, le, long))))))
+      let at : get_or (take (count + 1) ends) new 0 ≡ get_or ends new 0 =
+      get_or-take (count + 1) ends new 0 (omega (arith, le)) in
+      let it : get_or ends new 0 ≡ length (front_text labels (take new (take count ls))) =
+      sym at ∙ h.ends new (omega (arith, le, long)) in
+      let before : get_or ends new 0 ≤ get_or ends count 0 =
+      omega (arith, it, end_is, front_no_longer labels (take count ls) new) in
+      rw (← take-take new count ls le) (rw (← take-take (new + 1) (count + 1) ends (omega (arith, le)))
+      (rw (← take-take (get_or ends new 0) (get_or ends count 0) text before)
+      (rw (← at) (line_less labels (take count ls) (take (get_or ends count 0) text) (take (count + 1) ends) new h
+      (omega (arith, le, long))))))
 
   -- one more
-  pub line_added : (more : List Literal) (put : List ℕ) (places : List ℕ) (l : Literal) (end : ℕ) → more ≡ set ls count l → places ≡ set ends (count + 1) end →
+  pub line_added : (more : List Literal) (put : List ℕ) (places : List ℕ) (l : Literal) (end : ℕ) →
+      more ≡ set ls count l →
+      places ≡ set ends (count + 1) end →
       count < length ls → count + 1 < length ends →
-      take end put ≡ take (get_or ends count 0) text ++ text_after labels count l → end ≤ get_or ends count 0 + 84 → end ≤ length put →
+      take end put ≡ take (get_or ends count 0) text ++ text_after labels count l → end ≤ get_or ends count 0 + 84 →
+      end ≤ length put →
       AreLine labels (take (count + 1) more) (take (get_or places (count + 1) 0) put) (take (count + 1 + 1) places)
   line_added more put places l end more_is places_are some fits is few within =
       let now : List ℕ = take end put in
       let now_long : length now ≡ end = length-take-le end put within in
       let told : now ≡ take (get_or ends count 0) text ++ added_text labels (take count ls) l =
       is ∙ ap (λ t. take (get_or ends count 0) text ++ t) (after_is labels (take count ls) count l long) in
-      let made = line_more labels (take count ls) (take (get_or ends count 0) text) (take (count + 1) ends) l now h told (omega (arith, now_long, text_long, few)) in
-      let lits : take (count + 1) more ≡ take count ls ++ l ∷ [] = ap (take (count + 1)) more_is ∙ take_more_set ls count l some in
-      let last : get_or places (count + 1) 0 ≡ end = ap (λ es. get_or es (count + 1) 0) places_are ∙ get_or-set_same ends (count + 1) end 0 fits in
+      let made = line_more labels (take count ls) (take (get_or ends count 0) text) (take (count + 1) ends) l now h told
+      (omega (arith, now_long, text_long, few)) in
+      let lits : take (count + 1) more ≡ take count ls ++ l ∷ [] =
+      ap (take (count + 1)) more_is ∙ take_more_set ls count l some in
+      let last : get_or places (count + 1) 0 ≡ end =
+      ap (λ es. get_or es (count + 1) 0) places_are ∙ get_or-set_same ends (count + 1) end 0 fits in
       let all : take (count + 1 + 1) places ≡ take (count + 1) ends ++ length now ∷ [] =
-      ap (take (count + 1 + 1)) places_are ∙ take_more_set ends (count + 1) end fits ∙ ap (λ e. take (count + 1) ends ++ e ∷ []) (sym now_long) in
+      ap (take (count + 1 + 1)) places_are ∙ take_more_set ends (count + 1) end fits
+      ∙ ap (λ e. take (count + 1) ends ++ e ∷ []) (sym now_long) in
       rw lits (rw all (rw last made))
 
 -- bytes that were all written over
 pub refilled : (len : ℕ) (put old : List ℕ) → length put ≡ len → take len (put ++ drop (length put) old) ≡ put
-refilled len put old e = ap (λ n. take n (put ++ drop (length put) old)) (sym e) ∙ take-append_seam put (drop (length put) old)
+refilled len put old e =
+    ap (λ n. take n (put ++ drop (length put) old)) (sym e) ∙ take-append_seam put (drop (length put) old)
 
 -- the variables of a rising list are at least their places
 rising_place : (ls : List Literal) (i : ℕ) (d : Literal) → IsRising ls → i < length ls → i ≤ (get_or ls i d).variable
@@ -193,7 +247,9 @@ rising_place ls (suc i) d r h =
     omega arith
 
 -- a rising list is as long as the variable of its last literal allows
-pub rising_short : (ls : List Literal) (last : Literal) → IsRising ls → 0 < length ls → last ≡ get_or ls (length ls - 1) last → length ls ≤ last.variable + 1
+pub rising_short : (ls : List Literal) (last : Literal) → IsRising ls → 0 < length ls →
+    last ≡ get_or ls (length ls - 1) last →
+    length ls ≤ last.variable + 1
 rising_short ls last rising some is =
     let place = rising_place ls (length ls - 1) last rising (omega (arith, some)) in
     let same : last.variable ≡ (get_or ls (length ls - 1) last).variable = ap (λ (l : Literal). l.variable) is in

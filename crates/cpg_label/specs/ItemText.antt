@@ -1,5 +1,5 @@
--- The words for what a node does and hears: it starts a process, sends a message, tells the value of a condition, or hears a
--- message or such a value.
+-- The words for what a node does and hears: it starts a process, sends a message, tells the value of a condition, or
+-- hears a message or such a value.
 use Rattle.std.specs.Prelude.{ℕ, ◌+◌, ◌-◌, nat_lt, if◌then◌else◌, List, ◌++◌, codes, length}
 use Rattle.std.specs.Fmt.{decimal}
 use Rattle.cpg_base.specs.declared.item.Item.{Item}

@@ -1,5 +1,6 @@
 -- The text of the literals of a column, and where that of the first ones ends.
-use Rattle.std.specs.Prelude.{◌≡◌, ◌==◌, if◌then◌else◌, ℕ, ◌+◌, ◌*◌, ◌≤◌, List, [], ◌∷◌, ◌++◌, codes, get_or, length, take}
+use Rattle.std.specs.Prelude.{◌≡◌, ◌==◌, if◌then◌else◌, ℕ, ◌+◌, ◌*◌, ◌≤◌, List, [], ◌∷◌, ◌++◌, codes, get_or, length}
+use Rattle.std.specs.Prelude.{take}
 use Rattle.std.specs.List.{flat_map}
 use Rattle.cpg_cube.specs.declared.literal.Literal.{Literal}
 use Rattle.cpg_label.specs.CubeText.{literal_text}
@@ -44,7 +45,8 @@ pub record AreLine (labels : Labels) (ls : List Literal) (t es : List ℕ) : Typ
 
 -- a line has the text of its literals, and how long the text of the first ones is; and room for 256 literals
 pub record IsLine (labels : Labels) (line : Line) : Type 0 where
-  pub are : AreLine labels (take line.count line.literals.items) (take (get_or line.ends.items line.count 0) line.text.items) (take (line.count + 1) line.ends.items)
+  pub are : AreLine labels (take line.count line.literals.items)
+      (take (get_or line.ends.items line.count 0) line.text.items) (take (line.count + 1) line.ends.items)
   pub few : line.count ≤ 256
   pub literals : length line.literals.items ≡ 256
   pub text : length line.text.items ≡ 256 * 84

@@ -1,5 +1,6 @@
 -- No run of an outcome is later than the latest times with as many faults.
-use Rattle.std.proofs.Common.{◌≡◌, ℕ, zero, suc, ◌+◌, ◌-◌, ◌<◌, ◌≤◌, ltb, lt-ltb, le-ltb, ltb-true, List, get_or, map, sum, Option, None, option_to_list, arith, inl, inr}
+use Rattle.std.proofs.Common.{◌≡◌, ℕ, zero, suc, ◌+◌, ◌-◌, ◌<◌, ◌≤◌, ltb, lt-ltb, le-ltb, ltb-true, List, get_or, map}
+use Rattle.std.proofs.Common.{sum, Option, None, option_to_list, arith, inl, inr}
 use Rattle.std.proofs.lemmas.Bool.{cases_Bool}
 use Rattle.cpg_base.specs.Numbers.{numbers_below}
 use Rattle.cpg_base.specs.Graph.{Graph, process_count, item_count, item_at}
@@ -17,7 +18,8 @@ use Rattle.cpg_latest.proofs.LateTimes.{late_active, late_end_active}
 use Rattle.cpg_latest.proofs.RunsGrow.{time_inactive, end_inactive}
 use Rattle.cpg_latest.proofs.Rests.{Cause, Cause.fixed, Cause.item, Cause.ended, IsBefore, value_in, unfrozen_grows}
 
-module _ (g : Graph) (order : List ℕ) (frozen : List (Option ℕ)) (s : Scenario) (t : Times) (late : ℕ → Times) (topological : IsTopological g order)
+module _ (g : Graph) (order : List ℕ) (frozen : List (Option ℕ)) (s : Scenario) (t : Times) (late : ℕ → Times)
+    (topological : IsTopological g order)
     (run : IsRun g order frozen s t) (are : AreLatest g order frozen s.values late) where
   -- the faults of the processes that end before a moment
   spent_by : ℕ → ℕ
@@ -25,32 +27,45 @@ module _ (g : Graph) (order : List ℕ) (frozen : List (Option ℕ)) (s : Scenar
 
   spent_later : (m l : ℕ) → m ≤ l → spent_by m ≤ spent_by l
   unfolding spent_by
-  spent_later m l h = spent-more (λ q. ltb (moment_of_end g order q) m) (λ q. ltb (moment_of_end g order q) l) 0 s.faults
-      (λ q e. let k = ltb-true (moment_of_end g order q) m e in lt-ltb (moment_of_end g order q) l (omega (arith, k, h)))
+  spent_later m l h =
+      spent-more (λ q. ltb (moment_of_end g order q) m) (λ q. ltb (moment_of_end g order q) l) 0 s.faults
+      (λ q e. let k = ltb-true (moment_of_end g order q) m e in
+      lt-ltb (moment_of_end g order q) l (omega (arith, k, h)))
 
-  spent_with : (m p : ℕ) → m ≤ moment_of_end g order p → spent_by m + fault_of s p ≤ spent_by (moment_of_end g order p + 1)
+  spent_with : (m p : ℕ) → m ≤ moment_of_end g order p →
+      spent_by m + fault_of s p ≤ spent_by (moment_of_end g order p + 1)
   unfolding spent_by
-  spent_with m p h = spent-one (λ q. ltb (moment_of_end g order q) m) (λ q. ltb (moment_of_end g order q) (moment_of_end g order p + 1)) 0 p p s.faults
-      (λ q e. let k = ltb-true (moment_of_end g order q) m e in lt-ltb (moment_of_end g order q) (moment_of_end g order p + 1) (omega (arith, k, h)))
+  spent_with m p h = spent-one (λ q. ltb (moment_of_end g order q) m)
+      (λ q. ltb (moment_of_end g order q) (moment_of_end g order p + 1)) 0 p p s.faults
+      (λ q e. let k = ltb-true (moment_of_end g order q) m e in
+      lt-ltb (moment_of_end g order q) (moment_of_end g order p + 1) (omega (arith, k, h)))
       (let e : 0 + p ≡ p = omega arith in e)
       (le-ltb (moment_of_end g order p) m h)
       (lt-ltb (moment_of_end g order p) (moment_of_end g order p + 1) (omega arith))
 
   record AboveBefore (m : ℕ) : Type 0 where
-    items : (n x : ℕ) → n ≤ g.faults → x < item_count g → moment g order x < m → spent_by (moment g order x) ≤ n → time_in t x ≤ time_in (late n) x
-    ends : (n p : ℕ) → n ≤ g.faults → p < process_count g → moment_of_end g order p < m → spent_by (moment_of_end g order p + 1) ≤ n → end_in t p ≤ end_in (late n) p
+    items : (n x : ℕ) → n ≤ g.faults → x < item_count g → moment g order x < m → spent_by (moment g order x) ≤ n →
+        time_in t x ≤ time_in (late n) x
+    ends : (n p : ℕ) → n ≤ g.faults → p < process_count g → moment_of_end g order p < m →
+        spent_by (moment_of_end g order p + 1) ≤ n →
+        end_in t p ≤ end_in (late n) p
 
   cause_le : (m x n : ℕ) → AboveBefore m → moment g order x ≤ m → n ≤ g.faults → spent_by (moment g order x) ≤ n
       → (c : Cause) → IsBefore g order (moment g order x) c → value_in t c ≤ value_in (late n) c
   cause_le m x n a k few b fixed h = omega arith
-  cause_le m x n a k few b (item y) h = a.items n y few h.0 (omega (arith, h.1, k)) (omega (arith, b, spent_later (moment g order y) (moment g order x) (omega (arith, h.1))))
-  cause_le m x n a k few b (ended p) h = a.ends n p few h.0 (omega (arith, h.1, k)) (omega (arith, b, spent_later (moment_of_end g order p + 1) (moment g order x) (omega (arith, h.1))))
+  cause_le m x n a k few b (item y) h = a.items n y few h.0 (omega (arith, h.1, k))
+      (omega (arith, b, spent_later (moment g order y) (moment g order x) (omega (arith, h.1))))
+  cause_le m x n a k few b (ended p) h = a.ends n p few h.0 (omega (arith, h.1, k))
+      (omega (arith, b, spent_later (moment_of_end g order p + 1) (moment g order x) (omega (arith, h.1))))
 
-  unfrozen_le : (m x n : ℕ) → AboveBefore m → moment g order x ≤ m → x < item_count g → n ≤ g.faults → spent_by (moment g order x) ≤ n
+  unfrozen_le : (m x n : ℕ) → AboveBefore m → moment g order x ≤ m → x < item_count g → n ≤ g.faults →
+      spent_by (moment g order x) ≤ n
       → unfrozen_time g order s t x ≤ unfrozen_time g order s (late n) x
   unfrozen_le m x n a k l few b = unfrozen_grows g order topological s t (late n) x l (cause_le m x n a k few b)
 
-  time_le : (x n : ℕ) → x < item_count g → n ≤ g.faults → unfrozen_time g order s t x ≤ unfrozen_time g order s (late n) x → time_in t x ≤ time_in (late n) x
+  time_le : (x n : ℕ) → x < item_count g → n ≤ g.faults →
+      unfrozen_time g order s t x ≤ unfrozen_time g order s (late n) x →
+      time_in t x ≤ time_in (late n) x
   time_le x n l few h = elim (cases_Bool (item_active g s.values (item_at g x))) [
     | inl is ↦ omega (
       arith,
@@ -63,24 +78,29 @@ module _ (g : Graph) (order : List ℕ) (frozen : List (Option ℕ)) (s : Scenar
     | inr is ↦ omega (arith, time_inactive g order frozen s t run x l is)
   ]
 
-  end_le : (m p n : ℕ) → AboveBefore m → moment_of_end g order p ≤ m → p < process_count g → n ≤ g.faults → spent_by (moment_of_end g order p + 1) ≤ n → end_in t p ≤ end_in (late n) p
+  end_le : (m p n : ℕ) → AboveBefore m → moment_of_end g order p ≤ m → p < process_count g → n ≤ g.faults →
+      spent_by (moment_of_end g order p + 1) ≤ n →
+      end_in t p ≤ end_in (late n) p
   end_le m p n a k l few b =
       let start = moment_of_start g order topological p l in
       let own = spent_with (moment g order p) p (omega (arith, start)) in
       elim (cases_Bool (item_active g s.values (item_at g p))) [
         | inl is ↦ omega (
           arith,
-          a.items (n - fault_of s p) p (omega (arith, few)) (omega arith) (omega (arith, start, k)) (omega (arith, own, b)),
+          a.items (n - fault_of s p) p (omega (arith, few)) (omega arith) (omega (arith, start, k))
+              (omega (arith, own, b)),
           end_active g order frozen s t run p l (acts_start g order frozen s t run p l is),
           late_end_active g order frozen s late are n few p l is,
           greatest_above (map (end_with g late n p) (numbers_below (n + 1))) (end_with g late n p (fault_of s p))
-              (Contains-map (end_with g late n p) (numbers_below (n + 1)) (fault_of s p) (Contains-numbers (n + 1) (fault_of s p) (omega (arith, own, b)))),
+              (Contains-map (end_with g late n p) (numbers_below (n + 1)) (fault_of s p)
+              (Contains-numbers (n + 1) (fault_of s p) (omega (arith, own, b)))),
         )
         | inr is ↦ omega (arith, end_inactive g order frozen s t run p l is)
       ]
 
   above_before : (m : ℕ) → AboveBefore m
-  above_before zero = record { items = λ n x few l h b. absurd (omega arith); ends = λ n p few l h b. absurd (omega arith) }
+  above_before zero =
+      record { items = λ n x few l h b. absurd (omega arith); ends = λ n p few l h b. absurd (omega arith) }
   above_before (suc m) =
       let a = above_before m in
       record {
@@ -96,7 +116,10 @@ module _ (g : Graph) (order : List ℕ) (frozen : List (Option ℕ)) (s : Scenar
   no_later n h few =
       let a = above_before (last g) in
       record {
-        items = λ x l. a.items n x few l (moment_before_last g order topological x l) (all_spent (moment g order x) n h);
-        unfrozen = λ x l. unfrozen_le (last g) x n a (let k = moment_before_last g order topological x l in omega (arith, k)) l few (all_spent (moment g order x) n h);
-        ends = λ p l. a.ends n p few l (end_before_last g order topological p l) (all_spent (moment_of_end g order p + 1) n h);
+        items =
+            λ x l. a.items n x few l (moment_before_last g order topological x l) (all_spent (moment g order x) n h);
+        unfrozen = λ x l. unfrozen_le (last g) x n a (let k = moment_before_last g order topological x l in
+            omega (arith, k)) l few (all_spent (moment g order x) n h);
+        ends = λ p l.
+            a.ends n p few l (end_before_last g order topological p l) (all_spent (moment_of_end g order p + 1) n h);
       }

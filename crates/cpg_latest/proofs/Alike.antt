@@ -1,9 +1,11 @@
 -- Scenarios that agree on what is active in the first have one run, and what is active in it.
-use Rattle.std.proofs.Common.{◌≡◌, ◌∙◌, ℕ, ◌+◌, ◌<◌, true, false, ◌&&◌, if◌then◌else◌, List, [], ◌∷◌, ◌++◌, map, get_or, Option, Some, None, option_to_list, option_map, arith, sym, ap, ap₂, subst}
+use Rattle.std.proofs.Common.{◌≡◌, ◌∙◌, ℕ, ◌+◌, ◌<◌, true, false, ◌&&◌, if◌then◌else◌, List, [], ◌∷◌, ◌++◌, map, get_or}
+use Rattle.std.proofs.Common.{Option, Some, None, option_to_list, option_map, arith, sym, ap, ap₂, subst}
 use Rattle.std.proofs.Common.{inl, inr}
 use Rattle.std.proofs.lemmas.Bool.{cases_Bool, cond-false}
 use Rattle.cpg_base.specs.Numbers.{numbers_below, greatest}
-use Rattle.cpg_base.specs.Graph.{Graph, process_count, edge_count, condition_count, item_count, item_at, process_at, node_of, home, source, inputs, is_sent_item, producer, process_of}
+use Rattle.cpg_base.specs.Graph.{Graph, process_count, edge_count, condition_count, item_count, item_at, process_at}
+use Rattle.cpg_base.specs.Graph.{node_of, home, source, inputs, is_sent_item, producer, process_of}
 use Rattle.cpg_base.specs.declared.item.Item.TheVariants.{Message, Broadcast}
 use Rattle.cpg_base.specs.Activity.{is_active, activation, active, live, item_active}
 use Rattle.cpg_base.specs.Bus.{next_slot, round}
@@ -21,15 +23,18 @@ use Rattle.cpg_order.proofs.DecidingLaws.{deciding_is_active}
 use Rattle.cpg_order.proofs.DecidingSame.{deciding_same}
 use Rattle.cpg_base.proofs.Places.{from_order, on_node_before}
 use Rattle.cpg_order.proofs.SameActivation.{live_same, same_everywhere}
-use Rattle.cpg_run.specs.Run.{Times, IsRun, time_in, end_in, input_there, heard_there, start_bounds, send_bounds, bounds_of_item, time_by, end_by}
+use Rattle.cpg_run.specs.Run.{Times, IsRun, time_in, end_in, input_there, heard_there, start_bounds, send_bounds}
+use Rattle.cpg_run.specs.Run.{bounds_of_item, time_by, end_by}
 use Rattle.cpg_run.proofs.Runs.{time_is}
 
 -- two scenarios agree on what is active in the first
 pub record AreActiveAlike (g : Graph) (s u : Scenario) : Type 0 where
-  pub values : (c : ℕ) → c < condition_count g → active g s.values (process_of g c) ≡ true → get_or s.values c false ≡ get_or u.values c false
+  pub values : (c : ℕ) → c < condition_count g → active g s.values (process_of g c) ≡ true →
+      get_or s.values c false ≡ get_or u.values c false
   pub faults : (p : ℕ) → p < process_count g → active g s.values p ≡ true → fault_of s p ≡ fault_of u p
 
-module _ (g : Graph) (urgency : List ℕ) (urgent : IsUrgencyOrder g urgency) (lawful : IsTopological g urgency) (s u : Scenario) (alike : AreActiveAlike g s u) where
+module _ (g : Graph) (urgency : List ℕ) (urgent : IsUrgencyOrder g urgency) (lawful : IsTopological g urgency)
+    (s u : Scenario) (alike : AreActiveAlike g s u) where
   activation_is_same : (p : ℕ) → p < process_count g → activation g s.values p ≡ activation g u.values p
   activation_is_same p l = same_everywhere g urgency lawful s.values u.values p (omega arith) alike.values
 
@@ -37,53 +42,75 @@ module _ (g : Graph) (urgency : List ℕ) (urgent : IsUrgencyOrder g urgency) (l
   active_is_same p l = ap is_active (activation_is_same p l)
 
   live_is_same : (e : ℕ) → e < edge_count g → live g s.values e ≡ live g u.values e
-  live_is_same e l = live_same g urgency lawful s.values u.values e l (activation_is_same (source g e) (source_in_order g urgency lawful e l))
+  live_is_same e l = live_same g urgency lawful s.values u.values e l
+      (activation_is_same (source g e) (source_in_order g urgency lawful e l))
       (λ c k at acts. alike.values c k (subst (λ q. active g s.values q ≡ true) (sym at) acts))
 
   deciding_is_same : (p : ℕ) → deciding g s.values p ≡ deciding g u.values p
-  deciding_is_same p = deciding_same g urgency urgent p s.values u.values (λ c l d. alike.values c l (deciding_is_active g urgency urgent lawful s.values p c l d))
+  deciding_is_same p = deciding_same g urgency urgent p s.values u.values
+      (λ c l d. alike.values c l (deciding_is_active g urgency urgent lawful s.values p c l d))
 
-  pub item_is_same : (x : ℕ) → ItemCases g x → item_active g s.values (item_at g x) ≡ item_active g u.values (item_at g x)
-  item_is_same x (inl c) = ap (item_active g s.values) c.1 ∙ active_is_same x c.0 ∙ sym (ap (item_active g u.values) c.1)
-  item_is_same x (inr (inl c)) = ap (item_active g s.values) c.3 ∙ ap (λ b. is_sent_item g (Message c.0) && b) (live_is_same c.0 c.1) ∙ sym (ap (item_active g u.values) c.3)
-  item_is_same x (inr (inr c)) = ap (item_active g s.values) c.3 ∙ ap (λ b. is_sent_item g (Broadcast c.0) && b) (active_is_same (process_of g c.0) (process_of_below g c.0 c.1)) ∙
+  pub item_is_same : (x : ℕ) → ItemCases g x →
+      item_active g s.values (item_at g x) ≡ item_active g u.values (item_at g x)
+  item_is_same x (inl c) =
+      ap (item_active g s.values) c.1 ∙ active_is_same x c.0 ∙ sym (ap (item_active g u.values) c.1)
+  item_is_same x (inr (inl c)) = ap (item_active g s.values) c.3
+      ∙ ap (λ b. is_sent_item g (Message c.0) && b) (live_is_same c.0 c.1) ∙ sym (ap (item_active g u.values) c.3)
+  item_is_same x (inr (inr c)) = ap (item_active g s.values) c.3
+      ∙ ap (λ b. is_sent_item g (Broadcast c.0) && b) (active_is_same (process_of g c.0) (process_of_below g c.0 c.1)) ∙
       sym (ap (item_active g u.values) c.3)
 
   module _ (order : List ℕ) (topological : IsTopological g order) (frozen : List (Option ℕ)) (t : Times) where
     start_same : (p : ℕ) → start_bounds g order s t p ≡ start_bounds g order u t p
     start_same p = ap (λ xs. (process_at g p).release ∷ xs) (ap₂ ◌++◌
         (ap₂ ◌++◌
-        (ap (map (input_there g t)) (same_filter (live g s.values) (live g u.values) (inputs g p) (λ e c. live_is_same e (inputs_parts g p e c).0)))
+        (ap (map (input_there g t)) (same_filter (live g s.values) (live g u.values) (inputs g p)
+        (λ e c. live_is_same e (inputs_parts g p e c).0)))
         (ap (map (end_in t)) (same_filter (active g s.values) (active g u.values) (before_on_node g order p)
-        (λ q c. active_is_same q (from_order (process_count g) order topological.all q (on_node_before g order p q c).0)))))
-        (ap (map (heard_there g t (node_of g p))) (same_flat_map (deciding g s.values) (deciding g u.values) (before_on_node g order p ++ p ∷ []) (λ q c. deciding_is_same q))))
+        (λ q c.
+        active_is_same q (from_order (process_count g) order topological.all q (on_node_before g order p q c).0)))))
+        (ap (map (heard_there g t (node_of g p))) (same_flat_map (deciding g s.values) (deciding g u.values)
+        (before_on_node g order p ++ p ∷ []) (λ q c. deciding_is_same q))))
 
     send_same : (x : ℕ) → send_bounds g order s t x ≡ send_bounds g order u t x
     send_same x = ap (λ ys. next_slot g (home g x) (end_in t (producer g x)) ∷ map (λ y. time_in t y + round g) ys)
-        (same_filter (λ y. item_active g s.values (item_at g y)) (λ y. item_active g u.values (item_at g y)) (queued_before g order x)
-        (λ y c. item_is_same y (item_cases g y (numbers-Contains (item_count g) y (Contains-filter_parts (λ (z : ℕ). is_queued_before g order z x) (numbers_below (item_count g)) y c).0))))
+        (same_filter (λ y. item_active g s.values (item_at g y)) (λ y. item_active g u.values (item_at g y))
+        (queued_before g order x)
+        (λ y c. item_is_same y (item_cases g y (numbers-Contains (item_count g) y
+        (Contains-filter_parts (λ (z : ℕ). is_queued_before g order z x) (numbers_below (item_count g)) y c).0))))
 
-    pub bounds_same : (x : ℕ) → ItemCases g x → bounds_of_item g order s t x (item_at g x) ≡ bounds_of_item g order u t x (item_at g x)
-    bounds_same x (inl c) = ap (bounds_of_item g order s t x) c.1 ∙ start_same x ∙ sym (ap (bounds_of_item g order u t x) c.1)
-    bounds_same x (inr (inl c)) = ap (bounds_of_item g order s t x) c.3 ∙ send_same x ∙ sym (ap (bounds_of_item g order u t x) c.3)
-    bounds_same x (inr (inr c)) = ap (bounds_of_item g order s t x) c.3 ∙ send_same x ∙ sym (ap (bounds_of_item g order u t x) c.3)
+    pub bounds_same : (x : ℕ) → ItemCases g x →
+        bounds_of_item g order s t x (item_at g x) ≡ bounds_of_item g order u t x (item_at g x)
+    bounds_same x (inl c) =
+        ap (bounds_of_item g order s t x) c.1 ∙ start_same x ∙ sym (ap (bounds_of_item g order u t x) c.1)
+    bounds_same x (inr (inl c)) =
+        ap (bounds_of_item g order s t x) c.3 ∙ send_same x ∙ sym (ap (bounds_of_item g order u t x) c.3)
+    bounds_same x (inr (inr c)) =
+        ap (bounds_of_item g order s t x) c.3 ∙ send_same x ∙ sym (ap (bounds_of_item g order u t x) c.3)
 
     time_same : (x : ℕ) → x < item_count g → time_by g order frozen s t x ≡ time_by g order frozen u t x
-    time_same x l = ap₂ (λ b xs. if b then Some (greatest (greatest xs ∷ option_to_list (get_or frozen x None))) else None) (item_is_same x (item_cases g x l)) (bounds_same x (item_cases g x l))
+    time_same x l =
+        ap₂ (λ b xs. if b then Some (greatest (greatest xs ∷ option_to_list (get_or frozen x None))) else None)
+        (item_is_same x (item_cases g x l)) (bounds_same x (item_cases g x l))
 
     module _ (run : IsRun g order frozen s t) where
       end_same : (p : ℕ) → p < process_count g → end_by g s t p ≡ end_by g u t p
       end_same p l = elim (cases_Bool (active g s.values p)) [
-        | inl acts ↦ ap (λ f. option_map (λ start. start + duration g p f) (get_or t.times p None)) (alike.faults p l acts)
+        | inl acts ↦
+            ap (λ f. option_map (λ start. start + duration g p f) (get_or t.times p None)) (alike.faults p l acts)
         | inr idle ↦
-            let none : get_or t.times p None ≡ None = time_is g order frozen s t run p (omega arith) ∙ cond-false _ _ _ (ap (item_active g s.values) (item_at-start g p l) ∙ idle) in
-            ap (option_map (λ start. start + duration g p (fault_of s p))) none ∙ sym (ap (option_map (λ start. start + duration g p (fault_of u p))) none)
+            let none : get_or t.times p None ≡ None = time_is g order frozen s t run p (omega arith)
+            ∙ cond-false _ _ _ (ap (item_active g s.values) (item_at-start g p l) ∙ idle) in
+            ap (option_map (λ start. start + duration g p (fault_of s p))) none
+            ∙ sym (ap (option_map (λ start. start + duration g p (fault_of u p))) none)
       ]
 
       -- so a run of the first is one of the second
       pub run_of_alike : IsRun g order frozen u t
       run_of_alike = record {
-        times = run.times ∙ same_map (time_by g order frozen s t) (time_by g order frozen u t) (numbers_below (item_count g)) (λ x c. time_same x (numbers-Contains (item_count g) x c));
-        ends = run.ends ∙ same_map (end_by g s t) (end_by g u t) (numbers_below (process_count g)) (λ p c. end_same p (numbers-Contains (process_count g) p c));
+        times = run.times ∙ same_map (time_by g order frozen s t) (time_by g order frozen u t)
+            (numbers_below (item_count g)) (λ x c. time_same x (numbers-Contains (item_count g) x c));
+        ends = run.ends ∙ same_map (end_by g s t) (end_by g u t) (numbers_below (process_count g))
+            (λ p c. end_same p (numbers-Contains (process_count g) p c));
         finish = run.finish;
       }

@@ -1,5 +1,6 @@
 -- A process begins in a course, and sends one item after another, until all is known before the next place.
-use Rattle.std.proofs.Common.{◌≡◌, ◌∙◌, ℕ, zero, suc, ◌+◌, ◌^◌, ◌==◌, ◌<◌, ◌≤◌, max, true, false, Bool, List, [], length, length-set, get_or, set, Option, Some, None, unwrap_or, arith, refl, sym, ap}
+use Rattle.std.proofs.Common.{◌≡◌, ◌∙◌, ℕ, zero, suc, ◌+◌, ◌^◌, ◌==◌, ◌<◌, ◌≤◌, max, true, false, Bool, List, []}
+use Rattle.std.proofs.Common.{length, length-set, get_or, set, Option, Some, None, unwrap_or, arith, refl, sym, ap}
 use Rattle.std.proofs.Common.{ap₂, subst, get_or-set_same}
 use Rattle.std.proofs.lemmas.Bool.{cond-false}
 use Rattle.cpg_base.specs.Numbers.{greatest}
@@ -29,7 +30,9 @@ use Rattle.cpg_latest.proofs.TimedSends.{nothing_sent, sent_active, sent_idle, h
 -- an end isn't before its start
 pub not_sooner : (g : Graph) (p n start last : ℕ) → start ≤ end_after g p n start last
 not_sooner g p zero start last = omega arith
-not_sooner g p (suc n) start last = let is = cond-false (suc n == 0) (start + duration g p 0) (max (start + duration g p 0) (last + again g p)) (some_faults n) in omega (arith, is)
+not_sooner g p (suc n) start last = let is = cond-false (suc n == 0) (start + duration g p 0)
+    (max (start + duration g p 0) (last + again g p)) (some_faults n) in
+    omega (arith, is)
 
 -- what is given to the first course, and to the next ones
 pub last_first : (g : Graph) (late : ℕ → Times) (p : ℕ) → 0 ≡ last_end g late 0 p
@@ -44,8 +47,10 @@ pub last_next : (g : Graph) (late : ℕ → Times) (n p : ℕ) → latest_end g 
 last_next g late n p = last_at g late n (n + 1) p (omega arith)
 
 -- the latest end with one fault less stays small
-module _ (g : Graph) (order : List ℕ) (topological : IsTopological g order) (Done : ℕ → Type 0) (frozen : List (Option ℕ)) (values : List Bool)
-    (limits : IsWithinLimits g) (long : length values ≡ condition_count g) (early : AreEarly frozen) (p : ℕ) (l : p < process_count g) (acts : active g values p ≡ true) where
+module _ (g : Graph) (order : List ℕ) (topological : IsTopological g order) (Done : ℕ → Type 0)
+    (frozen : List (Option ℕ)) (values : List Bool)
+    (limits : IsWithinLimits g) (long : length values ≡ condition_count g) (early : AreEarly frozen) (p : ℕ)
+    (l : p < process_count g) (acts : active g values p ≡ true) where
   pub last_small : (n : ℕ) → n < g.faults + 1 → last_end g (the_latest g order frozen values topological) n p < 2 ^ 60
   unfolding last_end
   last_small zero few = omega arith
@@ -54,7 +59,8 @@ module _ (g : Graph) (order : List ℕ) (topological : IsTopological g order) (D
       let late = the_latest g order frozen values topological in
       let are = latest_exist g order frozen values topological in
       let small = latest_small g order topological Done frozen values limits long early n (omega (arith, few)) in
-      let on = start_acts g order frozen s (late n) (latest_is_timed g order frozen s late are n (omega (arith, few))) p l acts in
+      let on = start_acts g order frozen s (late n)
+      (latest_is_timed g order frozen s late are n (omega (arith, few))) p l acts in
       let is = late_end_active g order frozen s late are n (omega (arith, few)) p l on in
       omega (arith, is, small.ends p)
 
@@ -78,9 +84,11 @@ sent c x node time free = record {
   free = set c.free node free;
 }
 
-module _ (g : Graph) (order : List ℕ) (topological : IsTopological g order) (Done : ℕ → Type 0) (frozen : List (Option ℕ)) (values : List Bool)
+module _ (g : Graph) (order : List ℕ) (topological : IsTopological g order) (Done : ℕ → Type 0)
+    (frozen : List (Option ℕ)) (values : List Bool)
     (p : ℕ) (l : p < process_count g) (on : node_of g p < length g.nodes) (n : ℕ) (few : n < g.faults + 1) where
-  module _ (c : ProgressState) (course : IsCourse g order Done frozen values (place order p) n c) (ready : ℕ) (is_ready : IsReadyFor g values p c ready) where
+  module _ (c : ProgressState) (course : IsCourse g order Done frozen values (place order p) n c) (ready : ℕ)
+      (is_ready : IsReadyFor g values p c ready) where
     -- ---- an inactive process
 
     pub passed : active g values p ≡ false → IsSending g order Done frozen values p 0 n (waited c (node_of g p) ready)
@@ -93,8 +101,10 @@ module _ (g : Graph) (order : List ℕ) (topological : IsTopological g order) (D
       };
       acts = λ acts. absurd (apart (sym acts ∙ idle));
       idle = λ off more goes late are.
-          at_idle g order topological more (with_faults values []) (late n) (latest_is_timed g order more (with_faults values []) late are n (omega arith)) (place order p) p l refl on
-          c.known c.ready c.free (course.at more goes late are) course.places.ready_count course.places.free_count is_ready.heard is_ready.is_heard ready idle is_ready.is;
+          at_idle g order topological more (with_faults values []) (late n) (latest_is_timed g order more
+          (with_faults values []) late are n (omega arith)) (place order p) p l refl on
+          c.known c.ready c.free (course.at more goes late are) course.places.ready_count course.places.free_count
+          is_ready.heard is_ready.is_heard ready idle is_ready.is;
     }
       where
         apart : true ≡ false → ⊥
@@ -103,30 +113,45 @@ module _ (g : Graph) (order : List ℕ) (topological : IsTopological g order) (D
     -- ---- an active one
 
     module _ (done : Done p) (acts : active g values p ≡ true) (start : ℕ)
-        (is_start : start ≡ max (max (max ready (process_at g p).release) (greatest (input_bounds g (with_faults values []) c.known p))) (frozen_in frozen p)) where
+        (is_start : start ≡ max (max (max ready (process_at g p).release)
+        (greatest (input_bounds g (with_faults values []) c.known p))) (frozen_in frozen p)) where
       pub start_is_latest : ForLatest g order Done frozen values (λ late. start ≡ time_in (late n) p)
       start_is_latest more goes late are =
-          let found : start ≡ max (max (max ready (process_at g p).release) (greatest (input_bounds g (with_faults values []) c.known p))) (frozen_in more p) =
-          is_start ∙ ap (λ o. max (max (max ready (process_at g p).release) (greatest (input_bounds g (with_faults values []) c.known p))) (unwrap_or o 0)) (sym (goes p (omega arith) done)) in
-          start_right g order topological more (with_faults values []) (late n) (latest_is_timed g order more (with_faults values []) late are n (omega arith)) (place order p) p l refl on
-          c.known c.ready c.free (course.at more goes late are) course.places.ready_count course.places.free_count is_ready.heard is_ready.is_heard acts ready start is_ready.is found
+          let found : start ≡ max (max (max ready (process_at g p).release)
+          (greatest (input_bounds g (with_faults values []) c.known p))) (frozen_in more p) =
+          is_start ∙ ap (λ o. max (max (max ready (process_at g p).release)
+          (greatest (input_bounds g (with_faults values []) c.known p))) (unwrap_or o 0))
+          (sym (goes p (omega arith) done)) in
+          start_right g order topological more (with_faults values []) (late n) (latest_is_timed g order more
+          (with_faults values []) late are n (omega arith)) (place order p) p l refl on
+          c.known c.ready c.free (course.at more goes late are) course.places.ready_count course.places.free_count
+          is_ready.heard is_ready.is_heard acts ready start is_ready.is found
 
-      module _ (end last : ℕ) (is_end : end ≡ end_after g p n start last) (is_last : ForLatest g order Done frozen values (λ late. last ≡ last_end g late n p)) where
+      module _ (end last : ℕ) (is_end : end ≡ end_after g p n start last)
+          (is_last : ForLatest g order Done frozen values (λ late. last ≡ last_end g late n p)) where
         pub end_is_latest : ForLatest g order Done frozen values (λ late. end ≡ latest_end g late n p)
-        end_is_latest more goes late are = is_end ∙ ap₂ (end_after g p n) (start_is_latest more goes late are) (is_last more goes late are) ∙ sym (end_next g late n p)
+        end_is_latest more goes late are =
+            is_end ∙ ap₂ (end_after g p n) (start_is_latest more goes late are) (is_last more goes late are)
+            ∙ sym (end_next g late n p)
 
-        gone : ForLatest g order Done frozen values (λ late. HasGone g order (with_faults values []) (late n) p 0 (begun c p (node_of g p) start end))
+        gone : ForLatest g order Done frozen values
+            (λ late. HasGone g order (with_faults values []) (late n) p 0 (begun c p (node_of g p) start end))
         gone more goes late are =
             let s = with_faults values [] in
             let t = late n in
             let run : IsTimed g order more s t = latest_is_timed g order more s late are n (omega arith) in
-            let found : start ≡ max (max (max ready (process_at g p).release) (greatest (input_bounds g s c.known p))) (frozen_in more p) =
-            is_start ∙ ap (λ o. max (max (max ready (process_at g p).release) (greatest (input_bounds g s c.known p))) (unwrap_or o 0)) (sym (goes p (omega arith) done)) in
+            let found : start ≡ max (max (max ready (process_at g p).release) (greatest (input_bounds g s c.known p)))
+            (frozen_in more p) =
+            is_start ∙ ap (λ o. max (max (max ready (process_at g p).release) (greatest (input_bounds g s c.known p)))
+            (unwrap_or o 0)) (sym (goes p (omega arith) done)) in
             let after : start ≤ end = let k = not_sooner g p n start last in omega (arith, k, is_end) in
-            let right : end ≡ end_in t p = end_is_latest more goes late are ∙ sym (late_end_active g order more s late are n (omega arith) p l (start_acts g order more s t run p l acts)) in
+            let right : end ≡ end_in t p = end_is_latest more goes late are ∙ sym (late_end_active g order more s late
+            are n (omega arith) p l (start_acts g order more s t run p l acts)) in
             let next = begun c p (node_of g p) start end in
-            let can = can_send g order topological more s t run (place order p) p l refl on c.known c.ready c.free (course.at more goes late are) course.places.ready_count course.places.free_count
-            is_ready.heard is_ready.is_heard acts ready start is_ready.is found end after right next.known course.places.times course.places.ends refl refl (get_or c.free (node_of g p) 0) refl in
+            let can = can_send g order topological more s t run (place order p) p l refl on c.known c.ready c.free
+            (course.at more goes late are) course.places.ready_count course.places.free_count
+            is_ready.heard is_ready.is_heard acts ready start is_ready.is found end after right next.known
+            course.places.times course.places.ends refl refl (get_or c.free (node_of g p) 0) refl in
             record {
               begun = next.known;
               frees = c.free;
@@ -135,9 +160,11 @@ module _ (g : Graph) (order : List ℕ) (topological : IsTopological g order) (D
               sent = nothing_sent g order topological s p l t next.known (get_or c.free (node_of g p) 0) can;
               keeps = record { times = refl; ends = refl };
               free = set_same c.free (node_of g p) (omega (arith, on, course.places.free_count));
-              next = λ new free sent keeps. at_active g order topological more s t run (place order p) p l refl on c.known c.ready c.free
+              next = λ new free sent keeps.
+                  at_active g order topological more s t run (place order p) p l refl on c.known c.ready c.free
                   (course.at more goes late are) course.places.ready_count course.places.free_count
-                  is_ready.heard is_ready.is_heard acts ready start is_ready.is found end after right next.known course.places.times course.places.ends refl refl new free sent keeps;
+                  is_ready.heard is_ready.is_heard acts ready start is_ready.is found end after right next.known
+                  course.places.times course.places.ends refl refl new free sent keeps;
             }
 
         pub begins : IsSending g order Done frozen values p 0 n (begun c p (node_of g p) start end)
@@ -157,12 +184,14 @@ module _ (g : Graph) (order : List ℕ) (topological : IsTopological g order) (D
 
   -- ---- what it sends
 
-  module _ (k : ℕ) (inside : k < length (queue_of g p)) (c : ProgressState) (sending : IsSending g order Done frozen values p k n c) where
+  module _ (k : ℕ) (inside : k < length (queue_of g p)) (c : ProgressState)
+      (sending : IsSending g order Done frozen values p k n c) where
     abbrev x : ℕ
     x = get_or (queue_of g p) k 0
 
     -- an item that is inactive
-    pub unsent : (active g values p ≡ true → item_active g values (item_at g x) ≡ false) → IsSending g order Done frozen values p (k + 1) n c
+    pub unsent : (active g values p ≡ true → item_active g values (item_at g x) ≡ false) →
+        IsSending g order Done frozen values p (k + 1) n c
     unsent off = record {
       places = sending.places;
       acts = λ acts more goes late are.
@@ -174,7 +203,8 @@ module _ (g : Graph) (order : List ℕ) (topological : IsTopological g order) (D
             frees = h.frees;
             ended = h.ended;
             none = h.none;
-            sent = sent_idle g order topological s p l more (late n) run h.begun c.known k (get_or c.free (node_of g p) 0) inside h.sent h.none (off acts);
+            sent = sent_idle g order topological s p l more (late n) run h.begun c.known k
+                (get_or c.free (node_of g p) 0) inside h.sent h.none (off acts);
             keeps = h.keeps;
             free = h.free;
             next = h.next;
@@ -182,26 +212,34 @@ module _ (g : Graph) (order : List ℕ) (topological : IsTopological g order) (D
       idle = sending.idle;
     }
 
-    module _ (done : Done x) (acts : active g values p ≡ true) (on_item : item_active g values (item_at g x) ≡ true) (time : ℕ)
-        (is_time : time ≡ max (max (next_slot g (node_of g p) (end_in c.known p)) (get_or c.free (node_of g p) 0)) (frozen_in frozen x)) where
+    module _ (done : Done x) (acts : active g values p ≡ true)
+        (on_item : item_active g values (item_at g x) ≡ true) (time : ℕ)
+        (is_time : time ≡ max (max (next_slot g (node_of g p) (end_in c.known p)) (get_or c.free (node_of g p) 0))
+        (frozen_in frozen x)) where
       end_there : ForLatest g order Done frozen values (λ late. end_in c.known p ≡ end_in (late n) p)
-      end_there more goes late are = let h = sending.acts acts more goes late are in ap (λ es. unwrap_or (get_or es p None) 0) h.keeps.ends ∙ h.ended
+      end_there more goes late are = let h = sending.acts acts more goes late are in
+          ap (λ es. unwrap_or (get_or es p None) 0) h.keeps.ends ∙ h.ended
 
-      time_there : (more : List (Option ℕ)) → GoesOn g Done frozen more → (late : ℕ → Times) → AreLatest g order more values late
-          → time ≡ max (max (next_slot g (node_of g p) (end_in (late n) p)) (get_or c.free (node_of g p) 0)) (frozen_in more x)
+      time_there : (more : List (Option ℕ)) → GoesOn g Done frozen more → (late : ℕ → Times) →
+          AreLatest g order more values late
+          → time ≡ max (max (next_slot g (node_of g p) (end_in (late n) p)) (get_or c.free (node_of g p) 0))
+          (frozen_in more x)
       time_there more goes late are =
           let q = in_queue g p x (here_sent g order topological (with_faults values []) p l k inside) in
-          is_time ∙ ap₂ (λ e o. max (max (next_slot g (node_of g p) e) (get_or c.free (node_of g p) 0)) (unwrap_or o 0)) (end_there more goes late are) (sym (goes x q.within done))
+          is_time ∙ ap₂ (λ e o. max (max (next_slot g (node_of g p) e) (get_or c.free (node_of g p) 0)) (unwrap_or o 0))
+          (end_there more goes late are) (sym (goes x q.within done))
 
       pub time_is_latest : ForLatest g order Done frozen values (λ late. time ≡ time_in (late n) x)
       time_is_latest more goes late are =
           let s = with_faults values [] in
           let h = sending.acts acts more goes late are in
           time_there more goes late are
-          ∙ send_is g order topological s p l k inside more (late n) (latest_is_timed g order more s late are n (omega arith)) (get_or c.free (node_of g p) 0) h.sent.slots_free on_item
+          ∙ send_is g order topological s p l k inside more (late n) (latest_is_timed g order more s late are n
+          (omega arith)) (get_or c.free (node_of g p) 0) h.sent.slots_free on_item
 
       -- it stays small
-      pub sends_small : IsWithinLimits g → length values ≡ condition_count g → AreEarly frozen → (end_in c.known p < 2 ^ 59) × (time < 2 ^ 59)
+      pub sends_small : IsWithinLimits g → length values ≡ condition_count g → AreEarly frozen →
+          (end_in c.known p < 2 ^ 59) × (time < 2 ^ 59)
       sends_small limits long early =
           let late = the_latest g order frozen values topological in
           let are = latest_exist g order frozen values topological in
@@ -210,7 +248,8 @@ module _ (g : Graph) (order : List ℕ) (topological : IsTopological g order) (D
           let time_is = time_is_latest frozen (λ y h d. refl) late are in
           (omega (arith, end_is, small.ends p), omega (arith, time_is, small.times x))
 
-      pub sends : (free : ℕ) → free ≡ time + round g → IsSending g order Done frozen values p (k + 1) n (sent c x (node_of g p) time free)
+      pub sends : (free : ℕ) → free ≡ time + round g →
+          IsSending g order Done frozen values p (k + 1) n (sent c x (node_of g p) time free)
       sends free is = record {
         places = record {
           times = length-set c.known.times x (Some time) ∙ sending.places.times;
@@ -226,17 +265,21 @@ module _ (g : Graph) (order : List ℕ) (topological : IsTopological g order) (D
             let there : node_of g p < length c.free = omega (arith, on, sending.places.free_count) in
             let now = get_or-set_same c.free (node_of g p) free 0 there in
             let next = sent c x (node_of g p) time free in
-            let long : node_of g p < length h.frees = omega (arith, there, ap length h.free, length-set h.frees (node_of g p) (get_or c.free (node_of g p) 0)) in
+            let long : node_of g p < length h.frees = omega
+            (arith, there, ap length h.free, length-set h.frees (node_of g p) (get_or c.free (node_of g p) 0)) in
             record {
               begun = h.begun;
               frees = h.frees;
               ended = h.ended;
               none = h.none;
               sent = subst (HasSent g order s (late n) p (k + 1) h.begun next.known) (sym (now ∙ is))
-                  (sent_active g order topological s p l more (late n) run h.begun c.known k (get_or c.free (node_of g p) 0) inside h.sent next.known time
+                  (sent_active g order topological s p l more (late n) run h.begun c.known k
+                  (get_or c.free (node_of g p) 0) inside h.sent next.known time
                   (omega (arith, q.within, sending.places.times)) refl on_item (time_there more goes late are));
               keeps = record { times = length-set c.known.times x (Some time) ∙ h.keeps.times; ends = h.keeps.ends };
-              free = ap (λ fs. set fs (node_of g p) free) h.free ∙ set_twice h.frees (node_of g p) (get_or c.free (node_of g p) 0) free long ∙ ap (λ v. set h.frees (node_of g p) v) (sym now);
+              free = ap (λ fs. set fs (node_of g p) free) h.free
+                  ∙ set_twice h.frees (node_of g p) (get_or c.free (node_of g p) 0) free long
+                  ∙ ap (λ v. set h.frees (node_of g p) v) (sym now);
               next = h.next;
             };
         idle = λ off. absurd (apart (sym acts ∙ off));
@@ -246,11 +289,16 @@ module _ (g : Graph) (order : List ℕ) (topological : IsTopological g order) (D
           apart e = cc
 
   -- all is sent
-  pub sent_all : (c : ProgressState) → IsSending g order Done frozen values p (length (queue_of g p)) n c → IsCourse g order Done frozen values (place order p + 1) n c
-  sent_all c sending = record { places = sending.places; at = λ more goes late are. by (active g values p) refl more goes late are }
+  pub sent_all : (c : ProgressState) → IsSending g order Done frozen values p (length (queue_of g p)) n c →
+      IsCourse g order Done frozen values (place order p + 1) n c
+  sent_all c sending =
+      record { places = sending.places; at = λ more goes late are. by (active g values p) refl more goes late are }
     where
-      by : (b : Bool) → active g values p ≡ b → ForLatest g order Done frozen values (λ late. IsAt g order (with_faults values []) (late n) (place order p + 1) c.known c.ready c.free)
+      by : (b : Bool) → active g values p ≡ b →
+          ForLatest g order Done frozen values
+          (λ late. IsAt g order (with_faults values []) (late n) (place order p + 1) c.known c.ready c.free)
       by true acts more goes late are =
           let h = sending.acts acts more goes late are in
-          subst (IsAt g order (with_faults values []) (late n) (place order p + 1) c.known c.ready) (sym h.free) (h.next c.known (get_or c.free (node_of g p) 0) h.sent h.keeps)
+          subst (IsAt g order (with_faults values []) (late n) (place order p + 1) c.known c.ready) (sym h.free)
+          (h.next c.known (get_or c.free (node_of g p) 0) h.sent h.keeps)
       by false off more goes late are = sending.idle off more goes late are

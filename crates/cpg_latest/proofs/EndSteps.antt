@@ -1,9 +1,11 @@
--- The latest ends one after another: with one fault more the last execution has none of its own, or one more than with one fault less.
+-- The latest ends one after another: with one fault more the last execution has none of its own, or one more than with
+-- one fault less.
 use Rattle.std.proofs.Common.{◌≡◌, ℕ, zero, suc, ◌+◌, ◌-◌, ◌≤◌, max, map, arith, ap, subst, suc-mul}
 use Rattle.cpg_base.specs.Duration.{duration}
 use Rattle.cpg_base.specs.Graph.{Graph}
 use Rattle.cpg_base.specs.Numbers.{numbers_below}
-use Rattle.cpg_base.proofs.Lists.{Contains-map, Contains-map_parts, Contains-numbers, numbers-Contains, greatest_above, greatest-le}
+use Rattle.cpg_base.proofs.Lists.{Contains-map, Contains-map_parts, Contains-numbers, numbers-Contains, greatest_above}
+use Rattle.cpg_base.proofs.Lists.{greatest-le}
 use Rattle.cpg_run.specs.Run.{Times, time_in}
 use Rattle.cpg_latest.specs.Latest.{again, end_with, latest_end}
 
@@ -25,26 +27,34 @@ module _ (g : Graph) (late : ℕ → Times) (p : ℕ) where
   none_of_it n = let e : n - 0 ≡ n = omega arith in omega (arith, ap (λ m. time_in (late m) p) e)
 
   pub end_zero : latest_end g late 0 p ≡ time_in (late 0) p + duration g p 0
-  end_zero = omega (arith, none_of_it 0, among 0 0 (omega arith), no_more 0 (time_in (late 0) p + duration g p 0) (λ j l. below j l))
+  end_zero = omega
+      (arith, none_of_it 0, among 0 0 (omega arith), no_more 0 (time_in (late 0) p + duration g p 0) (λ j l. below j l))
     where
       below : (j : ℕ) → j ≤ 0 → end_with g late 0 p j ≤ time_in (late 0) p + duration g p 0
       below zero l = omega (arith, none_of_it 0)
       below (suc j) l = absurd (omega (arith, l))
 
   later_by : (n j : ℕ) → j ≤ n → end_with g late (suc n) p (suc j) ≡ end_with g late n p j + again g p
-  later_by n j l = let e : suc n - suc j ≡ n - j = omega arith in omega (arith, ap (λ m. time_in (late m) p) e, duration_suc g p j)
+  later_by n j l = let e : suc n - suc j ≡ n - j = omega arith in
+      omega (arith, ap (λ m. time_in (late m) p) e, duration_suc g p j)
 
-  pub end_suc : (n : ℕ) → latest_end g late (suc n) p ≡ max (time_in (late (suc n)) p + duration g p 0) (latest_end g late n p + again g p)
+  pub end_suc : (n : ℕ) →
+      latest_end g late (suc n) p ≡ max (time_in (late (suc n)) p + duration g p 0) (latest_end g late n p + again g p)
   end_suc n = omega (arith, none_of_it (suc n), among (suc n) 0 (omega arith), others, whole)
     where
-      whole : latest_end g late (suc n) p ≤ max (time_in (late (suc n)) p + duration g p 0) (latest_end g late n p + again g p)
-      whole = no_more (suc n) (max (time_in (late (suc n)) p + duration g p 0) (latest_end g late n p + again g p)) below
+      whole : latest_end g late (suc n) p
+          ≤ max (time_in (late (suc n)) p + duration g p 0) (latest_end g late n p + again g p)
+      whole =
+          no_more (suc n) (max (time_in (late (suc n)) p + duration g p 0) (latest_end g late n p + again g p)) below
         where
-          below : (j : ℕ) → j ≤ suc n → end_with g late (suc n) p j ≤ max (time_in (late (suc n)) p + duration g p 0) (latest_end g late n p + again g p)
+          below : (j : ℕ) → j ≤ suc n →
+              end_with g late (suc n) p j
+              ≤ max (time_in (late (suc n)) p + duration g p 0) (latest_end g late n p + again g p)
           below zero l = omega (arith, none_of_it (suc n))
           below (suc j) l = omega (arith, later_by n j (omega (arith, l)), among n j (omega (arith, l)))
 
       others : latest_end g late n p + again g p ≤ latest_end g late (suc n) p
       others =
-          let bound = no_more n (latest_end g late (suc n) p - again g p) (λ j l. omega (arith, later_by n j l, among (suc n) (suc j) (omega (arith, l)))) in
+          let bound = no_more n (latest_end g late (suc n) p - again g p)
+          (λ j l. omega (arith, later_by n j l, among (suc n) (suc j) (omega (arith, l)))) in
           omega (arith, bound, later_by n 0 (omega arith), among (suc n) 1 (omega arith))

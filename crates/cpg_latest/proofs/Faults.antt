@@ -1,5 +1,6 @@
 -- Counts of faults: what some of the processes have of them, and one process with more.
-use Rattle.std.proofs.Common.{◌≡◌, ℕ, zero, suc, ◌+◌, ◌<◌, ◌≤◌, Bool, true, false, if◌then◌else◌, List, [], ◌∷◌, length, get_or, sum, arith, refl, ap, ◌∙◌}
+use Rattle.std.proofs.Common.{◌≡◌, ℕ, zero, suc, ◌+◌, ◌<◌, ◌≤◌, Bool, true, false, if◌then◌else◌, List, [], ◌∷◌, length}
+use Rattle.std.proofs.Common.{get_or, sum, arith, refl, ap, ◌∙◌}
 use Rattle.std.proofs.lemmas.Bool.{cond-true, cond-false}
 use Rattle.std.proofs.lemmas.List.{get_or_past}
 use Rattle.std.proofs.lemmas.List.Sums.{sum_by-cons}
@@ -23,7 +24,8 @@ pub spent-le : (b : ℕ → Bool) (i : ℕ) (fs : List ℕ) → spent b i fs ≤
 spent-le b i [] = omega arith
 spent-le b i (f ∷ fs) = omega (arith, if_le (b i) f, spent-le b (suc i) fs, sum_by-cons (λ (n : ℕ). n) f fs)
 
-pub spent-more : (b c : ℕ → Bool) (i : ℕ) (fs : List ℕ) → ((q : ℕ) → b q ≡ true → c q ≡ true) → spent b i fs ≤ spent c i fs
+pub spent-more : (b c : ℕ → Bool) (i : ℕ) (fs : List ℕ) → ((q : ℕ) → b q ≡ true → c q ≡ true) →
+    spent b i fs ≤ spent c i fs
 spent-more b c i [] h = omega arith
 spent-more b c i (f ∷ fs) h = omega (arith, if_more (b i) (c i) f (h i), spent-more b c (suc i) fs h)
 
@@ -31,14 +33,19 @@ none_at : (fs : List ℕ) (j : ℕ) → length fs ≡ 0 → get_or fs j 0 ≡ 0
 none_at fs j e = get_or_past fs j 0 (omega (arith, e))
 
 -- with one process more
-pub spent-one : (b c : ℕ → Bool) (i j q : ℕ) (fs : List ℕ) → ((r : ℕ) → b r ≡ true → c r ≡ true) → i + j ≡ q → b q ≡ false → c q ≡ true
+pub spent-one : (b c : ℕ → Bool) (i j q : ℕ) (fs : List ℕ) → ((r : ℕ) → b r ≡ true → c r ≡ true) → i + j ≡ q →
+    b q ≡ false → c q ≡ true
     → spent b i fs + get_or fs j 0 ≤ spent c i fs
 spent-one b c i j q [] h e off on = omega (arith, none_at [] j refl)
 spent-one b c i zero q (f ∷ fs) h e off on =
     let is : i ≡ q = omega (arith, e) in
     omega (arith, cond-false (b i) f 0 (ap b is ∙ off), cond-true (c i) f 0 (ap c is ∙ on), spent-more b c (suc i) fs h)
 spent-one b c i (suc j) q (f ∷ fs) h e off on =
-    omega (arith, if_more (b i) (c i) f (h i), spent-one b c (suc i) j q fs h (let is : suc i + j ≡ q = omega (arith, e) in is) off on)
+    omega (
+      arith,
+      if_more (b i) (c i) f (h i),
+      spent-one b c (suc i) j q fs h (let is : suc i + j ≡ q = omega (arith, e) in is) off on,
+    )
 
 -- ---- one process with more
 
@@ -55,7 +62,8 @@ length-add_at (f ∷ fs) (suc p) j = ap suc (length-add_at fs p j)
 pub sum-add_at : (fs : List ℕ) (p j : ℕ) → sum (add_at fs p j) ≤ sum fs + j
 sum-add_at [] p j = omega arith
 sum-add_at (f ∷ fs) zero j = omega (arith, sum_by-cons (λ (n : ℕ). n) (f + j) fs, sum_by-cons (λ (n : ℕ). n) f fs)
-sum-add_at (f ∷ fs) (suc p) j = omega (arith, sum_by-cons (λ (n : ℕ). n) f (add_at fs p j), sum_by-cons (λ (n : ℕ). n) f fs, sum-add_at fs p j)
+sum-add_at (f ∷ fs) (suc p) j =
+    omega (arith, sum_by-cons (λ (n : ℕ). n) f (add_at fs p j), sum_by-cons (λ (n : ℕ). n) f fs, sum-add_at fs p j)
 
 pub add_at-grows : (fs : List ℕ) (p j q : ℕ) → get_or fs q 0 ≤ get_or (add_at fs p j) q 0
 add_at-grows [] p j q = omega arith

@@ -1,5 +1,6 @@
 -- The finish is the greatest of the ends.
-use Rattle.std.proofs.Common.{◌≡◌, ℕ, zero, suc, ◌<◌, ◌≤◌, ◌⊎◌, max, List, [], ◌∷◌, ◌++◌, flat_map, length, get_or, Option, Some, None, option_to_list, unwrap_or, arith, refl, ap, inl, inr}
+use Rattle.std.proofs.Common.{◌≡◌, ℕ, zero, suc, ◌<◌, ◌≤◌, ◌⊎◌, max, List, [], ◌∷◌, ◌++◌, flat_map, length, get_or}
+use Rattle.std.proofs.Common.{Option, Some, None, option_to_list, unwrap_or, arith, refl, ap, inl, inr}
 use Rattle.std.proofs.lemmas.Bool.{cases_lt}
 use Rattle.std.proofs.lemmas.List.{get_or_past}
 use Rattle.cpg_base.specs.Numbers.{greatest}
@@ -15,13 +16,16 @@ first_of (Some n) ys = greatest-cons n ys
 past : (os : List (Option ℕ)) (p : ℕ) → length os ≤ p → at os p ≡ 0
 past os p l = ap (λ o. unwrap_or o 0) (get_or_past os p None l)
 
-pub at_most_finish : (os : List (Option ℕ)) (p : ℕ) → unwrap_or (get_or os p None) 0 ≤ greatest (flat_map option_to_list os)
+pub at_most_finish : (os : List (Option ℕ)) (p : ℕ) →
+    unwrap_or (get_or os p None) 0 ≤ greatest (flat_map option_to_list os)
 at_most_finish [] p = omega (arith, past [] p (omega arith))
 at_most_finish (o ∷ os) zero = omega (arith, first_of o (flat_map option_to_list os))
 at_most_finish (o ∷ os) (suc p) = omega (arith, first_of o (flat_map option_to_list os), at_most_finish os p)
 
 -- it is 0 or one of them
-pub finish_at : (os : List (Option ℕ)) → (greatest (flat_map option_to_list os) ≡ 0) ⊎ ((p : ℕ) × (p < length os) × (unwrap_or (get_or os p None) 0 ≡ greatest (flat_map option_to_list os)))
+pub finish_at : (os : List (Option ℕ)) →
+    (greatest (flat_map option_to_list os) ≡ 0) ⊎
+    ((p : ℕ) × (p < length os) × (unwrap_or (get_or os p None) 0 ≡ greatest (flat_map option_to_list os)))
 finish_at [] = inl refl
 finish_at (o ∷ os) = elim (cases_lt (greatest (flat_map option_to_list os)) (unwrap_or o 0)) [
   | inl l ↦ inr (0, omega arith, omega (arith, l, first_of o (flat_map option_to_list os)))

@@ -1,5 +1,6 @@
 -- From nothing at the first place to the figures after the last one.
-use Rattle.std.proofs.Common.{ℕ, ◌+◌, ◌-◌, ◌<◌, ◌≡◌, max, Bool, List, [], ◌∷◌, map, flat_map, length, get_or, Option, None, unwrap_or, option_to_list, arith, refl, sym, ap, ◌∙◌, subst, inl, inr}
+use Rattle.std.proofs.Common.{ℕ, ◌+◌, ◌-◌, ◌<◌, ◌≡◌, max, Bool, List, [], ◌∷◌, map, flat_map, length, get_or, Option}
+use Rattle.std.proofs.Common.{None, unwrap_or, option_to_list, arith, refl, sym, ap, ◌∙◌, subst, inl, inr}
 use Rattle.std.proofs.Common.{replicate}
 use Rattle.std.proofs.lemmas.Bool.{true≢false}
 use Rattle.std.proofs.lemmas.List.{ext_get_or, get_or-map, get_or-replicate, length-map, length-replicate, map-append}
@@ -10,7 +11,8 @@ use Rattle.cpg_base.specs.Graph.{Graph, process_count, item_count, node_of, prod
 use Rattle.cpg_base.specs.Limits.{IsWithinLimits}
 use Rattle.cpg_base.specs.Numbers.{greatest, numbers_below}
 use Rattle.cpg_base.specs.Scenario.{Scenario}
-use Rattle.cpg_base.proofs.Lists.{below_push, greatest_push, Contains-map, Contains-map_parts, Contains-numbers, get_or-map-below, greatest_above, greatest-le, numbers-Contains, same_map}
+use Rattle.cpg_base.proofs.Lists.{below_push, greatest_push, Contains-map, Contains-map_parts, Contains-numbers}
+use Rattle.cpg_base.proofs.Lists.{get_or-map-below, greatest_above, greatest-le, numbers-Contains, same_map}
 use Rattle.cpg_base.proofs.Places.{place_in_order}
 use Rattle.cpg_order.specs.Track.{AreTracks}
 use Rattle.cpg_order.specs.Urgency.{IsTopological, IsUrgencyOrder}
@@ -48,7 +50,8 @@ module _ (g : Graph) (order : List ℕ) where
   abbrev nothing : ProgressState
   nothing = record { known = no_times g; ready = replicate (length g.nodes) 0; free = replicate (length g.nodes) 0 }
 
-  at_first : (s : Scenario) (t : Times) → IsAt g order s t 0 (no_times g) (replicate (length g.nodes) 0) (replicate (length g.nodes) 0)
+  at_first : (s : Scenario) (t : Times) →
+      IsAt g order s t 0 (no_times g) (replicate (length g.nodes) 0) (replicate (length g.nodes) 0)
   at_first s t = record {
     knows = record {
       times = λ x h l. absurd (omega (arith, l));
@@ -67,7 +70,8 @@ module _ (g : Graph) (order : List ℕ) where
     };
   }
 
-  course_first : (Done : ℕ → Type 0) (frozen : List (Option ℕ)) (values : List Bool) (n : ℕ) → IsCourse g order Done frozen values 0 n nothing
+  course_first : (Done : ℕ → Type 0) (frozen : List (Option ℕ)) (values : List Bool) (n : ℕ) →
+      IsCourse g order Done frozen values 0 n nothing
   course_first Done frozen values n = record {
     places = record {
       times = length-replicate {A = Option ℕ} (item_count g) None;
@@ -78,7 +82,9 @@ module _ (g : Graph) (order : List ℕ) where
     at = λ more goes late are. at_first (with_faults values []) (late n);
   }
 
-  pub lanes_first : (Done : ℕ → Type 0) (frozen : List (Option ℕ)) (tracks : List (List Bool)) (lanes : List (List ProgressState)) (count : ℕ) → count ≡ length tracks →
+  pub lanes_first : (Done : ℕ → Type 0) (frozen : List (Option ℕ)) (tracks : List (List Bool))
+      (lanes : List (List ProgressState)) (count : ℕ) →
+      count ≡ length tracks →
       lanes ≡ replicate count (no_lane g)
       → AreLanes g (λ values n c. IsCourse g order Done frozen values 0 n c) tracks lanes
   lanes_first Done frozen tracks lanes count long is = record {
@@ -86,7 +92,8 @@ module _ (g : Graph) (order : List ℕ) where
     each = λ i d l. subst (IsLane g (λ n c. IsCourse g order Done frozen (track_at tracks i) 0 n c))
         (sym (ap (λ ls. get_or ls i d) is ∙ get_or-replicate count i (no_lane g) d (omega (arith, l, long)))) (record {
           count = length-replicate (g.faults + 1) nothing;
-          each = λ n e k. subst (IsCourse g order Done frozen (track_at tracks i) 0 n) (sym (get_or-replicate (g.faults + 1) n nothing e k)) (course_first Done frozen (track_at tracks i) n);
+          each = λ n e k. subst (IsCourse g order Done frozen (track_at tracks i) 0 n)
+              (sym (get_or-replicate (g.faults + 1) n nothing e k)) (course_first Done frozen (track_at tracks i) n);
         });
   }
 
@@ -96,31 +103,44 @@ abbrev there : List (Option ℕ) → ℕ → ℕ
 there os p = unwrap_or (get_or os p None) 0
 
 -- one number more
-pub greatest_below : (f : ℕ → ℕ) (n most next : ℕ) → most ≡ greatest (map f (numbers_below n)) → next ≡ max most (f n) → next ≡ greatest (map f (numbers_below (n + 1)))
+pub greatest_below : (f : ℕ → ℕ) (n most next : ℕ) → most ≡ greatest (map f (numbers_below n)) → next ≡ max most (f n) →
+    next ≡ greatest (map f (numbers_below (n + 1)))
 greatest_below f n most next h is =
-    is ∙ ap (λ m. max m (f n)) h ∙ sym (greatest_push (map f (numbers_below n)) (f n)) ∙ sym (ap (λ xs. greatest (map f xs)) (below_push n) ∙ ap greatest (map-append f (numbers_below n) (n ∷ [])))
+    is ∙ ap (λ m. max m (f n)) h ∙ sym (greatest_push (map f (numbers_below n)) (f n))
+    ∙ sym (ap (λ xs. greatest (map f xs)) (below_push n) ∙ ap greatest (map-append f (numbers_below n) (n ∷ [])))
 
 -- the greatest end by places
-finish_by_places : (os : List (Option ℕ)) (n : ℕ) → length os ≡ n → greatest (map (there os) (numbers_below n)) ≡ greatest (flat_map option_to_list os)
-finish_by_places os n long = both_ways_equal (greatest (map (there os) (numbers_below n))) (greatest (flat_map option_to_list os))
+finish_by_places : (os : List (Option ℕ)) (n : ℕ) → length os ≡ n →
+    greatest (map (there os) (numbers_below n)) ≡ greatest (flat_map option_to_list os)
+finish_by_places os n long =
+    both_ways_equal (greatest (map (there os) (numbers_below n))) (greatest (flat_map option_to_list os))
     (greatest-le (map (there os) (numbers_below n)) (greatest (flat_map option_to_list os))
-    (λ v c. let r = Contains-map_parts (there os) (numbers_below n) v c in let most = at_most_finish os r.0 in omega (arith, r.2, most)))
+    (λ v c. let r = Contains-map_parts (there os) (numbers_below n) v c in
+    let most = at_most_finish os r.0 in
+    omega (arith, r.2, most)))
     (elim (finish_at os) [
       | inl e ↦ omega (arith, e)
-      | inr r ↦ let above = greatest_above (map (there os) (numbers_below n)) (there os r.0) (Contains-map (there os) (numbers_below n) r.0 (Contains-numbers n r.0 (omega (arith, r.1, long)))) in
+      | inr r ↦ let above = greatest_above (map (there os) (numbers_below n)) (there os r.0)
+          (Contains-map (there os) (numbers_below n) r.0 (Contains-numbers n r.0 (omega (arith, r.1, long)))) in
           omega (arith, r.2, above)
     ])
 
-same_lists : (lanes : List (List ProgressState)) (count : ℕ) (F : List ProgressState → ℕ) (G : ℕ → ℕ) → length lanes ≡ count → ((i : ℕ) → i < count → F (get_or lanes i []) ≡ G i) →
+same_lists : (lanes : List (List ProgressState)) (count : ℕ) (F : List ProgressState → ℕ) (G : ℕ → ℕ) →
+    length lanes ≡ count →
+    ((i : ℕ) → i < count → F (get_or lanes i []) ≡ G i) →
     map F lanes ≡ map G (numbers_below count)
-same_lists lanes count F G long same = ext_get_or 0 (map F lanes) (map G (numbers_below count)) (length-map lanes F ∙ long ∙ sym (length-map-range_with_len G 0 count)) (λ i l.
+same_lists lanes count F G long same = ext_get_or 0 (map F lanes) (map G (numbers_below count))
+    (length-map lanes F ∙ long ∙ sym (length-map-range_with_len G 0 count)) (λ i l.
     let k : i < count = omega (arith, l, length-map lanes F, long) in
     get_or-map F lanes i [] 0 (omega (arith, k, long)) ∙ same i k ∙ sym (get_or-map-below G count i 0 k))
 
 module _ (g : Graph) (urgency order : List ℕ) (frozen : List (Option ℕ)) (tracks : List (List Bool))
-    (urgent : IsUrgencyOrder g urgency) (lawful : IsTopological g urgency) (topological : IsTopological g order) (all : AreTracks g tracks) (lanes : List (List ProgressState))
+    (urgent : IsUrgencyOrder g urgency) (lawful : IsTopological g urgency) (topological : IsTopological g order)
+    (all : AreTracks g tracks) (lanes : List (List ProgressState))
     (settled : AreSettledOf g order (IsEarlier g order (process_count g)) frozen)
-    (known : AreLanes g (λ values n c. IsCourse g order (IsEarlier g order (process_count g)) frozen values (process_count g) n c) tracks lanes) where
+    (known : AreLanes g
+    (λ values n c. IsCourse g order (IsEarlier g order (process_count g)) frozen values (process_count g) n c)
+    tracks lanes) where
   abbrev lates : ℕ → ℕ → Times
   lates i = the_latest g order frozen (track_at tracks i) topological
 
@@ -130,36 +150,49 @@ module _ (g : Graph) (urgency order : List ℕ) (frozen : List (Option ℕ)) (tr
   frozen_are : AreFrozenTimes g order frozen
   frozen_are = record {
     count = settled.count;
-    each = λ x h f. settled.each x h f (place_in_order (process_count g) order topological.all (producer g x) (let b = producer_in_range g order topological x h in omega (arith, b)));
+    each = λ x h f. settled.each x h f (place_in_order (process_count g) order topological.all (producer g x)
+        (let b = producer_in_range g order topological x h in omega (arith, b)));
     others = λ x f. settled.others x (λ h is d. true≢false (sym is ∙ f));
   }
 
-  ends_same : (i p : ℕ) → i < length tracks → p < process_count g → end_in (last_course g (get_or lanes i [])).known p ≡ end_in (lates i g.faults) p
+  ends_same : (i p : ℕ) → i < length tracks → p < process_count g →
+      end_in (last_course g (get_or lanes i [])).known p ≡ end_in (lates i g.faults) p
   ends_same i p l h =
-      let course = (known.each i [] l).each g.faults (record { known = record { times = []; ends = []; finish = 0 }; ready = []; free = [] }) (omega arith) in
-      let at = course.at frozen (λ y k d. refl) (lates i) (latest_exist g order frozen (track_at tracks i) topological) in
-      ap (λ o. unwrap_or o 0) (at.knows.ends p h (place_in_order (process_count g) order topological.all p (omega (arith, h))))
+      let course = (known.each i [] l).each g.faults
+      (record { known = record { times = []; ends = []; finish = 0 }; ready = []; free = [] }) (omega arith) in
+      let at =
+      course.at frozen (λ y k d. refl) (lates i) (latest_exist g order frozen (track_at tracks i) topological) in
+      ap (λ o. unwrap_or o 0)
+      (at.knows.ends p h (place_in_order (process_count g) order topological.all p (omega (arith, h))))
 
-  excess_same : (i : ℕ) → i < length tracks → excess_of_course g (last_course g (get_or lanes i [])) ≡ excess_in_run g (lates i g.faults)
-  excess_same i l = ap greatest (same_map (λ p. end_in (last_course g (get_or lanes i [])).known p - due g p) (excess_of g (lates i g.faults)) (numbers_below (process_count g))
+  excess_same : (i : ℕ) → i < length tracks →
+      excess_of_course g (last_course g (get_or lanes i [])) ≡ excess_in_run g (lates i g.faults)
+  excess_same i l = ap greatest (same_map (λ p. end_in (last_course g (get_or lanes i [])).known p - due g p)
+      (excess_of g (lates i g.faults)) (numbers_below (process_count g))
       (λ p c. ap (λ e. e - due g p) (ends_same i p l (numbers-Contains (process_count g) p c))))
 
-  finish_same : (i : ℕ) → i < length tracks → finish_of g (last_course g (get_or lanes i [])) ≡ (lates i g.faults).finish
+  finish_same : (i : ℕ) → i < length tracks →
+      finish_of g (last_course g (get_or lanes i [])) ≡ (lates i g.faults).finish
   finish_same i l =
-      ap greatest (same_map (λ p. end_in (last_course g (get_or lanes i [])).known p) (there (lates i g.faults).ends) (numbers_below (process_count g))
+      ap greatest (same_map (λ p. end_in (last_course g (get_or lanes i [])).known p) (there (lates i g.faults).ends)
+      (numbers_below (process_count g))
       (λ p c. ends_same i p l (numbers-Contains (process_count g) p c)))
       ∙ finish_by_places (lates i g.faults).ends (process_count g)
-      (ap length ((are.each i l).ends g.faults (omega arith)) ∙ length-map-range_with_len (latest_end_by g (lates i) g.faults) 0 (process_count g))
+      (ap length ((are.each i l).ends g.faults (omega arith))
+      ∙ length-map-range_with_len (latest_end_by g (lates i) g.faults) 0 (process_count g))
       ∙ sym ((are.each i l).finish g.faults (omega arith))
 
-  pub figures_found : (excess worst : ℕ) → excess ≡ greatest (map (λ c. excess_of_course g (last_course g c)) lanes) → worst ≡ greatest (map (λ c. finish_of g (last_course g c)) lanes) →
+  pub figures_found : (excess worst : ℕ) → excess ≡ greatest (map (λ c. excess_of_course g (last_course g c)) lanes) →
+      worst ≡ greatest (map (λ c. finish_of g (last_course g c)) lanes) →
       HasFigures g order excess worst
   figures_found excess worst is_excess is_worst = record {
     frozen = frozen;
     times = frozen_are;
     greatest = subst (λ e. HasGreatest g order frozen e worst)
-        (sym (is_excess ∙ ap greatest (same_lists lanes (length tracks) (λ c. excess_of_course g (last_course g c)) (λ i. excess_in_run g (lates i g.faults)) known.count excess_same)))
+        (sym (is_excess ∙ ap greatest (same_lists lanes (length tracks) (λ c. excess_of_course g (last_course g c))
+        (λ i. excess_in_run g (lates i g.faults)) known.count excess_same)))
         (subst (HasGreatest g order frozen (latest_excess g tracks lates))
-        (sym (is_worst ∙ ap greatest (same_lists lanes (length tracks) (λ c. finish_of g (last_course g c)) (λ i. (lates i g.faults).finish) known.count finish_same)))
+        (sym (is_worst ∙ ap greatest (same_lists lanes (length tracks) (λ c. finish_of g (last_course g c))
+        (λ i. (lates i g.faults).finish) known.count finish_same)))
         (greatest_are g urgency order frozen tracks lates urgent lawful topological are));
   }

@@ -13,8 +13,10 @@ use Rattle.cpg_latest.specs.Latest.{AreLatest, with_faults, latest_end_by}
 use Rattle.cpg_latest.specs.Laws.{AreReached}
 use Rattle.cpg_latest.proofs.Reached.{are_reached}
 
-module _ (g : Graph) (order : List ℕ) (frozen : List (Option ℕ)) (values : List Bool) (late : ℕ → Times) (within : IsWithinLimits g) (topological : IsTopological g order)
-    (long : length values ≡ condition_count g) (early : AreEarly frozen) (are : AreLatest g order frozen values late) (n : ℕ) (few : n ≤ g.faults) where
+module _ (g : Graph) (order : List ℕ) (frozen : List (Option ℕ)) (values : List Bool) (late : ℕ → Times)
+    (within : IsWithinLimits g) (topological : IsTopological g order)
+    (long : length values ≡ condition_count g) (early : AreEarly frozen) (are : AreLatest g order frozen values late)
+    (n : ℕ) (few : n ≤ g.faults) where
   reached : AreReached g order frozen values late n
   reached = are_reached g order frozen values late topological long are n few
 
@@ -23,17 +25,27 @@ module _ (g : Graph) (order : List ℕ) (frozen : List (Option ℕ)) (values : L
     times = λ x. elim (cases_lt x (item_count g)) [
       | inl l ↦
           let r = reached.items x l in
-          let small = run_small g order frozen (with_faults values r.faults) r.times within topological r.lawful early r.run in
+          let small =
+          run_small g order frozen (with_faults values r.faults) r.times within topological r.lawful early r.run in
           omega (arith, r.is, small.times x)
       | inr l ↦ let e : time_in (late n) x ≡ 0 = ap (λ o. unwrap_or o 0) (get_or_past (late n).times x None
-          (omega (arith, ap length (are.times n few), length-map-range_with_len (time_by g order frozen (with_faults values []) (late n)) 0 (item_count g)))) in omega arith
+          (omega (
+            arith,
+            ap length (are.times n few),
+            length-map-range_with_len (time_by g order frozen (with_faults values []) (late n)) 0 (item_count g),
+          ))) in omega arith
     ];
     ends = λ p. elim (cases_lt p (process_count g)) [
       | inl l ↦
           let r = reached.ends p l in
-          let small = run_small g order frozen (with_faults values r.faults) r.times within topological r.lawful early r.run in
+          let small =
+          run_small g order frozen (with_faults values r.faults) r.times within topological r.lawful early r.run in
           omega (arith, r.is, small.ends p)
       | inr l ↦ let e : end_in (late n) p ≡ 0 = ap (λ o. unwrap_or o 0) (get_or_past (late n).ends p None
-          (omega (arith, ap length (are.ends n few), length-map-range_with_len (latest_end_by g late n) 0 (process_count g)))) in omega arith
+          (omega (
+            arith,
+            ap length (are.ends n few),
+            length-map-range_with_len (latest_end_by g late n) 0 (process_count g),
+          ))) in omega arith
     ];
   }

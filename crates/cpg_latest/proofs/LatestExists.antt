@@ -1,5 +1,6 @@
 -- Each outcome has latest times under a topological order and given frozen times.
-use Rattle.std.proofs.Common.{ℕ, zero, suc, ◌≡◌, ◌+◌, ◌-◌, ◌<◌, ◌≤◌, ◌∙◌, Bool, List, [], map, flat_map, Option, None, option_to_list, option_map, unwrap_or, arith, refl, sym, ap, ap₂}
+use Rattle.std.proofs.Common.{ℕ, zero, suc, ◌≡◌, ◌+◌, ◌-◌, ◌<◌, ◌≤◌, ◌∙◌, Bool, List, [], map, flat_map, Option, None}
+use Rattle.std.proofs.Common.{option_to_list, option_map, unwrap_or, arith, refl, sym, ap, ap₂}
 use Rattle.cpg_base.specs.Duration.{duration}
 use Rattle.cpg_base.specs.Numbers.{numbers_below, greatest}
 use Rattle.cpg_base.specs.Graph.{Graph, process_count, item_count}
@@ -11,12 +12,15 @@ use Rattle.cpg_run.proofs.RunUnique.{AgreeBefore, agree_sooner, time_by_same}
 use Rattle.cpg_latest.specs.Latest.{AreLatest, with_faults, end_with, latest_end_by}
 
 module _ (g : Graph) (order : List ℕ) (topological : IsTopological g order) (late other : ℕ → Times) where
-  pub latest_end_same : (p n : ℕ) → p < process_count g → ((i : ℕ) → i ≤ n → AgreeBefore g order (late i) (other i) (moment_of_end g order p)) → latest_end_by g late n p ≡ latest_end_by g other n p
+  pub latest_end_same : (p n : ℕ) → p < process_count g →
+      ((i : ℕ) → i ≤ n → AgreeBefore g order (late i) (other i) (moment_of_end g order p)) →
+      latest_end_by g late n p ≡ latest_end_by g other n p
   latest_end_same p n l a =
       let start = moment_of_start g order topological p l in
       ap₂ (λ o v. option_map (λ begin. v) o) ((a n (omega arith)).items p (omega arith) (omega (arith, start)))
       (ap greatest (same_map (end_with g late n p) (end_with g other n p) (numbers_below (n + 1))
-      (λ j c. ap (λ o. unwrap_or o 0 + duration g p j) ((a (n - j) (omega arith)).items p (omega arith) (omega (arith, start))))))
+      (λ j c. ap (λ o. unwrap_or o 0 + duration g p j)
+      ((a (n - j) (omega arith)).items p (omega arith) (omega (arith, start))))))
 
 module _ (g : Graph) (order : List ℕ) (frozen : List (Option ℕ)) (values : List Bool) where
   -- the times that the rules make of given ones
@@ -38,13 +42,17 @@ module _ (g : Graph) (order : List ℕ) (frozen : List (Option ℕ)) (values : L
     settled zero n = record { items = λ x h k. absurd (omega arith); ends = λ p h k. absurd (omega arith) }
     settled (suc m) n = record {
       items = λ x h k.
-          get_or-map-below (time_by g order frozen (with_faults values []) (again_and_again m n)) (item_count g) x None h
-          ∙ time_by_same g order topological (with_faults values []) (again_and_again m n) (again_and_again (suc m) n) frozen frozen x
+          get_or-map-below (time_by g order frozen (with_faults values []) (again_and_again m n))
+          (item_count g) x None h
+          ∙ time_by_same g order topological (with_faults values []) (again_and_again m n)
+          (again_and_again (suc m) n) frozen frozen x
           (agree_sooner g order _ _ (moment g order x) m (omega arith) (settled m n)) h refl
-          ∙ sym (get_or-map-below (time_by g order frozen (with_faults values []) (again_and_again (suc m) n)) (item_count g) x None h);
+          ∙ sym (get_or-map-below (time_by g order frozen (with_faults values []) (again_and_again (suc m) n))
+          (item_count g) x None h);
       ends = λ p h k.
           get_or-map-below (latest_end_by g (again_and_again m) n) (process_count g) p None h
-          ∙ latest_end_same g order topological (again_and_again m) (again_and_again (suc m)) p n h (λ i few. agree_sooner g order _ _ (moment_of_end g order p) m (omega arith) (settled m i))
+          ∙ latest_end_same g order topological (again_and_again m) (again_and_again (suc m)) p n h
+          (λ i few. agree_sooner g order _ _ (moment_of_end g order p) m (omega arith) (settled m i))
           ∙ sym (get_or-map-below (latest_end_by g (again_and_again (suc m)) n) (process_count g) p None h);
     }
 
@@ -54,12 +62,15 @@ module _ (g : Graph) (order : List ℕ) (frozen : List (Option ℕ)) (values : L
     pub latest_exist : AreLatest g order frozen values the_latest
     unfolding the_latest
     latest_exist = record {
-      times = λ n few. same_map (time_by g order frozen (with_faults values []) (again_and_again (last g) n)) (time_by g order frozen (with_faults values []) (again_and_again (suc (last g)) n))
+      times = λ n few. same_map (time_by g order frozen (with_faults values []) (again_and_again (last g) n))
+          (time_by g order frozen (with_faults values []) (again_and_again (suc (last g)) n))
           (numbers_below (item_count g))
           (λ x c. let h = numbers-Contains (item_count g) x c in let k = moment_before_last g order topological x h in
-          time_by_same g order topological (with_faults values []) (again_and_again (last g) n) (again_and_again (suc (last g)) n) frozen frozen x
+          time_by_same g order topological (with_faults values []) (again_and_again (last g) n)
+          (again_and_again (suc (last g)) n) frozen frozen x
           (agree_sooner g order _ _ (moment g order x) (last g) (omega arith) (settled (last g) n)) h refl);
-      ends = λ n few. same_map (latest_end_by g (again_and_again (last g)) n) (latest_end_by g (again_and_again (suc (last g))) n) (numbers_below (process_count g))
+      ends = λ n few. same_map (latest_end_by g (again_and_again (last g)) n)
+          (latest_end_by g (again_and_again (suc (last g))) n) (numbers_below (process_count g))
           (λ p c. let h = numbers-Contains (process_count g) p c in let k = end_before_last g order topological p h in
           latest_end_same g order topological (again_and_again (last g)) (again_and_again (suc (last g))) p n h
           (λ i few. agree_sooner g order _ _ (moment_of_end g order p) (last g) (omega arith) (settled (last g) i)));

@@ -12,44 +12,67 @@ use Rattle.cpg_latest.specs.Course.{AreLanes, IsDone, IsEarlier}
 use Rattle.cpg_latest.specs.Lanes.{AreKnown, AreSending, CanBegin, HasSentTo, IsBefore, IsSettledBy, queued}
 use Rattle.cpg_latest.proofs.CourseSteps.{sent_all}
 use Rattle.cpg_latest.proofs.LaneSteps.{course_more, lanes_map, sending_more}
-use Rattle.cpg_latest.proofs.Settling.{next_done, next_earlier, own_place, send_grows, send_later, settled_as, start_grows}
+use Rattle.cpg_latest.proofs.Settling.{next_done, next_earlier, own_place, send_grows, send_later, settled_as}
+use Rattle.cpg_latest.proofs.Settling.{start_grows}
 
-module _ (setting : Setting) (topological : IsTopological setting.problem.now setting.order.now) (p : ℕ) (l : p < process_count setting.problem.now) (tracks : List (List Bool)) where
+module _ (setting : Setting) (topological : IsTopological setting.problem.now setting.order.now) (p : ℕ)
+    (l : p < process_count setting.problem.now) (tracks : List (List Bool)) where
   -- the frozen time of the process is set
-  pub can_begin : (old new : List (Option ℕ)) (lanes : List (List ProgressState)) → IsSettledBy p old new → AreLanes setting.problem.now (IsBefore setting old (place setting.order.now p)) tracks lanes
+  pub can_begin : (old new : List (Option ℕ)) (lanes : List (List ProgressState)) → IsSettledBy p old new →
+      AreLanes setting.problem.now (IsBefore setting old (place setting.order.now p)) tracks lanes
       → AreLanes setting.problem.now (CanBegin setting new p) tracks lanes
-  can_begin old new lanes settled known = lanes_map setting.problem.now (IsBefore setting old (place setting.order.now p)) (CanBegin setting new p) tracks lanes
-      (λ values n c few course. course_more setting.problem.now setting.order.now (IsEarlier setting.problem.now setting.order.now (place setting.order.now p))
+  can_begin old new lanes settled known = lanes_map setting.problem.now
+      (IsBefore setting old (place setting.order.now p)) (CanBegin setting new p) tracks lanes
+      (λ values n c few course. course_more setting.problem.now setting.order.now
+      (IsEarlier setting.problem.now setting.order.now (place setting.order.now p))
       (IsDone setting.problem.now setting.order.now p 0) old new
       (λ y h d. start_grows setting.problem.now setting.order.now topological p l y d)
-      (λ y h d. settled.others y (λ e. own_place setting.problem.now setting.order.now topological p l (subst (IsEarlier setting.problem.now setting.order.now (place setting.order.now p)) e d)))
+      (λ y h d. settled.others y (λ e. own_place setting.problem.now setting.order.now topological p l
+      (subst (IsEarlier setting.problem.now setting.order.now (place setting.order.now p)) e d)))
       values (place setting.order.now p) n c course)
       known
 
   -- that of one more item is set
-  pub can_send : (at : ℕ) → at < length (queue_of setting.problem.now p) → (old new : List (Option ℕ)) (lanes : List (List ProgressState)) → IsSettledBy (queued setting.problem.now p at) old new
-      → AreLanes setting.problem.now (HasSentTo setting old p at at) tracks lanes → AreLanes setting.problem.now (HasSentTo setting new p (at + 1) at) tracks lanes
-  can_send at inside old new lanes settled known = lanes_map setting.problem.now (HasSentTo setting old p at at) (HasSentTo setting new p (at + 1) at) tracks lanes
-      (λ values n c few s. sending_more setting.problem.now setting.order.now (IsDone setting.problem.now setting.order.now p at) (IsDone setting.problem.now setting.order.now p (at + 1)) old new
+  pub can_send : (at : ℕ) → at < length (queue_of setting.problem.now p) →
+      (old new : List (Option ℕ)) (lanes : List (List ProgressState)) →
+      IsSettledBy (queued setting.problem.now p at) old new
+      → AreLanes setting.problem.now (HasSentTo setting old p at at) tracks lanes →
+      AreLanes setting.problem.now (HasSentTo setting new p (at + 1) at) tracks lanes
+  can_send at inside old new lanes settled known =
+      lanes_map setting.problem.now (HasSentTo setting old p at at) (HasSentTo setting new p (at + 1) at) tracks lanes
+      (λ values n c few s.
+      sending_more setting.problem.now setting.order.now (IsDone setting.problem.now setting.order.now p at)
+      (IsDone setting.problem.now setting.order.now p (at + 1)) old new
       (λ y h d. send_grows setting.problem.now setting.order.now topological p l at inside y d)
-      (λ y h d. settled.others y (λ e. let m = send_later setting.problem.now setting.order.now topological p l at inside y h d in let same = ap (moment setting.problem.now setting.order.now) e in
+      (λ y h d. settled.others y
+      (λ e. let m = send_later setting.problem.now setting.order.now topological p l at inside y h d in
+      let same = ap (moment setting.problem.now setting.order.now) e in
       absurd (omega (arith, m, same))))
       values p at n c s)
       known
 
   -- all is sent
-  pub next_known : (on : node_of setting.problem.now p < length setting.problem.now.nodes) → IsWithinLimits setting.problem.now → (frozen : List (Option ℕ)) (lanes : List (List ProgressState))
-      → AreSending setting tracks p (length (queue_of setting.problem.now p)) frozen lanes → AreKnown setting tracks (place setting.order.now p + 1) frozen lanes
+  pub next_known : (on : node_of setting.problem.now p < length setting.problem.now.nodes) →
+      IsWithinLimits setting.problem.now →
+      (frozen : List (Option ℕ)) (lanes : List (List ProgressState))
+      → AreSending setting tracks p (length (queue_of setting.problem.now p)) frozen lanes →
+      AreKnown setting tracks (place setting.order.now p + 1) frozen lanes
   next_known on limits frozen lanes s = record {
-    settled = settled_as setting.problem.now setting.order.now topological limits (IsDone setting.problem.now setting.order.now p (length (queue_of setting.problem.now p)))
+    settled = settled_as setting.problem.now setting.order.now topological limits
+        (IsDone setting.problem.now setting.order.now p (length (queue_of setting.problem.now p)))
         (IsEarlier setting.problem.now setting.order.now (place setting.order.now p + 1)) frozen s.settled
-        (λ y h f m. next_done setting.problem.now setting.order.now topological p l y h f m) (λ y h d. next_earlier setting.problem.now setting.order.now topological p l y h d);
-    known = lanes_map setting.problem.now (HasSentTo setting frozen p (length (queue_of setting.problem.now p)) (length (queue_of setting.problem.now p)))
+        (λ y h f m. next_done setting.problem.now setting.order.now topological p l y h f m)
+        (λ y h d. next_earlier setting.problem.now setting.order.now topological p l y h d);
+    known = lanes_map setting.problem.now
+        (HasSentTo setting frozen p (length (queue_of setting.problem.now p)) (length (queue_of setting.problem.now p)))
         (IsBefore setting frozen (place setting.order.now p + 1)) tracks lanes
         (λ values n c few sending.
-        course_more setting.problem.now setting.order.now (IsDone setting.problem.now setting.order.now p (length (queue_of setting.problem.now p)))
+        course_more setting.problem.now setting.order.now
+        (IsDone setting.problem.now setting.order.now p (length (queue_of setting.problem.now p)))
         (IsEarlier setting.problem.now setting.order.now (place setting.order.now p + 1)) frozen frozen
-        (λ y h d. next_earlier setting.problem.now setting.order.now topological p l y h d) (λ y h d. refl) values (place setting.order.now p + 1) n c
-        (sent_all setting.problem.now setting.order.now topological (IsDone setting.problem.now setting.order.now p (length (queue_of setting.problem.now p))) frozen values p l on n few c sending))
+        (λ y h d. next_earlier setting.problem.now setting.order.now topological p l y h d) (λ y h d. refl) values
+        (place setting.order.now p + 1) n c
+        (sent_all setting.problem.now setting.order.now topological (IsDone setting.problem.now setting.order.now p
+        (length (queue_of setting.problem.now p))) frozen values p l on n few c sending))
         s.known;
   }

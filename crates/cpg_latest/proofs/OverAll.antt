@@ -1,5 +1,6 @@
 -- The latest time of an item over all tracks, when it isn't frozen, is its frozen time.
-use Rattle.std.proofs.Common.{ℕ, ◌+◌, ◌<◌, ◌≡◌, ◌⊎◌, max, Bool, true, List, [], ◌∷◌, length, get_or, Contains, Option, Some, None, unwrap_or, option_to_list, arith, refl, sym, ap, ◌∙◌, subst, inl}
+use Rattle.std.proofs.Common.{ℕ, ◌+◌, ◌<◌, ◌≡◌, ◌⊎◌, max, Bool, true, List, [], ◌∷◌, length, get_or, Contains, Option}
+use Rattle.std.proofs.Common.{Some, None, unwrap_or, option_to_list, arith, refl, sym, ap, ◌∙◌, subst, inl}
 use Rattle.std.proofs.Common.{inr}
 use Rattle.std.proofs.lemmas.Bool.{cases_Bool, cases_lt}
 use Rattle.std.proofs.lemmas.Option.{none-some}
@@ -44,18 +45,26 @@ module _ (Acts : ℕ → Type 0) (Is : ℕ → ℕ → Type 0) where
 
   module _ (m : ℕ) where
     -- one that doesn't act
-    pub over_idle : (latest : Option ℕ) → IsLatestOver m Acts Is latest → (Acts m → ⊥) → IsLatestOver (m + 1) Acts Is (later latest None)
+    pub over_idle : (latest : Option ℕ) → IsLatestOver m Acts Is latest → (Acts m → ⊥) →
+        IsLatestOver (m + 1) Acts Is (later latest None)
     over_idle None o off = record {
       reached = λ time e. absurd (none-some time e);
-      above = λ i l acts. elim (cases_lt i m) [ inl h ↦ o.above i h acts | inr h ↦ absurd (off (subst Acts (let e : i ≡ m = omega arith in e) acts)) ];
+      above = λ i l acts. elim (cases_lt i m) [
+        | inl h ↦ o.above i h acts
+        | inr h ↦ absurd (off (subst Acts (let e : i ≡ m = omega arith in e) acts))
+      ];
     }
     over_idle (Some most) o off = record {
       reached = λ time e. let r = o.reached time e in (r.0, omega (arith, r.1), r.2, r.3);
-      above = λ i l acts. elim (cases_lt i m) [ inl h ↦ o.above i h acts | inr h ↦ absurd (off (subst Acts (let e : i ≡ m = omega arith in e) acts)) ];
+      above = λ i l acts. elim (cases_lt i m) [
+        | inl h ↦ o.above i h acts
+        | inr h ↦ absurd (off (subst Acts (let e : i ≡ m = omega arith in e) acts))
+      ];
     }
 
     -- one that does
-    pub over_acting : (latest : Option ℕ) (time : ℕ) → IsLatestOver m Acts Is latest → Acts m → Is m time → IsLatestOver (m + 1) Acts Is (later latest (Some time))
+    pub over_acting : (latest : Option ℕ) (time : ℕ) → IsLatestOver m Acts Is latest → Acts m → Is m time →
+        IsLatestOver (m + 1) Acts Is (later latest (Some time))
     over_acting None time o acts is = record {
       reached = λ other e. (m, omega arith, acts, subst (Is m) (some_same time other e) is);
       above = λ i l on. elim (cases_lt i m) [
@@ -66,24 +75,32 @@ module _ (Acts : ℕ → Type 0) (Is : ℕ → ℕ → Type 0) where
     over_acting (Some most) time o acts is = record {
       reached = λ other e. let same = some_same (max most time) other e in elim (cases_lt most time) [
         | inl h ↦ (m, omega arith, acts, subst (Is m) (let k : time ≡ other = omega (arith, same, h) in k) is)
-        | inr h ↦ let r = o.reached other (ap Some (let k : most ≡ other = omega (arith, same, h) in k)) in (r.0, omega (arith, r.1), r.2, r.3)
+        | inr h ↦ let r = o.reached other (ap Some (let k : most ≡ other = omega (arith, same, h) in k)) in
+            (r.0, omega (arith, r.1), r.2, r.3)
       ];
       above = λ i l on. elim (cases_lt i m) [
-        | inl h ↦ let a = o.above i h on in let e = some_same most a.1 a.3 in (a.0, max most time, a.2, refl, omega (arith, a.4, e))
+        | inl h ↦ let a = o.above i h on in
+            let e = some_same most a.1 a.3 in
+            (a.0, max most time, a.2, refl, omega (arith, a.4, e))
         | inr h ↦ (time, max most time, subst (λ j. Is j time) (let e : m ≡ i = omega arith in e) is, refl, omega arith)
       ];
     }
 
 -- one more, as the code says it
-pub over_more : (Acts : ℕ → Type 0) (Is : ℕ → ℕ → Type 0) (m : ℕ) (latest time next : Option ℕ) → IsLatestOver m Acts Is latest → next ≡ later latest time
+pub over_more : (Acts : ℕ → Type 0) (Is : ℕ → ℕ → Type 0) (m : ℕ) (latest time next : Option ℕ) →
+    IsLatestOver m Acts Is latest →
+    next ≡ later latest time
     → ((t : ℕ) × (time ≡ Some t) × Acts m × Is m t) ⊎ ((Acts m → ⊥) × (time ≡ None)) → IsLatestOver (m + 1) Acts Is next
-over_more Acts Is m latest time next o is (inl r) = subst (IsLatestOver (m + 1) Acts Is) (sym (is ∙ ap (later latest) r.1)) (over_acting Acts Is m latest r.0 o r.2 r.3)
-over_more Acts Is m latest time next o is (inr r) = subst (IsLatestOver (m + 1) Acts Is) (sym (is ∙ ap (later latest) r.1)) (over_idle Acts Is m latest o r.0)
+over_more Acts Is m latest time next o is (inl r) =
+    subst (IsLatestOver (m + 1) Acts Is) (sym (is ∙ ap (later latest) r.1)) (over_acting Acts Is m latest r.0 o r.2 r.3)
+over_more Acts Is m latest time next o is (inr r) =
+    subst (IsLatestOver (m + 1) Acts Is) (sym (is ∙ ap (later latest) r.1)) (over_idle Acts Is m latest o r.0)
 
 -- ---- the latest of all is the frozen time
 
 module _ (g : Graph) (urgency order : List ℕ) (frozen : List (Option ℕ)) (tracks : List (List Bool))
-    (urgent : IsUrgencyOrder g urgency) (lawful : IsTopological g urgency) (topological : IsTopological g order) (all : AreTracks g tracks) where
+    (urgent : IsUrgencyOrder g urgency) (lawful : IsTopological g urgency) (topological : IsTopological g order)
+    (all : AreTracks g tracks) where
   abbrev lates : ℕ → ℕ → Times
   lates i = the_latest g order frozen (track_at tracks i) topological
 
@@ -93,9 +110,12 @@ module _ (g : Graph) (urgency order : List ℕ) (frozen : List (Option ℕ)) (tr
   pub long_track : (i : ℕ) → i < length tracks → length (track_at tracks i) ≡ condition_count g
   long_track i l = track_long g urgency order frozen tracks lates urgent lawful topological are i l
 
-  module _ (x : ℕ) (within : x < item_count g) (Acts : ℕ → Type 0) (Is : ℕ → ℕ → Type 0) (latest : Option ℕ) (over : IsLatestOver (length tracks) Acts Is latest)
-      (on : (i : ℕ) → i < length tracks → acts_in g tracks x i ≡ true → Acts i) (off : (i : ℕ) → i < length tracks → Acts i → acts_in g tracks x i ≡ true)
-      (right : (i time : ℕ) → i < length tracks → Acts i → Is i time → time ≡ unfrozen_in g order tracks lates x i) where
+  module _ (x : ℕ) (within : x < item_count g) (Acts : ℕ → Type 0) (Is : ℕ → ℕ → Type 0) (latest : Option ℕ)
+      (over : IsLatestOver (length tracks) Acts Is latest)
+      (on : (i : ℕ) → i < length tracks → acts_in g tracks x i ≡ true → Acts i)
+      (off : (i : ℕ) → i < length tracks → Acts i → acts_in g tracks x i ≡ true)
+      (right : (i time : ℕ) → i < length tracks → Acts i → Is i time →
+      time ≡ unfrozen_in g order tracks lates x i) where
     latest_frozen : IsLatestFrozen g order tracks lates x latest
     latest_frozen = record {
       reached = λ time e. let r = over.reached time e in (r.0, r.1, off r.0 r.1 r.2, sym (right r.0 time r.1 r.2 r.3));
@@ -111,13 +131,16 @@ module _ (g : Graph) (urgency order : List ℕ) (frozen : List (Option ℕ)) (tr
     }
 
     pub unfrozen_over : IsUnfrozenTime g order frozen x latest
-    unfrozen_over = unfrozen_is g urgency order frozen tracks lates urgent lawful topological are x latest within latest_frozen
+    unfrozen_over =
+        unfrozen_is g urgency order frozen tracks lates urgent lawful topological are x latest within latest_frozen
 
   -- a time that isn't frozen is that without its frozen time
-  module _ (i : ℕ) (x : ℕ) (within : x < item_count g) (acts : acts_in g tracks x i ≡ true) (unset : get_or frozen x None ≡ None) where
+  module _ (i : ℕ) (x : ℕ) (within : x < item_count g) (acts : acts_in g tracks x i ≡ true)
+      (unset : get_or frozen x None ≡ None) where
     pub unfrozen_is_time : time_in (lates i g.faults) x ≡ unfrozen_in g order tracks lates x i
     unfrozen_is_time =
-        let is = late_active g order frozen (with_faults (track_at tracks i) []) (lates i) (latest_exist g order frozen (track_at tracks i) topological) g.faults (omega arith) x within acts in
+        let is = late_active g order frozen (with_faults (track_at tracks i) []) (lates i)
+        (latest_exist g order frozen (track_at tracks i) topological) g.faults (omega arith) x within acts in
         let u = unfrozen_in g order tracks lates x i in
         is ∙ ap (λ o. greatest (u ∷ option_to_list o)) unset ∙ alone u
       where
@@ -129,24 +152,30 @@ module _ (g : Graph) (urgency order : List ℕ) (frozen : List (Option ℕ)) (tr
 
   -- ---- a start
 
-  module _ (p : ℕ) (l : p < process_count g) (on : node_of g p < length g.nodes) (limits : IsWithinLimits g) (early : AreEarly frozen) (unset : get_or frozen p None ≡ None)
+  module _ (p : ℕ) (l : p < process_count g) (on : node_of g p < length g.nodes) (limits : IsWithinLimits g)
+      (early : AreEarly frozen) (unset : get_or frozen p None ≡ None)
       (lanes : List (List ProgressState))
-      (before : AreLanes g (λ values n c. IsCourse g order (IsEarlier g order (place order p)) frozen values (place order p) n c) tracks lanes) where
+      (before : AreLanes g
+      (λ values n c. IsCourse g order (IsEarlier g order (place order p)) frozen values (place order p) n c)
+      tracks lanes) where
     pub tell_starts : TellStarts g tracks lanes
     tell_starts = record {
       count = before.count;
       each = λ i d h.
           let lane = before.each i d h in
-          let course = lane.each g.faults (record { known = record { times = []; ends = []; finish = 0 }; ready = []; free = [] }) (omega arith) in
+          let course = lane.each g.faults
+          (record { known = record { times = []; ends = []; finish = 0 }; ready = []; free = [] }) (omega arith) in
           record {
             count = lane.count;
             ready = course.places.ready_count;
-            small = course_small g order topological (IsEarlier g order (place order p)) frozen (track_at tracks i) limits (long_track i h) early g.faults (omega arith) (place order p)
+            small = course_small g order topological (IsEarlier g order (place order p)) frozen
+                (track_at tracks i) limits (long_track i h) early g.faults (omega arith) (place order p)
                 (last_course g (get_or lanes i d)) course;
           };
     }
 
-    pub start_over : (latest : Option ℕ) → IsLatestStart g tracks p lanes (length lanes) latest → IsUnfrozenTime g order frozen p latest
+    pub start_over : (latest : Option ℕ) → IsLatestStart g tracks p lanes (length lanes) latest →
+        IsUnfrozenTime g order frozen p latest
     start_over latest over = unfrozen_over p (omega arith) (λ i. active g (track_at tracks i) p ≡ true)
         (λ i time. IsUnfrozenStart g (track_at tracks i) p (last_course g (lane_at lanes i)) time) latest
         (subst (λ m. IsLatestStart g tracks p lanes m latest) before.count over)
@@ -154,34 +183,45 @@ module _ (g : Graph) (urgency order : List ℕ) (frozen : List (Option ℕ)) (tr
         (λ i h acts. ap (item_active g (track_at tracks i)) (item_at-start g p l) ∙ acts)
         right
       where
-        right : (i time : ℕ) → i < length tracks → active g (track_at tracks i) p ≡ true → IsUnfrozenStart g (track_at tracks i) p (last_course g (lane_at lanes i)) time →
+        right : (i time : ℕ) → i < length tracks → active g (track_at tracks i) p ≡ true →
+            IsUnfrozenStart g (track_at tracks i) p (last_course g (lane_at lanes i)) time →
             time ≡ unfrozen_in g order tracks lates p i
         right i time h acts is =
             let s = with_faults (track_at tracks i) [] in
             let lane = before.each i [] h in
             let c = last_course g (lane_at lanes i) in
-            let course = lane.each g.faults (record { known = record { times = []; ends = []; finish = 0 }; ready = []; free = [] }) (omega arith) in
+            let course = lane.each g.faults
+            (record { known = record { times = []; ends = []; finish = 0 }; ready = []; free = [] })
+            (omega arith) in
             let there = ap (item_active g (track_at tracks i)) (item_at-start g p l) ∙ acts in
             let zero_is = no_frozen i p (omega arith) there unset in
             let time_is = unfrozen_is_time i p (omega arith) there unset in
             let start = start_right g order topological frozen s (lates i g.faults)
-            (latest_is_timed g order frozen s (lates i) (latest_exist g order frozen (track_at tracks i) topological) g.faults (omega arith)) (place order p) p l refl on
-            c.known c.ready c.free (course.at frozen (λ y k d. refl) (lates i) (latest_exist g order frozen (track_at tracks i) topological)) course.places.ready_count course.places.free_count
-            is.is_ready.heard is.is_ready.is_heard acts is.ready (max time (frozen_in frozen p)) is.is_ready.is (ap (λ v. max v (frozen_in frozen p)) is.is) in
+            (latest_is_timed g order frozen s (lates i) (latest_exist g order frozen (track_at tracks i) topological)
+            g.faults (omega arith)) (place order p) p l refl on
+            c.known c.ready c.free (course.at frozen (λ y k d. refl) (lates i) (latest_exist g order frozen
+            (track_at tracks i) topological)) course.places.ready_count course.places.free_count
+            is.is_ready.heard is.is_ready.is_heard acts is.ready (max time (frozen_in frozen p)) is.is_ready.is
+            (ap (λ v. max v (frozen_in frozen p)) is.is) in
             omega (arith, zero_is, time_is, start)
 
   -- ---- an item that is sent
 
-  module _ (p : ℕ) (l : p < process_count g) (on : node_of g p < length g.nodes) (k : ℕ) (inside : k < length (queue_of g p)) (limits : IsWithinLimits g) (early : AreEarly frozen)
+  module _ (p : ℕ) (l : p < process_count g) (on : node_of g p < length g.nodes) (k : ℕ)
+      (inside : k < length (queue_of g p)) (limits : IsWithinLimits g) (early : AreEarly frozen)
       (unset : get_or frozen (get_or (queue_of g p) k 0) None ≡ None) (lanes : List (List ProgressState))
-      (before : AreLanes g (λ values n c. IsSending g order (IsDone g order p k) frozen values p k n c) tracks lanes) where
+      (before : AreLanes g
+      (λ values n c. IsSending g order (IsDone g order p k) frozen values p k n c) tracks lanes) where
     abbrev x : ℕ
     x = get_or (queue_of g p) k 0
 
-    pub end_known : (i : ℕ) (d : List ProgressState) → i < length tracks → active g (track_at tracks i) p ≡ true → end_in (last_course g (get_or lanes i d)).known p ≡ end_in (lates i g.faults) p
+    pub end_known : (i : ℕ) (d : List ProgressState) → i < length tracks → active g (track_at tracks i) p ≡ true →
+        end_in (last_course g (get_or lanes i d)).known p ≡ end_in (lates i g.faults) p
     end_known i d h acts =
-        let course = (before.each i d h).each g.faults (record { known = record { times = []; ends = []; finish = 0 }; ready = []; free = [] }) (omega arith) in
-        let gone = course.acts acts frozen (λ y k d. refl) (lates i) (latest_exist g order frozen (track_at tracks i) topological) in
+        let course = (before.each i d h).each g.faults
+        (record { known = record { times = []; ends = []; finish = 0 }; ready = []; free = [] }) (omega arith) in
+        let gone = course.acts acts frozen (λ y k d. refl) (lates i)
+        (latest_exist g order frozen (track_at tracks i) topological) in
         ap (λ es. unwrap_or (get_or es p None) 0) gone.keeps.ends ∙ gone.ended
 
     pub tell_sends : TellSends g tracks p lanes
@@ -189,12 +229,14 @@ module _ (g : Graph) (urgency order : List ℕ) (frozen : List (Option ℕ)) (tr
       count = before.count;
       each = λ i d h.
           let lane = before.each i d h in
-          let course = lane.each g.faults (record { known = record { times = []; ends = []; finish = 0 }; ready = []; free = [] }) (omega arith) in
+          let course = lane.each g.faults
+          (record { known = record { times = []; ends = []; finish = 0 }; ready = []; free = [] }) (omega arith) in
           record {
             count = lane.count;
             free = course.places.free_count;
             early = λ acts.
-                let small = latest_small g order topological (IsDone g order p k) frozen (track_at tracks i) limits (long_track i h) early g.faults (omega arith) in
+                let small = latest_small g order topological (IsDone g order p k) frozen (track_at tracks i) limits
+                (long_track i h) early g.faults (omega arith) in
                 omega (arith, end_known i d h acts, small.ends p);
           };
     }
@@ -202,24 +244,36 @@ module _ (g : Graph) (urgency order : List ℕ) (frozen : List (Option ℕ)) (tr
     sent_there : Contains (queue_of g p) x
     sent_there = here_sent g order topological (with_faults [] []) p l k inside
 
-    pub send_over : (latest : Option ℕ) → IsLatestSend g tracks p x lanes (length lanes) latest → IsUnfrozenTime g order frozen x latest
+    pub send_over : (latest : Option ℕ) → IsLatestSend g tracks p x lanes (length lanes) latest →
+        IsUnfrozenTime g order frozen x latest
     send_over latest over = unfrozen_over x (in_queue g p x sent_there).within (λ i. AreSent g (track_at tracks i) p x)
         (λ i time. time ≡ unfrozen_send g p (last_course g (lane_at lanes i))) latest
         (subst (λ m. IsLatestSend g tracks p x lanes m latest) before.count over)
-        (λ i h acts. record { acts = sym (ap (active g (track_at tracks i)) (in_queue g p x sent_there).by) ∙ producer_active g (track_at tracks i) (item_at g x) acts; sent = acts })
+        (λ i h acts. record {
+          acts = sym (ap (active g (track_at tracks i)) (in_queue g p x sent_there).by)
+              ∙ producer_active g (track_at tracks i) (item_at g x) acts;
+          sent = acts;
+        })
         (λ i h are. are.sent)
         right
       where
-        right : (i time : ℕ) → i < length tracks → AreSent g (track_at tracks i) p x → time ≡ unfrozen_send g p (last_course g (lane_at lanes i)) → time ≡ unfrozen_in g order tracks lates x i
+        right : (i time : ℕ) → i < length tracks → AreSent g (track_at tracks i) p x →
+            time ≡ unfrozen_send g p (last_course g (lane_at lanes i)) →
+            time ≡ unfrozen_in g order tracks lates x i
         right i time h are is =
             let s = with_faults (track_at tracks i) [] in
-            let course = (before.each i [] h).each g.faults (record { known = record { times = []; ends = []; finish = 0 }; ready = []; free = [] }) (omega arith) in
-            let gone = course.acts are.acts frozen (λ y k d. refl) (lates i) (latest_exist g order frozen (track_at tracks i) topological) in
+            let course = (before.each i [] h).each g.faults
+            (record { known = record { times = []; ends = []; finish = 0 }; ready = []; free = [] })
+            (omega arith) in
+            let gone = course.acts are.acts frozen (λ y k d. refl) (lates i)
+            (latest_exist g order frozen (track_at tracks i) topological) in
             let c = last_course g (lane_at lanes i) in
             let zero_is = no_frozen i x (in_queue g p x sent_there).within are.sent unset in
             let time_is = unfrozen_is_time i x (in_queue g p x sent_there).within are.sent unset in
             let send = send_is g order topological s p l k inside frozen (lates i g.faults)
-            (latest_is_timed g order frozen s (lates i) (latest_exist g order frozen (track_at tracks i) topological) g.faults (omega arith))
+            (latest_is_timed g order frozen s (lates i)
+            (latest_exist g order frozen (track_at tracks i) topological) g.faults (omega arith))
             (get_or c.free (node_of g p) 0) gone.sent.slots_free are.sent in
-            let same = is ∙ ap (λ e. max (next_slot g (node_of g p) e) (get_or c.free (node_of g p) 0)) (end_known i [] h are.acts) in
+            let same = is ∙ ap (λ e. max (next_slot g (node_of g p) e) (get_or c.free (node_of g p) 0))
+            (end_known i [] h are.acts) in
             omega (arith, zero_is, time_is, send, same)

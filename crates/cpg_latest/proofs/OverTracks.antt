@@ -1,12 +1,14 @@
 -- The latest times of all tracks give the frozen times, and the greatest finish and excess of all scenarios.
-use Rattle.std.proofs.Common.{◌≡◌, ◌∙◌, ℕ, ◌<◌, ◌≤◌, Bool, true, List, [], map, filter, length, get_or, Option, None, arith, refl, sym, ap, subst, inl, inr, true≢false, ◌⊎◌}
+use Rattle.std.proofs.Common.{◌≡◌, ◌∙◌, ℕ, ◌<◌, ◌≤◌, Bool, true, List, [], map, filter, length, get_or, Option, None}
+use Rattle.std.proofs.Common.{arith, refl, sym, ap, subst, inl, inr, true≢false, ◌⊎◌}
 use Rattle.std.proofs.lemmas.List.FromFn.{length-map-range_with_len}
 use Rattle.std.proofs.lemmas.List.Elements.{Contains-get_or}
 use Rattle.std.proofs.lemmas.List.Sorted.{Contains-permutation, IsPermutation-sym}
 use Rattle.cpg_base.specs.Numbers.{numbers_below, greatest}
 use Rattle.cpg_base.specs.Graph.{Graph, process_count, condition_count, item_count}
 use Rattle.cpg_base.specs.Scenario.{Scenario, IsScenario, zero_scenario}
-use Rattle.cpg_base.proofs.Lists.{Contains-filter_parts, Contains-map, Contains-map_parts, Contains-numbers, numbers-Contains, greatest_above, greatest_cases, greatest-le}
+use Rattle.cpg_base.proofs.Lists.{Contains-filter_parts, Contains-map, Contains-map_parts, Contains-numbers}
+use Rattle.cpg_base.proofs.Lists.{numbers-Contains, greatest_above, greatest_cases, greatest-le}
 use Rattle.cpg_order.specs.Deciding.{outcomes}
 use Rattle.cpg_order.specs.Track.{is_track}
 use Rattle.cpg_order.specs.Urgency.{IsTopological, IsUrgencyOrder}
@@ -19,22 +21,28 @@ use Rattle.cpg_run.proofs.RunExists.{the_run, run_exists}
 use Rattle.cpg_run.proofs.ZeroScenario.{zero_lawful}
 use Rattle.cpg_latest.specs.Latest.{with_faults, latest_end_by}
 use Rattle.cpg_latest.specs.Laws.{IsNoLater, IsReached, AreReached, IsGreatest, HasGreatest}
-use Rattle.cpg_latest.specs.Tracks.{AreLatestOf, AreLatestFrozen, IsLatestFrozen, track_at, acts_in, unfrozen_in, latest_finish, latest_excess}
+use Rattle.cpg_latest.specs.Tracks.{AreLatestOf, AreLatestFrozen, IsLatestFrozen, track_at, acts_in, unfrozen_in}
+use Rattle.cpg_latest.specs.Tracks.{latest_finish, latest_excess}
 use Rattle.cpg_latest.proofs.Finishes.{at_most_finish, finish_at}
 use Rattle.cpg_latest.proofs.Above.{no_later}
 use Rattle.cpg_latest.proofs.Reached.{are_reached}
 use Rattle.cpg_latest.proofs.TrackOf.{HasTrack, has_track}
 
-module _ (g : Graph) (urgency order : List ℕ) (frozen : List (Option ℕ)) (tracks : List (List Bool)) (lates : ℕ → ℕ → Times)
-    (urgent : IsUrgencyOrder g urgency) (lawful : IsTopological g urgency) (topological : IsTopological g order) (are : AreLatestOf g order frozen tracks lates) where
+module _ (g : Graph) (urgency order : List ℕ) (frozen : List (Option ℕ)) (tracks : List (List Bool))
+    (lates : ℕ → ℕ → Times)
+    (urgent : IsUrgencyOrder g urgency) (lawful : IsTopological g urgency) (topological : IsTopological g order)
+    (are : AreLatestOf g order frozen tracks lates) where
   pub track_long : (i : ℕ) → i < length tracks → length (track_at tracks i) ≡ condition_count g
   track_long i l =
       let c = Contains-permutation tracks (filter (is_track g) (outcomes (condition_count g))) (track_at tracks i)
-      (IsPermutation-sym (filter (is_track g) (outcomes (condition_count g))) tracks are.all.all) (Contains-get_or tracks i [] l) in
-      length_of_outcome (condition_count g) (track_at tracks i) (Contains-filter_parts (is_track g) (outcomes (condition_count g)) (track_at tracks i) c).0
+      (IsPermutation-sym (filter (is_track g) (outcomes (condition_count g))) tracks are.all.all)
+      (Contains-get_or tracks i [] l) in
+      length_of_outcome (condition_count g) (track_at tracks i)
+      (Contains-filter_parts (is_track g) (outcomes (condition_count g)) (track_at tracks i) c).0
 
   of_track : (i : ℕ) → i < length tracks → AreReached g order frozen (track_at tracks i) (lates i) g.faults
-  of_track i l = are_reached g order frozen (track_at tracks i) (lates i) topological (track_long i l) (are.each i l) g.faults (omega arith)
+  of_track i l = are_reached g order frozen (track_at tracks i) (lates i) topological (track_long i l)
+      (are.each i l) g.faults (omega arith)
 
   -- a scenario's run is no later than the latest times of its track
   record IsBelow (s : Scenario) (t : Times) : Type 0 where
@@ -46,13 +54,15 @@ module _ (g : Graph) (urgency order : List ℕ) (frozen : List (Option ℕ)) (tr
       let h = has_track g urgency urgent lawful s tracks are.all in
       record {
         track = h;
-        no_later = no_later g order frozen (with_faults (track_at tracks h.place) s.faults) t (lates h.place) topological (h.run order frozen t topological run)
+        no_later = no_later g order frozen (with_faults (track_at tracks h.place) s.faults) t
+            (lates h.place) topological (h.run order frozen t topological run)
             (are.each h.place h.there) g.faults law.budget (omega arith);
       }
 
   -- ---- frozen times
 
-  would_below : (x time : ℕ) → x < item_count g → WouldHave g order frozen x time → (i : ℕ) × (i < length tracks) × (acts_in g tracks x i ≡ true) × (time ≤ unfrozen_in g order tracks lates x i)
+  would_below : (x time : ℕ) → x < item_count g → WouldHave g order frozen x time →
+      (i : ℕ) × (i < length tracks) × (acts_in g tracks x i ≡ true) × (time ≤ unfrozen_in g order tracks lates x i)
   would_below x time l w =
       let b = is_below w.scenario w.times w.lawful w.run in (
         b.track.place,
@@ -61,10 +71,12 @@ module _ (g : Graph) (urgency order : List ℕ) (frozen : List (Option ℕ)) (tr
         omega (arith, w.has, b.track.unfrozen order w.times x topological l, b.no_later.unfrozen x l),
       )
 
-  would_have : (x i : ℕ) → x < item_count g → i < length tracks → acts_in g tracks x i ≡ true → WouldHave g order frozen x (unfrozen_in g order tracks lates x i)
+  would_have : (x i : ℕ) → x < item_count g → i < length tracks → acts_in g tracks x i ≡ true →
+      WouldHave g order frozen x (unfrozen_in g order tracks lates x i)
   would_have x i l k acts =
       let r = (of_track i k).unfrozen x l in
-      let n = no_later g order frozen (with_faults (track_at tracks i) r.faults) r.times (lates i) topological r.run (are.each i k) g.faults r.few (omega arith) in
+      let n = no_later g order frozen (with_faults (track_at tracks i) r.faults) r.times (lates i) topological r.run
+      (are.each i k) g.faults r.few (omega arith) in
       record {
         scenario = with_faults (track_at tracks i) r.faults;
         lawful = r.lawful;
@@ -74,15 +86,19 @@ module _ (g : Graph) (urgency order : List ℕ) (frozen : List (Option ℕ)) (tr
         has = omega (arith, r.is, n.unfrozen x l);
       }
 
-  pub unfrozen_is : (x : ℕ) (latest : Option ℕ) → x < item_count g → IsLatestFrozen g order tracks lates x latest → IsUnfrozenTime g order frozen x latest
+  pub unfrozen_is : (x : ℕ) (latest : Option ℕ) → x < item_count g → IsLatestFrozen g order tracks lates x latest →
+      IsUnfrozenTime g order frozen x latest
   unfrozen_is x latest l is = record {
-    reached = λ time e. let r = is.reached time e in subst (WouldHave g order frozen x) r.3 (would_have x r.0 l r.1 r.2);
+    reached =
+        λ time e. let r = is.reached time e in subst (WouldHave g order frozen x) r.3 (would_have x r.0 l r.1 r.2);
     greatest = λ time other e w. let b = would_below x other l w in omega (arith, b.3, is.greatest time b.0 e b.1 b.2);
     none = λ e time w. let b = would_below x time l w in true≢false (sym b.2 ∙ is.none e b.0 b.1);
   }
 
-  frozen_time : (x : ℕ) → x < item_count g → IsLatestFrozen g order tracks lates x (get_or frozen x None) → IsFrozenTime g order frozen x
-  frozen_time x l is = let u = unfrozen_is x (get_or frozen x None) l is in record { reached = u.reached; greatest = u.greatest; none = u.none }
+  frozen_time : (x : ℕ) → x < item_count g → IsLatestFrozen g order tracks lates x (get_or frozen x None) →
+      IsFrozenTime g order frozen x
+  frozen_time x l is = let u = unfrozen_is x (get_or frozen x None) l is in
+      record { reached = u.reached; greatest = u.greatest; none = u.none }
 
   pub frozen_times : AreLatestFrozen g order tracks lates frozen → AreFrozenTimes g order frozen
   frozen_times is = record {
@@ -94,16 +110,20 @@ module _ (g : Graph) (urgency order : List ℕ) (frozen : List (Option ℕ)) (tr
   -- ---- the greatest of all tracks
 
   module _ (of : Times → ℕ)
-      (grows : (s : Scenario) (t : Times) (i : ℕ) → i < length tracks → IsRun g order frozen s t → IsNoLater g order s t (lates i g.faults) → s.values ≡ track_at tracks i →
+      (grows : (s : Scenario) (t : Times) (i : ℕ) → i < length tracks → IsRun g order frozen s t →
+      IsNoLater g order s t (lates i g.faults) → s.values ≡ track_at tracks i →
       of t ≤ of (lates i g.faults))
-      (reached : (i : ℕ) → i < length tracks → (of (lates i g.faults) ≡ 0) ⊎ IsReached g order frozen (track_at tracks i) g.faults of (of (lates i g.faults))) where
+      (reached : (i : ℕ) → i < length tracks → (of (lates i g.faults) ≡ 0) ⊎
+      IsReached g order frozen (track_at tracks i) g.faults of (of (lates i g.faults))) where
     most : ℕ
     most = greatest (map (λ i. of (lates i g.faults)) (numbers_below (length tracks)))
 
     below_most : (i : ℕ) → i < length tracks → of (lates i g.faults) ≤ most
     unfolding most
-    below_most i l = greatest_above (map (λ i. of (lates i g.faults)) (numbers_below (length tracks))) (of (lates i g.faults))
-        (Contains-map (λ i. of (lates i g.faults)) (numbers_below (length tracks)) i (Contains-numbers (length tracks) i l))
+    below_most i l =
+        greatest_above (map (λ i. of (lates i g.faults)) (numbers_below (length tracks))) (of (lates i g.faults))
+        (Contains-map (λ i. of (lates i g.faults)) (numbers_below (length tracks)) i
+        (Contains-numbers (length tracks) i l))
 
     above : (s : Scenario) (t : Times) → IsScenario g s → IsRun g order frozen s t → of t ≤ most
     above s t law run =
@@ -111,7 +131,8 @@ module _ (g : Graph) (urgency order : List ℕ) (frozen : List (Option ℕ)) (tr
         omega (
           arith,
           below_most b.track.place b.track.there,
-          grows (with_faults (track_at tracks b.track.place) s.faults) t b.track.place b.track.there (b.track.run order frozen t topological run) b.no_later refl,
+          grows (with_faults (track_at tracks b.track.place) s.faults) t b.track.place b.track.there
+              (b.track.run order frozen t topological run) b.no_later refl,
         )
 
     HasSome : ℕ → Type 0
@@ -121,12 +142,24 @@ module _ (g : Graph) (urgency order : List ℕ) (frozen : List (Option ℕ)) (tr
     unfolding HasSome
     nothing e =
         let s = zero_scenario g in
-        let run = run_exists g order frozen s topological in
-        (s, the_run g order frozen s topological, zero_lawful g, run, omega (arith, e, above s (the_run g order frozen s topological) (zero_lawful g) run))
+        let run = run_exists g order frozen s topological in (
+          s,
+          the_run g order frozen s topological,
+          zero_lawful g,
+          run,
+          omega (arith, e, above s (the_run g order frozen s topological) (zero_lawful g) run),
+        )
 
-    found : (i : ℕ) → i < length tracks → of (lates i g.faults) ≡ most → IsReached g order frozen (track_at tracks i) g.faults of (of (lates i g.faults)) → HasSome most
+    found : (i : ℕ) → i < length tracks → of (lates i g.faults) ≡ most →
+        IsReached g order frozen (track_at tracks i) g.faults of (of (lates i g.faults)) → HasSome most
     unfolding HasSome
-    found i l e r = (with_faults (track_at tracks i) r.faults, r.times, r.lawful, r.run, omega (arith, e, r.is, above (with_faults (track_at tracks i) r.faults) r.times r.lawful r.run))
+    found i l e r = (
+      with_faults (track_at tracks i) r.faults,
+      r.times,
+      r.lawful,
+      r.run,
+      omega (arith, e, r.is, above (with_faults (track_at tracks i) r.faults) r.times r.lawful r.run),
+    )
 
     at_most : HasSome most
     unfolding most
@@ -155,18 +188,22 @@ module _ (g : Graph) (urgency order : List ℕ) (frozen : List (Option ℕ)) (tr
         arith,
         r.2,
         h.ends r.0 (numbers-Contains (process_count g) r.0 r.1),
-        greatest_above (map (excess_of g u) (numbers_below (process_count g))) (excess_of g u r.0) (Contains-map (excess_of g u) (numbers_below (process_count g)) r.0 r.1),
+        greatest_above (map (excess_of g u) (numbers_below (process_count g))) (excess_of g u r.0)
+            (Contains-map (excess_of g u) (numbers_below (process_count g)) r.0 r.1),
       ))
 
   excess_above : (t : Times) (p : ℕ) → p < process_count g → excess_of g t p ≤ excess_in_run g t
   excess_above t p l = greatest_above (map (excess_of g t) (numbers_below (process_count g))) (excess_of g t p)
       (Contains-map (excess_of g t) (numbers_below (process_count g)) p (Contains-numbers (process_count g) p l))
 
-  excess_reached : (i : ℕ) → i < length tracks → (excess_in_run g (lates i g.faults) ≡ 0) ⊎ IsReached g order frozen (track_at tracks i) g.faults (excess_in_run g) (excess_in_run g (lates i g.faults))
+  excess_reached : (i : ℕ) → i < length tracks →
+      (excess_in_run g (lates i g.faults) ≡ 0) ⊎
+      IsReached g order frozen (track_at tracks i) g.faults (excess_in_run g) (excess_in_run g (lates i g.faults))
   excess_reached i l = elim (greatest_cases (map (excess_of g (lates i g.faults)) (numbers_below (process_count g)))) [
     | inl e ↦ inl e
     | inr c ↦
-        let r = Contains-map_parts (excess_of g (lates i g.faults)) (numbers_below (process_count g)) (excess_in_run g (lates i g.faults)) c in
+        let r = Contains-map_parts (excess_of g (lates i g.faults)) (numbers_below (process_count g))
+        (excess_in_run g (lates i g.faults)) c in
         let p = numbers-Contains (process_count g) r.0 r.1 in
         let e = (of_track i l).ends r.0 p in
         inr (record {
@@ -189,15 +226,27 @@ module _ (g : Graph) (urgency order : List ℕ) (frozen : List (Option ℕ)) (tr
   ends_long s t run = ap length run.ends ∙ length-map-range_with_len (end_by g s t) 0 (process_count g)
 
   latest_long : (i : ℕ) → i < length tracks → length (lates i g.faults).ends ≡ process_count g
-  latest_long i l = ap length ((are.each i l).ends g.faults (omega arith)) ∙ length-map-range_with_len (latest_end_by g (lates i) g.faults) 0 (process_count g)
+  latest_long i l = ap length ((are.each i l).ends g.faults (omega arith))
+      ∙ length-map-range_with_len (latest_end_by g (lates i) g.faults) 0 (process_count g)
 
-  finish_grows : (s : Scenario) (t : Times) (i : ℕ) → i < length tracks → IsRun g order frozen s t → IsNoLater g order s t (lates i g.faults) → t.finish ≤ (lates i g.faults).finish
+  finish_grows : (s : Scenario) (t : Times) (i : ℕ) → i < length tracks → IsRun g order frozen s t →
+      IsNoLater g order s t (lates i g.faults) →
+      t.finish ≤ (lates i g.faults).finish
   finish_grows s t i l run h = elim (finish_at t.ends) [
     | inl e ↦ omega (arith, run.finish, e)
-    | inr r ↦ omega (arith, run.finish, r.2, h.ends r.0 (omega (arith, r.1, ends_long s t run)), at_most_finish (lates i g.faults).ends r.0, (are.each i l).finish g.faults (omega arith))
+    | inr r ↦ omega (
+      arith,
+      run.finish,
+      r.2,
+      h.ends r.0 (omega (arith, r.1, ends_long s t run)),
+      at_most_finish (lates i g.faults).ends r.0,
+      (are.each i l).finish g.faults (omega arith),
+    )
   ]
 
-  finish_reached : (i : ℕ) → i < length tracks → ((lates i g.faults).finish ≡ 0) ⊎ IsReached g order frozen (track_at tracks i) g.faults (λ t. t.finish) (lates i g.faults).finish
+  finish_reached : (i : ℕ) → i < length tracks →
+      ((lates i g.faults).finish ≡ 0) ⊎
+      IsReached g order frozen (track_at tracks i) g.faults (λ t. t.finish) (lates i g.faults).finish
   finish_reached i l =
       let is = (are.each i l).finish g.faults (omega arith) in
       elim (finish_at (lates i g.faults).ends) [

@@ -1,5 +1,6 @@
 -- Each of the latest times with n faults is reached in a run with no more.
-use Rattle.std.proofs.Common.{◌≡◌, ℕ, zero, suc, ◌+◌, ◌-◌, ◌<◌, ◌≤◌, true, Bool, List, [], length, get_or, map, sum, replicate, Option, None, option_to_list, arith, refl, sym, subst, ◌∙◌, inl, inr}
+use Rattle.std.proofs.Common.{◌≡◌, ℕ, zero, suc, ◌+◌, ◌-◌, ◌<◌, ◌≤◌, true, Bool, List, [], length, get_or, map, sum}
+use Rattle.std.proofs.Common.{replicate, Option, None, option_to_list, arith, refl, sym, subst, ◌∙◌, inl, inr}
 use Rattle.std.proofs.lemmas.Bool.{cases_Bool}
 use Rattle.std.proofs.lemmas.List.{length-replicate}
 use Rattle.std.proofs.lemmas.List.Folds.{sum_by-replicate}
@@ -19,7 +20,8 @@ use Rattle.cpg_latest.proofs.LateTimes.{late_active, late_inactive, late_end_act
 use Rattle.cpg_latest.proofs.RunsGrow.{times_grow, duration_grows}
 use Rattle.cpg_latest.proofs.Rests.{Cause, Cause.fixed, Cause.item, Cause.ended, IsBefore, value_in, rests}
 
-module _ (g : Graph) (order : List ℕ) (frozen : List (Option ℕ)) (values : List Bool) (late : ℕ → Times) (topological : IsTopological g order)
+module _ (g : Graph) (order : List ℕ) (frozen : List (Option ℕ)) (values : List Bool) (late : ℕ → Times)
+    (topological : IsTopological g order)
     (long : length values ≡ condition_count g) (are : AreLatest g order frozen values late) where
   -- what holds in the run without faults
   without : (n : ℕ) (of : Times → ℕ) (v : ℕ) → v ≡ 0 → IsReached g order frozen values n of v
@@ -37,34 +39,48 @@ module _ (g : Graph) (order : List ℕ) (frozen : List (Option ℕ)) (values : L
   }
 
   record ReachedBefore (m : ℕ) : Type 0 where
-    items : (n x : ℕ) → n ≤ g.faults → x < item_count g → moment g order x < m → IsReached g order frozen values n (λ t. time_in t x) (time_in (late n) x)
-    ends : (n p : ℕ) → n ≤ g.faults → p < process_count g → moment_of_end g order p < m → IsReached g order frozen values n (λ t. end_in t p) (end_in (late n) p)
+    items : (n x : ℕ) → n ≤ g.faults → x < item_count g → moment g order x < m →
+        IsReached g order frozen values n (λ t. time_in t x) (time_in (late n) x)
+    ends : (n p : ℕ) → n ≤ g.faults → p < process_count g → moment_of_end g order p < m →
+        IsReached g order frozen values n (λ t. end_in t p) (end_in (late n) p)
 
   cause_reached : (m x n : ℕ) → ReachedBefore m → moment g order x ≤ m → n ≤ g.faults
-      → (c : Cause) → IsBefore g order (moment g order x) c → IsReached g order frozen values n (λ t. value_in t c) (value_in (late n) c)
+      → (c : Cause) → IsBefore g order (moment g order x) c →
+      IsReached g order frozen values n (λ t. value_in t c) (value_in (late n) c)
   cause_reached m x n a k few fixed h = without n (λ t. 0) 0 refl
   cause_reached m x n a k few (item y) h = a.items n y few h.0 (omega (arith, h.1, k))
   cause_reached m x n a k few (ended p) h = a.ends n p few h.0 (omega (arith, h.1, k))
 
   unfrozen_reached : (m x n : ℕ) → ReachedBefore m → moment g order x ≤ m → x < item_count g → n ≤ g.faults
-      → IsReached g order frozen values n (λ t. unfrozen_time g order (with_faults values []) t x) (unfrozen_time g order (with_faults values []) (late n) x)
-  unfrozen_reached m x n a k l few = elim (greatest_cases (bounds_of_item g order (with_faults values []) (late n) x (item_at g x))) [
-    | inl e ↦ without n (λ t. unfrozen_time g order (with_faults values []) t x) (unfrozen_time g order (with_faults values []) (late n) x) e
-    | inr c ↦
-        let r = rests g order topological (with_faults values []) (late n) x (unfrozen_time g order (with_faults values []) (late n) x) l c in
-        let b = cause_reached m x n a k few r.cause r.early in
-        record {
-          faults = b.faults;
-          lawful = b.lawful;
-          few = b.few;
-          times = b.times;
-          run = b.run;
-          is = omega (arith, r.is, r.grows (late n) b.times b.is, greatest_above (bounds_of_item g order (with_faults values []) b.times x (item_at g x)) (r.bound b.times) (r.among b.times));
-        }
-  ]
+      → IsReached g order frozen values n (λ t. unfrozen_time g order (with_faults values []) t x)
+      (unfrozen_time g order (with_faults values []) (late n) x)
+  unfrozen_reached m x n a k l few =
+      elim (greatest_cases (bounds_of_item g order (with_faults values []) (late n) x (item_at g x))) [
+        | inl e ↦ without n (λ t. unfrozen_time g order (with_faults values []) t x)
+            (unfrozen_time g order (with_faults values []) (late n) x) e
+        | inr c ↦
+            let r = rests g order topological (with_faults values []) (late n) x
+            (unfrozen_time g order (with_faults values []) (late n) x) l c in
+            let b = cause_reached m x n a k few r.cause r.early in
+            record {
+              faults = b.faults;
+              lawful = b.lawful;
+              few = b.few;
+              times = b.times;
+              run = b.run;
+              is = omega (
+                arith,
+                r.is,
+                r.grows (late n) b.times b.is,
+                greatest_above (bounds_of_item g order (with_faults values []) b.times x (item_at g x))
+                    (r.bound b.times) (r.among b.times),
+              );
+            }
+      ]
 
   time_reached : (x n : ℕ) → x < item_count g → n ≤ g.faults
-      → IsReached g order frozen values n (λ t. unfrozen_time g order (with_faults values []) t x) (unfrozen_time g order (with_faults values []) (late n) x)
+      → IsReached g order frozen values n (λ t. unfrozen_time g order (with_faults values []) t x)
+      (unfrozen_time g order (with_faults values []) (late n) x)
       → IsReached g order frozen values n (λ t. time_in t x) (time_in (late n) x)
   time_reached x n l few b = elim (cases_Bool (item_active g values (item_at g x))) [
     | inl is ↦ record {
@@ -79,10 +95,12 @@ module _ (g : Graph) (order : List ℕ) (frozen : List (Option ℕ)) (values : L
         time_in_active g order frozen (with_faults values b.faults) b.times b.run x l is,
         late_active g order frozen (with_faults values []) late are n few x l is,
         greatest-cons (unfrozen_time g order (with_faults values []) b.times x) (option_to_list (get_or frozen x None)),
-        greatest-cons (unfrozen_time g order (with_faults values []) (late n) x) (option_to_list (get_or frozen x None)),
+        greatest-cons (unfrozen_time g order (with_faults values []) (late n) x)
+            (option_to_list (get_or frozen x None)),
       );
     }
-    | inr is ↦ without n (λ t. time_in t x) (time_in (late n) x) (late_inactive g order frozen (with_faults values []) late are n few x l is)
+    | inr is ↦ without n (λ t. time_in t x) (time_in (late n) x)
+        (late_inactive g order frozen (with_faults values []) late are n few x l is)
   ]
 
   -- the faults of a process itself beside those on the ways to its start
@@ -107,9 +125,11 @@ module _ (g : Graph) (order : List ℕ) (frozen : List (Option ℕ)) (values : L
         is = omega (
           arith,
           b.is,
-          times_grow g order frozen values b.faults more topological (add_at-grows b.faults p j) b.times times b.run run p (omega arith),
+          times_grow g order frozen values b.faults more topological
+              (add_at-grows b.faults p j) b.times times b.run run p (omega arith),
           duration_grows g p j (get_or more p 0) (add_at-there b.faults p j (omega (arith, b.lawful.faults, l))),
-          end_active g order frozen (with_faults values more) times run p l (acts_start g order frozen (with_faults values more) times run p l is),
+          end_active g order frozen (with_faults values more) times run p l
+              (acts_start g order frozen (with_faults values more) times run p l is),
         );
       }
 
@@ -117,24 +137,29 @@ module _ (g : Graph) (order : List ℕ) (frozen : List (Option ℕ)) (values : L
       → ((i : ℕ) → i ≤ g.faults → IsReached g order frozen values i (λ t. time_in t p) (time_in (late i) p))
       → IsReached g order frozen values n (λ t. end_in t p) (end_in (late n) p)
   end_reached p n l few start = elim (cases_Bool (item_active g values (item_at g p))) [
-    | inl is ↦ subst (IsReached g order frozen values n (λ t. end_in t p)) (sym (late_end_active g order frozen (with_faults values []) late are n few p l is))
+    | inl is ↦ subst (IsReached g order frozen values n (λ t. end_in t p))
+        (sym (late_end_active g order frozen (with_faults values []) late are n few p l is))
         (elim (greatest_cases (map (end_with g late n p) (numbers_below (n + 1)))) [
           | inl e ↦ without n (λ t. end_in t p) (latest_end g late n p) e
           | inr c ↦
               let r = Contains-map_parts (end_with g late n p) (numbers_below (n + 1)) (latest_end g late n p) c in
               let j = numbers-Contains (n + 1) r.0 r.1 in
-              subst (IsReached g order frozen values n (λ t. end_in t p)) r.2 (with_own n p r.0 l few (omega (arith, j)) is (start (n - r.0) (omega (arith, few))))
+              subst (IsReached g order frozen values n (λ t. end_in t p)) r.2
+              (with_own n p r.0 l few (omega (arith, j)) is (start (n - r.0) (omega (arith, few))))
         ])
-    | inr is ↦ without n (λ t. end_in t p) (end_in (late n) p) (late_end_inactive g order frozen (with_faults values []) late are n few p l is)
+    | inr is ↦ without n (λ t. end_in t p) (end_in (late n) p)
+        (late_end_inactive g order frozen (with_faults values []) late are n few p l is)
   ]
 
   reached_before : (m : ℕ) → ReachedBefore m
-  reached_before zero = record { items = λ n x few l h. absurd (omega arith); ends = λ n p few l h. absurd (omega arith) }
+  reached_before zero =
+      record { items = λ n x few l h. absurd (omega arith); ends = λ n p few l h. absurd (omega arith) }
   reached_before (suc m) =
       let a = reached_before m in
       record {
         items = λ n x few l h. time_reached x n l few (unfrozen_reached m x n a (omega arith) l few);
-        ends = λ n p few l h. end_reached p n l few (λ i less. a.items i p less (omega arith) (omega (arith, h, moment_of_start g order topological p l)));
+        ends = λ n p few l h. end_reached p n l few
+            (λ i less. a.items i p less (omega arith) (omega (arith, h, moment_of_start g order topological p l)));
       }
 
   pub are_reached : (n : ℕ) → n ≤ g.faults → AreReached g order frozen values late n
@@ -142,6 +167,7 @@ module _ (g : Graph) (order : List ℕ) (frozen : List (Option ℕ)) (values : L
       let a = reached_before (last g) in
       record {
         items = λ x l. a.items n x few l (moment_before_last g order topological x l);
-        unfrozen = λ x l. unfrozen_reached (last g) x n a (let k = moment_before_last g order topological x l in omega (arith, k)) l few;
+        unfrozen = λ x l. unfrozen_reached (last g) x n a (let k = moment_before_last g order topological x l in
+            omega (arith, k)) l few;
         ends = λ p l. a.ends n p few l (end_before_last g order topological p l);
       }

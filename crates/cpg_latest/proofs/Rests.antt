@@ -1,18 +1,21 @@
 -- Each bound of an item rests on one thing alone, which is settled before it, and grows with that.
-use Rattle.std.proofs.Common.{rules, ◌≡◌, ℕ, ◌+◌, ◌*◌, ◌<◌, ◌≤◌, ◌==◌, List, [], ◌∷◌, ◌++◌, filter, flat_map, Contains, arith, refl, sym, subst, inl, inr}
+use Rattle.std.proofs.Common.{rules, ◌≡◌, ℕ, ◌+◌, ◌*◌, ◌<◌, ◌≤◌, ◌==◌, List, [], ◌∷◌, ◌++◌, filter, flat_map, Contains}
+use Rattle.std.proofs.Common.{arith, refl, sym, subst, inl, inr}
 use Rattle.std.specs.Prelude.{⊤}
 use Rattle.std.proofs.lemmas.Bool.{cases_Bool, cases_lt, cond-true, cond-false}
 use Rattle.std.proofs.lemmas.List.Elements.{Contains-append_cases, Contains-append_left, Contains-append_right}
 use Rattle.std.proofs.Math.Nat.{mul-le-mul_right}
 use Rattle.cpg_base.specs.Numbers.{numbers_below}
-use Rattle.cpg_base.specs.Graph.{Graph, process_count, condition_count, item_count, message_item, broadcast_item, item_at, producer, process_of, process_at, node_of, home, source, inputs, is_message}
+use Rattle.cpg_base.specs.Graph.{Graph, process_count, condition_count, item_count, message_item, broadcast_item}
+use Rattle.cpg_base.specs.Graph.{item_at, producer, process_of, process_at, node_of, home, source, inputs, is_message}
 use Rattle.cpg_base.specs.Activity.{active, live, item_active}
 use Rattle.cpg_base.specs.Bus.{round, offset, first_from, next_slot}
 use Rattle.cpg_base.specs.Order.{place, before_on_node}
 use Rattle.cpg_base.specs.Scenario.{Scenario}
 use Rattle.cpg_base.proofs.Inputs.{inputs_parts}
 use Rattle.cpg_base.proofs.Items.{ItemCases, item_cases, process_of_below}
-use Rattle.cpg_base.proofs.Lists.{greatest-le, greatest_above, numbers-Contains, Contains-first, Contains-rest, Contains-cases, Contains-map, Contains-map_parts, Contains-filter_parts}
+use Rattle.cpg_base.proofs.Lists.{greatest-le, greatest_above, numbers-Contains, Contains-first, Contains-rest}
+use Rattle.cpg_base.proofs.Lists.{Contains-cases, Contains-map, Contains-map_parts, Contains-filter_parts}
 use Rattle.cpg_base.proofs.Lists.{Contains-flat_map_parts}
 use Rattle.cpg_base.proofs.Places.{from_order, not_later, on_node_before}
 use Rattle.cpg_base.proofs.Slots.{next_slot_above, first_from_least}
@@ -21,10 +24,13 @@ use Rattle.cpg_order.specs.Deciding.{decides, deciding}
 use Rattle.cpg_order.specs.Queue.{is_queued_before, queued_before, rank_of_item}
 use Rattle.cpg_order.proofs.Acyclic.{input_goes_up, source_in_order}
 use Rattle.cpg_order.proofs.DecidingLaws.{decides_earlier}
-use Rattle.cpg_order.proofs.Moments.{phase, phases, moment, moment_of_end, moment_of_start, message_sooner, broadcast_sooner, end_sooner, queued_sooner, producer_in_range}
+use Rattle.cpg_order.proofs.Moments.{phase, phases, moment, moment_of_end, moment_of_start, message_sooner}
+use Rattle.cpg_order.proofs.Moments.{broadcast_sooner, end_sooner, queued_sooner, producer_in_range}
 use Rattle.cpg_base.specs.declared.item.Item.{Item}
 use Rattle.cpg_base.specs.declared.item.Item.TheVariants.{Start, Message, Broadcast}
-use Rattle.cpg_run.specs.Run.{Times, time_in, end_in, frame_there, input_there, heard_there, input_bounds, processor_bounds, hearing_bounds, start_bounds, send_bounds, bounds_of_item, unfrozen_time}
+use Rattle.cpg_run.specs.Run.{Times, time_in, end_in, frame_there, input_there, heard_there, input_bounds}
+use Rattle.cpg_run.specs.Run.{processor_bounds, hearing_bounds, start_bounds, send_bounds, bounds_of_item}
+use Rattle.cpg_run.specs.Run.{unfrozen_time}
 
 -- ---- later times have later slots
 
@@ -34,11 +40,13 @@ no_turn j k turn off e = subst (λ n. j * n + off ≤ k * n + off) (sym e) (omeg
 more_turns : (j k turn off : ℕ) → j ≤ k → j * turn + off ≤ k * turn + off
 more_turns j k turn off l = omega (arith, mul-le-mul_right turn l)
 
-pub next_slot_later : (g : Graph) (node first second : ℕ) → first ≤ second → next_slot g node first ≤ next_slot g node second
+pub next_slot_later : (g : Graph) (node first second : ℕ) → first ≤ second →
+    next_slot g node first ≤ next_slot g node second
 next_slot_later g node first second l = elim (cases_lt 0 (round g)) [
   | inl h ↦ more_turns (first_from g node first) (first_from g node second) (round g) (offset g node)
       (first_from_least g node first h (first_from g node second) (omega (arith, l, next_slot_above g node second h)))
-  | inr z ↦ no_turn (first_from g node first) (first_from g node second) (round g) (offset g node) (let e : round g ≡ 0 = omega (arith, z) in e)
+  | inr z ↦ no_turn (first_from g node first) (first_from g node second) (round g) (offset g node)
+      (let e : round g ≡ 0 = omega (arith, z) in e)
 ]
 
 -- ---- what a bound rests on
@@ -80,7 +88,9 @@ record RestsIn (g : Graph) (order : List ℕ) (m : ℕ) (t : Times) (bounds : Ti
 
 module _ (g : Graph) (order : List ℕ) (topological : IsTopological g order) (s : Scenario) (t : Times) where
   module _ (p m : ℕ) (at : place order p * phases g ≤ m) where
-    input_rests : (e : ℕ) → Contains (inputs g p) e → (bounds : Times → List ℕ) → ((u : Times) → Contains (bounds u) (input_there g u e)) → RestsIn g order m t bounds (input_there g t e)
+    input_rests : (e : ℕ) → Contains (inputs g p) e → (bounds : Times → List ℕ) →
+        ((u : Times) → Contains (bounds u) (input_there g u e)) →
+        RestsIn g order m t bounds (input_there g t e)
     input_rests e c bounds among =
         let h = (inputs_parts g p e c).0 in
         let up = input_goes_up g order topological p e c in
@@ -100,7 +110,10 @@ module _ (g : Graph) (order : List ℕ) (topological : IsTopological g order) (s
           }
           | inr is ↦ record {
             cause = ended (source g e);
-            early = (source_in_order g order topological e h, omega (arith, end_sooner g order topological p (source g e) up));
+            early = (
+              source_in_order g order topological e h,
+              omega (arith, end_sooner g order topological p (source g e) up),
+            );
             bound = λ u. input_there g u e;
             is = refl;
             among = among;
@@ -113,26 +126,34 @@ module _ (g : Graph) (order : List ℕ) (topological : IsTopological g order) (s
           }
         ]
 
-    ended_rests : (q : ℕ) → Contains (before_on_node g order p) q → (bounds : Times → List ℕ) → ((u : Times) → Contains (bounds u) (end_in u q)) → RestsIn g order m t bounds (end_in t q)
+    ended_rests : (q : ℕ) → Contains (before_on_node g order p) q → (bounds : Times → List ℕ) →
+        ((u : Times) → Contains (bounds u) (end_in u q)) →
+        RestsIn g order m t bounds (end_in t q)
     ended_rests q c bounds among =
         let b = on_node_before g order p q c in
         record {
           cause = ended q;
-          early = (from_order (process_count g) order topological.all q b.0, omega (arith, end_sooner g order topological p q b.1));
+          early = (
+            from_order (process_count g) order topological.all q b.0,
+            omega (arith, end_sooner g order topological p q b.1),
+          );
           bound = λ u. end_in u q;
           is = refl;
           among = among;
           grows = λ u w l. l;
         }
 
-    heard_rests : (c : ℕ) → Contains (flat_map (deciding g s.values) (before_on_node g order p ++ p ∷ [])) c → (bounds : Times → List ℕ)
-        → ((u : Times) → Contains (bounds u) (heard_there g u (node_of g p) c)) → RestsIn g order m t bounds (heard_there g t (node_of g p) c)
+    heard_rests : (c : ℕ) → Contains (flat_map (deciding g s.values) (before_on_node g order p ++ p ∷ [])) c →
+        (bounds : Times → List ℕ)
+        → ((u : Times) → Contains (bounds u) (heard_there g u (node_of g p) c)) →
+        RestsIn g order m t bounds (heard_there g t (node_of g p) c)
     heard_rests c d bounds among =
         let q = Contains-flat_map_parts (deciding g s.values) (before_on_node g order p ++ p ∷ []) c d in
         let r = Contains-filter_parts (decides g s.values q.0) (numbers_below (condition_count g)) c q.2 in
         let h = numbers-Contains (condition_count g) c r.0 in
         let l = not_later g order p q.0 q.1 in
-        let up : place order (process_of g c) < place order p = omega (arith, decides_earlier g order topological s.values q.0 c h r.1) in
+        let up : place order (process_of g c) < place order p =
+        omega (arith, decides_earlier g order topological s.values q.0 c h r.1) in
         elim (cases_Bool (node_of g (process_of g c) == node_of g p)) [
           | inl is ↦ record {
             cause = ended (process_of g c);
@@ -143,8 +164,10 @@ module _ (g : Graph) (order : List ℕ) (topological : IsTopological g order) (s
             grows = λ u w k. omega (
               arith,
               k,
-              cond-true (node_of g (process_of g c) == node_of g p) (end_in u (process_of g c)) (frame_there g u (broadcast_item g c)) is,
-              cond-true (node_of g (process_of g c) == node_of g p) (end_in w (process_of g c)) (frame_there g w (broadcast_item g c)) is,
+              cond-true (node_of g (process_of g c) == node_of g p) (end_in u (process_of g c))
+                  (frame_there g u (broadcast_item g c)) is,
+              cond-true (node_of g (process_of g c) == node_of g p) (end_in w (process_of g c))
+                  (frame_there g w (broadcast_item g c)) is,
             );
           }
           | inr is ↦ record {
@@ -156,37 +179,62 @@ module _ (g : Graph) (order : List ℕ) (topological : IsTopological g order) (s
             grows = λ u w k. omega (
               arith,
               k,
-              cond-false (node_of g (process_of g c) == node_of g p) (end_in u (process_of g c)) (frame_there g u (broadcast_item g c)) is,
-              cond-false (node_of g (process_of g c) == node_of g p) (end_in w (process_of g c)) (frame_there g w (broadcast_item g c)) is,
+              cond-false (node_of g (process_of g c) == node_of g p) (end_in u (process_of g c))
+                  (frame_there g u (broadcast_item g c)) is,
+              cond-false (node_of g (process_of g c) == node_of g p) (end_in w (process_of g c))
+                  (frame_there g w (broadcast_item g c)) is,
             );
           }
         ]
 
-    start_rests : (v : ℕ) → Contains (start_bounds g order s t p) v → RestsIn g order m t (λ u. start_bounds g order s u p) v
-    start_rests v c = elim (Contains-cases (process_at g p).release (input_bounds g s t p ++ processor_bounds g order s t p ++ hearing_bounds g order s t p) v c) [
-      | inl e ↦ record { cause = fixed; early = search rules; bound = λ u. (process_at g p).release; is = e; among = λ u. Contains-first _ _; grows = λ u w l. omega arith }
-      | inr rest ↦ elim (Contains-append_cases (input_bounds g s t p ++ processor_bounds g order s t p) (hearing_bounds g order s t p) v rest) [
-        | inr h ↦
-            let r = Contains-map_parts (heard_there g t (node_of g p)) _ v h in
-            subst (RestsIn g order m t (λ u. start_bounds g order s u p)) r.2 (heard_rests r.0 r.1 (λ u. start_bounds g order s u p)
-            (λ u. Contains-rest _ _ _ (Contains-append_right (input_bounds g s u p ++ processor_bounds g order s u p) (hearing_bounds g order s u p) _
-            (Contains-map (heard_there g u (node_of g p)) _ r.0 r.1))))
-        | inl early ↦ elim (Contains-append_cases (input_bounds g s t p) (processor_bounds g order s t p) v early) [
-          | inl i ↦
-              let r = Contains-map_parts (input_there g t) (filter (live g s.values) (inputs g p)) v i in
-              subst (RestsIn g order m t (λ u. start_bounds g order s u p)) r.2 (input_rests r.0 (Contains-filter_parts (live g s.values) (inputs g p) r.0 r.1).0 (λ u. start_bounds g order s u p)
-              (λ u. Contains-rest _ _ _ (Contains-append_left _ _ _ (Contains-append_left _ _ _ (Contains-map (input_there g u) _ r.0 r.1)))))
-          | inr q ↦
-              let r = Contains-map_parts (end_in t) (filter (active g s.values) (before_on_node g order p)) v q in
-              subst (RestsIn g order m t (λ u. start_bounds g order s u p)) r.2
-              (ended_rests r.0 (Contains-filter_parts (active g s.values) (before_on_node g order p) r.0 r.1).0 (λ u. start_bounds g order s u p)
-              (λ u. Contains-rest _ _ _ (Contains-append_left _ (hearing_bounds g order s u p) _
-              (Contains-append_right (input_bounds g s u p) (processor_bounds g order s u p) _ (Contains-map (end_in u) _ r.0 r.1)))))
+    start_rests : (v : ℕ) → Contains (start_bounds g order s t p) v →
+        RestsIn g order m t (λ u. start_bounds g order s u p) v
+    start_rests v c = elim (Contains-cases (process_at g p).release
+        (input_bounds g s t p ++ processor_bounds g order s t p ++ hearing_bounds g order s t p) v c) [
+          | inl e ↦ record {
+            cause = fixed;
+            early = search rules;
+            bound = λ u. (process_at g p).release;
+            is = e;
+            among = λ u. Contains-first _ _;
+            grows = λ u w l. omega arith;
+          }
+          | inr rest ↦ elim (Contains-append_cases (input_bounds g s t p ++ processor_bounds g order s t p)
+              (hearing_bounds g order s t p) v rest) [
+                | inr h ↦
+                    let r = Contains-map_parts (heard_there g t (node_of g p)) _ v h in
+                    subst (RestsIn g order m t (λ u. start_bounds g order s u p)) r.2
+                    (heard_rests r.0 r.1 (λ u. start_bounds g order s u p)
+                    (λ u. Contains-rest _ _ _
+                    (Contains-append_right (input_bounds g s u p ++ processor_bounds g order s u p)
+                    (hearing_bounds g order s u p) _
+                    (Contains-map (heard_there g u (node_of g p)) _ r.0 r.1))))
+                | inl early ↦
+                    elim (Contains-append_cases (input_bounds g s t p) (processor_bounds g order s t p) v early) [
+                      | inl i ↦
+                          let r = Contains-map_parts (input_there g t) (filter (live g s.values) (inputs g p)) v i in
+                          subst (RestsIn g order m t (λ u. start_bounds g order s u p)) r.2 (input_rests r.0
+                          (Contains-filter_parts (live g s.values) (inputs g p) r.0 r.1).0
+                          (λ u. start_bounds g order s u p)
+                          (λ u. Contains-rest _ _ _
+                          (Contains-append_left _ _ _
+                          (Contains-append_left _ _ _ (Contains-map (input_there g u) _ r.0 r.1)))))
+                      | inr q ↦
+                          let r =
+                          Contains-map_parts (end_in t) (filter (active g s.values) (before_on_node g order p)) v q in
+                          subst (RestsIn g order m t (λ u. start_bounds g order s u p)) r.2
+                          (ended_rests r.0
+                          (Contains-filter_parts (active g s.values) (before_on_node g order p) r.0 r.1).0
+                          (λ u. start_bounds g order s u p)
+                          (λ u. Contains-rest _ _ _ (Contains-append_left _ (hearing_bounds g order s u p) _
+                          (Contains-append_right (input_bounds g s u p) (processor_bounds g order s u p) _
+                          (Contains-map (end_in u) _ r.0 r.1)))))
+                    ]
+              ]
         ]
-      ]
-    ]
 
-  send_rests : (x v : ℕ) → x < item_count g → phase (item_at g x) ≡ rank_of_item (item_at g x) + 2 → Contains (send_bounds g order s t x) v
+  send_rests : (x v : ℕ) → x < item_count g → phase (item_at g x) ≡ rank_of_item (item_at g x) + 2 →
+      Contains (send_bounds g order s t x) v
       → RestsIn g order (moment g order x) t (λ u. send_bounds g order s u x) v
   send_rests x v l sends c = elim (Contains-cases (next_slot g (home g x) (end_in t (producer g x))) _ v c) [
     | inl e ↦ record {
@@ -198,9 +246,12 @@ module _ (g : Graph) (order : List ℕ) (topological : IsTopological g order) (s
       grows = λ u w k. next_slot_later g (home g x) (end_in u (producer g x)) (end_in w (producer g x)) k;
     }
     | inr rest ↦
-        let r = Contains-map_parts (λ y. time_in t y + round g) (filter (λ y. item_active g s.values (item_at g y)) (queued_before g order x)) v rest in
-        let f = Contains-filter_parts (λ (y : ℕ). item_active g s.values (item_at g y)) (queued_before g order x) r.0 r.1 in
-        let q = Contains-filter_parts (λ (z : ℕ). is_queued_before g order z x) (numbers_below (item_count g)) r.0 f.0 in
+        let r = Contains-map_parts (λ y. time_in t y + round g)
+        (filter (λ y. item_active g s.values (item_at g y)) (queued_before g order x)) v rest in
+        let f =
+        Contains-filter_parts (λ (y : ℕ). item_active g s.values (item_at g y)) (queued_before g order x) r.0 r.1 in
+        let q =
+        Contains-filter_parts (λ (z : ℕ). is_queued_before g order z x) (numbers_below (item_count g)) r.0 f.0 in
         let k = numbers-Contains (item_count g) r.0 q.0 in
         record {
           cause = item r.0;
@@ -213,7 +264,9 @@ module _ (g : Graph) (order : List ℕ) (topological : IsTopological g order) (s
   ]
 
   -- as a bound of its item
-  of_item : (x v : ℕ) (i : Item) → item_at g x ≡ i → RestsIn g order (moment g order x) t (λ u. bounds_of_item g order s u x i) v → Rests g order s t x v
+  of_item : (x v : ℕ) (i : Item) → item_at g x ≡ i →
+      RestsIn g order (moment g order x) t (λ u. bounds_of_item g order s u x i) v →
+      Rests g order s t x v
   of_item x v i e r = record {
     cause = r.cause;
     early = r.early;
@@ -223,20 +276,32 @@ module _ (g : Graph) (order : List ℕ) (topological : IsTopological g order) (s
     grows = r.grows;
   }
 
-  rests_by : (x v : ℕ) → x < item_count g → ItemCases g x → Contains (bounds_of_item g order s t x (item_at g x)) v → Rests g order s t x v
+  rests_by : (x v : ℕ) → x < item_count g → ItemCases g x → Contains (bounds_of_item g order s t x (item_at g x)) v →
+      Rests g order s t x v
   rests_by x v l (inl c) k = of_item x v (Start x) c.1
-      (start_rests x (moment g order x) (omega (arith, moment_of_start g order topological x c.0)) v (subst (λ i. Contains (bounds_of_item g order s t x i) v) c.1 k))
+      (start_rests x (moment g order x) (omega (arith, moment_of_start g order topological x c.0)) v
+      (subst (λ i. Contains (bounds_of_item g order s t x i) v) c.1 k))
   rests_by x v l (inr (inl c)) k = of_item x v (Message c.0) c.3
-      (send_rests x v l (subst (λ i. phase i ≡ rank_of_item i + 2) (sym c.3) (let r : c.0 + 3 ≡ c.0 + 1 + 2 = omega arith in r)) (subst (λ i. Contains (bounds_of_item g order s t x i) v) c.3 k))
+      (send_rests x v l
+      (subst (λ i. phase i ≡ rank_of_item i + 2) (sym c.3) (let r : c.0 + 3 ≡ c.0 + 1 + 2 = omega arith in r))
+      (subst (λ i. Contains (bounds_of_item g order s t x i) v) c.3 k))
   rests_by x v l (inr (inr c)) k = of_item x v (Broadcast c.0) c.3
-      (send_rests x v l (subst (λ i. phase i ≡ rank_of_item i + 2) (sym c.3) (let r : 2 ≡ 0 + 2 = omega arith in r)) (subst (λ i. Contains (bounds_of_item g order s t x i) v) c.3 k))
+      (send_rests x v l (subst (λ i. phase i ≡ rank_of_item i + 2) (sym c.3) (let r : 2 ≡ 0 + 2 = omega arith in r))
+      (subst (λ i. Contains (bounds_of_item g order s t x i) v) c.3 k))
 
-  pub rests : (x v : ℕ) → x < item_count g → Contains (bounds_of_item g order s t x (item_at g x)) v → Rests g order s t x v
+  pub rests : (x v : ℕ) → x < item_count g → Contains (bounds_of_item g order s t x (item_at g x)) v →
+      Rests g order s t x v
   rests x v l k = rests_by x v l (item_cases g x l) k
 
   -- so what an item would have grows with what is settled before it
-  pub unfrozen_grows : (u : Times) (x : ℕ) → x < item_count g → ((c : Cause) → IsBefore g order (moment g order x) c → value_in t c ≤ value_in u c)
+  pub unfrozen_grows : (u : Times) (x : ℕ) → x < item_count g →
+      ((c : Cause) → IsBefore g order (moment g order x) c → value_in t c ≤ value_in u c)
       → unfrozen_time g order s t x ≤ unfrozen_time g order s u x
   unfrozen_grows u x l h = greatest-le (bounds_of_item g order s t x (item_at g x)) (unfrozen_time g order s u x)
       (λ v c. let r = rests x v l c in
-      omega (arith, r.is, r.grows t u (h r.cause r.early), greatest_above (bounds_of_item g order s u x (item_at g x)) (r.bound u) (r.among u)))
+      omega (
+        arith,
+        r.is,
+        r.grows t u (h r.cause r.early),
+        greatest_above (bounds_of_item g order s u x (item_at g x)) (r.bound u) (r.among u),
+      ))

@@ -1,5 +1,6 @@
 -- Where each process of an outcome fails as often or more, nothing in its run is sooner.
-use Rattle.std.proofs.Common.{◌≡◌, ℕ, zero, suc, ◌+◌, ◌*◌, ◌<◌, ◌≤◌, false, Bool, List, get_or, Option, None, option_map, option_to_list, unwrap_or, arith, ap, ◌∙◌, inl, inr}
+use Rattle.std.proofs.Common.{◌≡◌, ℕ, zero, suc, ◌+◌, ◌*◌, ◌<◌, ◌≤◌, false, Bool, List, get_or, Option, None}
+use Rattle.std.proofs.Common.{option_map, option_to_list, unwrap_or, arith, ap, ◌∙◌, inl, inr}
 use Rattle.std.specs.Int.{div_ceil}
 use Rattle.std.proofs.Math.Nat.{mul-le-mul_right}
 use Rattle.std.proofs.lemmas.Bool.{cases_Bool, cond-false}
@@ -17,26 +18,33 @@ use Rattle.cpg_latest.proofs.Rests.{Cause, Cause.fixed, Cause.item, Cause.ended,
 
 pub duration_grows : (g : Graph) (p m n : ℕ) → m ≤ n → duration g p m ≤ duration g p n
 duration_grows g p m n h =
-    let more : m * ((process_at g p).mu + div_ceil (process_at g p).wcet (process_at g p).parts + (process_at g p).alpha) ≤ n *
+    let more : m
+    * ((process_at g p).mu + div_ceil (process_at g p).wcet (process_at g p).parts + (process_at g p).alpha) ≤ n *
     ((process_at g p).mu + div_ceil (process_at g p).wcet (process_at g p).parts + (process_at g p).alpha) =
-    mul-le-mul_right ((process_at g p).mu + div_ceil (process_at g p).wcet (process_at g p).parts + (process_at g p).alpha) h in
+    mul-le-mul_right
+    ((process_at g p).mu + div_ceil (process_at g p).wcet (process_at g p).parts + (process_at g p).alpha) h in
     omega arith
 
-module _ (g : Graph) (order : List ℕ) (frozen : List (Option ℕ)) (s : Scenario) (t : Times) (run : IsRun g order frozen s t) where
+module _ (g : Graph) (order : List ℕ) (frozen : List (Option ℕ)) (s : Scenario) (t : Times)
+    (run : IsRun g order frozen s t) where
   pub time_inactive : (x : ℕ) → x < item_count g → item_active g s.values (item_at g x) ≡ false → time_in t x ≡ 0
   time_inactive x l a = ap (λ o. unwrap_or o 0) (time_is g order frozen s t run x l ∙ cond-false _ _ _ a)
 
   pub end_inactive : (p : ℕ) → p < process_count g → item_active g s.values (item_at g p) ≡ false → end_in t p ≡ 0
   end_inactive p l a = ap (λ o. unwrap_or o 0) (end_is g order frozen s t run p l
-      ∙ ap (λ o. option_map (λ start. start + duration g p (fault_of s p)) o) (time_is g order frozen s t run p (omega arith) ∙ cond-false _ _ _ a))
+      ∙ ap (λ o. option_map (λ start. start + duration g p (fault_of s p)) o)
+      (time_is g order frozen s t run p (omega arith) ∙ cond-false _ _ _ a))
 
-module _ (g : Graph) (order : List ℕ) (frozen : List (Option ℕ)) (values : List Bool) (fs hs : List ℕ) (topological : IsTopological g order)
-    (more : (q : ℕ) → get_or fs q 0 ≤ get_or hs q 0) (t u : Times) (run : IsRun g order frozen (with_faults values fs) t) (other : IsRun g order frozen (with_faults values hs) u) where
+module _ (g : Graph) (order : List ℕ) (frozen : List (Option ℕ)) (values : List Bool) (fs hs : List ℕ)
+    (topological : IsTopological g order)
+    (more : (q : ℕ) → get_or fs q 0 ≤ get_or hs q 0) (t u : Times) (run : IsRun g order frozen
+    (with_faults values fs) t) (other : IsRun g order frozen (with_faults values hs) u) where
   record GrowBefore (m : ℕ) : Type 0 where
     items : (x : ℕ) → x < item_count g → moment g order x < m → time_in t x ≤ time_in u x
     ends : (p : ℕ) → p < process_count g → moment_of_end g order p < m → end_in t p ≤ end_in u p
 
-  cause_le : (m x : ℕ) → GrowBefore m → moment g order x ≤ m → (c : Cause) → IsBefore g order (moment g order x) c → value_in t c ≤ value_in u c
+  cause_le : (m x : ℕ) → GrowBefore m → moment g order x ≤ m → (c : Cause) → IsBefore g order (moment g order x) c →
+      value_in t c ≤ value_in u c
   cause_le m x a k fixed h = omega arith
   cause_le m x a k (item y) h = a.items y h.0 (omega (arith, h.1))
   cause_le m x a k (ended p) h = a.ends p h.0 (omega (arith, h.1))
@@ -60,8 +68,10 @@ module _ (g : Graph) (order : List ℕ) (frozen : List (Option ℕ)) (values : L
       arith,
       h,
       duration_grows g p (get_or fs p 0) (get_or hs p 0) (more p),
-      end_active g order frozen (with_faults values fs) t run p l (acts_start g order frozen (with_faults values fs) t run p l is),
-      end_active g order frozen (with_faults values hs) u other p l (acts_start g order frozen (with_faults values hs) u other p l is),
+      end_active g order frozen (with_faults values fs) t run p l
+          (acts_start g order frozen (with_faults values fs) t run p l is),
+      end_active g order frozen (with_faults values hs) u other p l
+          (acts_start g order frozen (with_faults values hs) u other p l is),
     )
     | inr is ↦ omega (arith, end_inactive g order frozen (with_faults values fs) t run p l is)
   ]

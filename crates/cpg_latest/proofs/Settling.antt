@@ -1,8 +1,10 @@
 -- Which frozen times are settled at the next item, and what goes on under them.
-use Rattle.std.proofs.Common.{ℕ, ◌+◌, ◌*◌, ◌<◌, ◌≤◌, ◌≡◌, ◌≢◌, Bool, true, false, List, length, get_or, Option, None, Contains, ◌⊎◌, arith, refl, sym, ap, ap₂, ◌∙◌, subst, inl, inr, take_all}
+use Rattle.std.proofs.Common.{ℕ, ◌+◌, ◌*◌, ◌<◌, ◌≤◌, ◌≡◌, ◌≢◌, Bool, true, false, List, length, get_or, Option, None}
+use Rattle.std.proofs.Common.{Contains, ◌⊎◌, arith, refl, sym, ap, ap₂, ◌∙◌, subst, inl, inr, take_all}
 use Rattle.std.proofs.lemmas.Bool.{and_parts, cases_eq, cases_lt, true≢false}
 use Rattle.std.proofs.lemmas.List.Elements.{Contains-get_or}
-use Rattle.cpg_base.specs.Graph.{Graph, process_count, item_count, item_at, is_frozen, is_frozen_item, is_sent, is_sent_item, producer, producer_of_item}
+use Rattle.cpg_base.specs.Graph.{Graph, process_count, item_count, item_at, is_frozen, is_frozen_item, is_sent}
+use Rattle.cpg_base.specs.Graph.{is_sent_item, producer, producer_of_item}
 use Rattle.cpg_base.specs.Limits.{IsWithinLimits}
 use Rattle.cpg_base.specs.Order.{place}
 use Rattle.cpg_base.proofs.Items.{item_cases, ItemCases, item_at-start}
@@ -12,7 +14,8 @@ use Rattle.cpg_bus.specs.Plan.{queue_of}
 use Rattle.cpg_bus.proofs.Queued.{in_queue, below_first, rank_at, queue_rises, queue-Contains}
 use Rattle.cpg_order.specs.Queue.{rank_of_item}
 use Rattle.cpg_order.specs.Urgency.{IsTopological}
-use Rattle.cpg_order.proofs.Moments.{phase, phases, phase_below, phase_is_rank, moment, moment_of_start, producer_in_range, sooner}
+use Rattle.cpg_order.proofs.Moments.{phase, phases, phase_below, phase_is_rank, moment, moment_of_start}
+use Rattle.cpg_order.proofs.Moments.{producer_in_range, sooner}
 use Rattle.cpg_run.specs.Frozen.{IsFrozenTime}
 use Rattle.cpg_run.specs.Known.{AreEarly}
 use Rattle.cpg_run.specs.Latest.{IsUnfrozenTime}
@@ -29,7 +32,9 @@ module _ (g : Graph) (order : List ℕ) (topological : IsTopological g order) (w
 
   module _ (Done More : ℕ → Type 0) (frozen : List (Option ℕ)) (settled : AreSettledOf g order Done frozen) where
     -- the same frozen items are done
-    pub settled_as : ((y : ℕ) → y < item_count g → is_frozen g y ≡ true → More y → Done y) → ((y : ℕ) → y < item_count g → Done y → More y) → AreSettledOf g order More frozen
+    pub settled_as : ((y : ℕ) → y < item_count g → is_frozen g y ≡ true → More y → Done y) →
+        ((y : ℕ) → y < item_count g → Done y → More y) →
+        AreSettledOf g order More frozen
     settled_as less more = record {
       count = settled.count;
       each = λ y h f m. settled.each y h f (less y h f m);
@@ -37,55 +42,76 @@ module _ (g : Graph) (order : List ℕ) (topological : IsTopological g order) (w
       low = settled.low;
     }
 
-    module _ (x : ℕ) (l : x < item_count g) (later : (y : ℕ) → y < item_count g → Done y → moment g order y < moment g order x) (grows : (y : ℕ) → Done y → More y) (one : More x)
+    module _ (x : ℕ) (l : x < item_count g) (later : (y : ℕ) → y < item_count g → Done y →
+        moment g order y < moment g order x) (grows : (y : ℕ) → Done y → More y) (one : More x)
         (only : (y : ℕ) → More y → Done y ⊎ (y ≡ x)) where
       -- an item isn't frozen
       pub settled_idle : is_frozen g x ≡ false → AreSettledOf g order More frozen
-      settled_idle thawed = settled_as (λ y h f m. elim (only y m) [ inl d ↦ d | inr e ↦ absurd (true≢false (sym f ∙ ap (is_frozen g) e ∙ thawed)) ]) (λ y h d. grows y d)
+      settled_idle thawed = settled_as
+          (λ y h f m. elim (only y m) [ inl d ↦ d | inr e ↦ absurd (true≢false (sym f ∙ ap (is_frozen g) e ∙ thawed)) ])
+          (λ y h d. grows y d)
 
       -- its frozen time isn't set before
       pub not_yet : get_or frozen x None ≡ None
       not_yet = settled.others x (λ h f d. let m = later x h d in absurd (omega (arith, m)))
 
       -- the frozen time of the item is set
-      pub settled_more : is_frozen g x ≡ true → (more : List (Option ℕ)) → IsUnfrozenTime g order frozen x (get_or more x None) → ((y : ℕ) → y ≢ x → get_or more y None ≡ get_or frozen y None) →
+      pub settled_more : is_frozen g x ≡ true → (more : List (Option ℕ)) →
+          IsUnfrozenTime g order frozen x (get_or more x None) →
+          ((y : ℕ) → y ≢ x → get_or more y None ≡ get_or frozen y None) →
           length more ≡ length frozen → AreSettledOf g order More more
       settled_more is_one more is same count = record {
         count = count ∙ settled.count;
         each = λ y h f done. elim (cases_eq y x) [
-          | inl e ↦ subst (IsFrozenTime g order more) (sym e) (frozen_time_set g order topological frozen more x l (λ z w m. sym (same z (λ e. omega (arith, ap (moment g order) e)))) is)
+          | inl e ↦ subst (IsFrozenTime g order more) (sym e) (frozen_time_set g order topological frozen more x l
+              (λ z w m. sym (same z (λ e. omega (arith, ap (moment g order) e)))) is)
           | inr apart ↦ elim (only y done) [
             | inr e ↦ absurd (apart e)
-            | inl d ↦ frozen_time_kept g order topological frozen more y h (λ z w m. sym (same z (λ e. omega (arith, ap (moment g order) e, later y h d)))) (sym (same y apart)) (settled.each y h f d)
+            | inl d ↦ frozen_time_kept g order topological frozen more y h
+                (λ z w m. sym (same z (λ e. omega (arith, ap (moment g order) e, later y h d)))) (sym (same y apart))
+                (settled.each y h f d)
           ]
         ];
-        others = λ y no. same y (λ e. no (subst (λ z. z < item_count g) (sym e) l) (ap (is_frozen g) e ∙ is_one) (subst More (sym e) one)) ∙ settled.others y (λ h f done. no h f (grows y done));
+        others = λ y no. same y
+            (λ e. no (subst (λ z. z < item_count g) (sym e) l) (ap (is_frozen g) e ∙ is_one) (subst More (sym e) one))
+            ∙ settled.others y (λ h f done. no h f (grows y done));
         low = record {
           low = λ y time w e. elim (cases_eq y x) [
             | inl at ↦
                 let r = is.reached time (ap (λ z. get_or more z None) (sym at) ∙ e) in
                 subst (λ z. time ≤ bound 0 (moment g order z) + 32000000000) (sym at)
-                (omega (arith, r.has, unfrozen_low 0 g order frozen r.scenario r.times within topological r.lawful settled.low r.run x l))
+                (omega (
+                  arith,
+                  r.has,
+                  unfrozen_low 0 g order frozen r.scenario r.times within topological r.lawful settled.low r.run x l,
+                ))
             | inr apart ↦ settled.low.low y time w (sym (same y apart) ∙ e)
           ];
         };
       }
 
 -- what holds of the latest times goes on where more is done
-pub for_more : (g : Graph) (order : List ℕ) (Done More : ℕ → Type 0) (frozen new : List (Option ℕ)) (values : List Bool) (P : (ℕ → Times) → Type 0) → ((y : ℕ) → y < item_count g → Done y → More y)
-    → ((y : ℕ) → y < item_count g → Done y → get_or new y None ≡ get_or frozen y None) → ForLatest g order Done frozen values P → ForLatest g order More new values P
-for_more g order Done More frozen new values P grows same f more goes late are = f more (λ y h d. goes y h (grows y h d) ∙ same y h d) late are
+pub for_more : (g : Graph) (order : List ℕ) (Done More : ℕ → Type 0) (frozen new : List (Option ℕ)) (values : List Bool)
+    (P : (ℕ → Times) → Type 0) →
+    ((y : ℕ) → y < item_count g → Done y → More y)
+    → ((y : ℕ) → y < item_count g → Done y → get_or new y None ≡ get_or frozen y None) →
+    ForLatest g order Done frozen values P → ForLatest g order More new values P
+for_more g order Done More frozen new values P grows same f more goes late are =
+    f more (λ y h d. goes y h (grows y h d) ∙ same y h d) late are
 
 module _ (g : Graph) (order : List ℕ) (topological : IsTopological g order) (p : ℕ) (l : p < process_count g) where
   -- ---- the start of a process
 
   pub own_place : IsEarlier g order (place order p) p → ⊥
-  own_place e = let is = ap (λ i. place order (producer_of_item g i)) (item_at-start g p l) in absurd (omega (arith, e, is))
+  own_place e = let is = ap (λ i. place order (producer_of_item g i)) (item_at-start g p l) in
+      absurd (omega (arith, e, is))
 
-  pub start_later : (y : ℕ) → y < item_count g → IsEarlier g order (place order p) y → moment g order y < moment g order p
+  pub start_later : (y : ℕ) → y < item_count g → IsEarlier g order (place order p) y →
+      moment g order y < moment g order p
   start_later y h e =
       let own = moment_of_start g order topological p l in
-      let less : moment g order y < place order p * phases g = sooner (place order (producer g y)) (place order p) (phase (item_at g y)) (phases g) e (phase_below g y h) in
+      let less : moment g order y < place order p * phases g =
+      sooner (place order (producer g y)) (place order p) (phase (item_at g y)) (phases g) e (phase_below g y h) in
       omega (arith, own, less)
 
   pub start_grows : (y : ℕ) → IsEarlier g order (place order p) y → IsDone g order p 0 y
@@ -101,8 +127,10 @@ module _ (g : Graph) (order : List ℕ) (topological : IsTopological g order) (p
 
   -- ---- what it sends
 
-  moment_of_sent : (x : ℕ) → Contains (queue_of g p) x → moment g order x ≡ place order p * phases g + (rank_of_item (item_at g x) + 2)
-  moment_of_sent x c = let q = in_queue g p x c in ap₂ (λ r f. place order r * phases g + f) q.by (phase_is_rank g (item_at g x) q.sent)
+  moment_of_sent : (x : ℕ) → Contains (queue_of g p) x →
+      moment g order x ≡ place order p * phases g + (rank_of_item (item_at g x) + 2)
+  moment_of_sent x c = let q = in_queue g p x c in
+      ap₂ (λ r f. place order r * phases g + f) q.by (phase_is_rank g (item_at g x) q.sent)
 
   module _ (k : ℕ) (inside : k < length (queue_of g p)) where
     abbrev here : ℕ
@@ -117,7 +145,8 @@ module _ (g : Graph) (order : List ℕ) (topological : IsTopological g order) (p
     pub send_later : (y : ℕ) → y < item_count g → IsDone g order p k y → moment g order y < moment g order here
     send_later y h (inl e) =
         let at = moment_of_sent here in_here in
-        let less : moment g order y < place order p * phases g = sooner (place order (producer g y)) (place order p) (phase (item_at g y)) (phases g) e (phase_below g y h) in
+        let less : moment g order y < place order p * phases g = sooner (place order (producer g y)) (place order p)
+        (phase (item_at g y)) (phases g) e (phase_below g y h) in
         omega (arith, at, less)
     send_later y h (inr (inl e)) =
         let at = moment_of_sent here in_here in
@@ -126,7 +155,8 @@ module _ (g : Graph) (order : List ℕ) (topological : IsTopological g order) (p
     send_later y h (inr (inr c)) =
         let at = moment_of_sent here in_here in
         let own = moment_of_sent y (Contains-take k (queue_of g p) y c) in
-        let less : rank_of_item (item_at g y) < rank_of_item (item_at g here) = below_first (rank_at g) (queue_of g p) (queue_rises g p) k inside y c in
+        let less : rank_of_item (item_at g y) < rank_of_item (item_at g here) =
+        below_first (rank_at g) (queue_of g p) (queue_rises g p) k inside y c in
         omega (arith, at, own, less)
 
     pub send_grows : (y : ℕ) → IsDone g order p k y → IsDone g order p (k + 1) y
@@ -140,28 +170,39 @@ module _ (g : Graph) (order : List ℕ) (topological : IsTopological g order) (p
     pub send_only : (y : ℕ) → IsDone g order p (k + 1) y → IsDone g order p k y ⊎ (y ≡ here)
     send_only y (inl e) = inl (inl e)
     send_only y (inr (inl e)) = inl (inr (inl e))
-    send_only y (inr (inr c)) = elim (take_next (queue_of g p) k y inside c) [ inl a ↦ inl (inr (inr a)) | inr e ↦ inr e ]
+    send_only y (inr (inr c)) =
+        elim (take_next (queue_of g p) k y inside c) [ inl a ↦ inl (inr (inr a)) | inr e ↦ inr e ]
 
   -- ---- the next place
 
-  among : (x : ℕ) → x < item_count g → is_frozen g x ≡ true → producer g x ≡ p → ItemCases g x → IsDone g order p (length (queue_of g p)) x
+  among : (x : ℕ) → x < item_count g → is_frozen g x ≡ true → producer g x ≡ p → ItemCases g x →
+      IsDone g order p (length (queue_of g p)) x
   among x h f by (inl c) = inr (inl (sym (ap (producer_of_item g) c.1) ∙ by))
   among x h f by (inr (inl c)) =
-      let sent : is_sent g x ≡ true = ap (is_sent_item g) c.3 ∙ (and_parts _ _ (sym (ap (is_frozen_item g) c.3) ∙ f)).0 in
-      inr (inr (subst (λ xs. Contains xs x) (sym (take_all (length (queue_of g p)) (queue_of g p) (omega arith))) (queue-Contains g p x h sent by)))
+      let sent : is_sent g x ≡ true =
+      ap (is_sent_item g) c.3 ∙ (and_parts _ _ (sym (ap (is_frozen_item g) c.3) ∙ f)).0 in
+      inr (inr (subst (λ xs. Contains xs x) (sym (take_all (length (queue_of g p)) (queue_of g p) (omega arith)))
+      (queue-Contains g p x h sent by)))
   among x h f by (inr (inr c)) = absurd (true≢false (sym f ∙ ap (is_frozen_item g) c.3))
 
-  pub next_done : (x : ℕ) → x < item_count g → is_frozen g x ≡ true → IsEarlier g order (place order p + 1) x → IsDone g order p (length (queue_of g p)) x
+  pub next_done : (x : ℕ) → x < item_count g → is_frozen g x ≡ true → IsEarlier g order (place order p + 1) x →
+      IsDone g order p (length (queue_of g p)) x
   next_done x h f e = elim (cases_lt (place order (producer g x)) (place order p)) [
     | inl less ↦ inl less
     | inr more ↦
         let same : place order (producer g x) ≡ place order p = omega (arith, e, more) in
-        let by : producer g x ≡ p = sym (get_or-place order (producer g x) 0 (Contains-order (process_count g) order topological.all (producer g x) (producer_in_range g order topological x h)))
-        ∙ ap (λ i. get_or order i 0) same ∙ get_or-place order p 0 (Contains-order (process_count g) order topological.all p l) in
+        let by : producer g x ≡ p = sym (get_or-place order (producer g x) 0 (Contains-order (process_count g) order
+        topological.all (producer g x) (producer_in_range g order topological x h)))
+        ∙ ap (λ i. get_or order i 0) same
+        ∙ get_or-place order p 0 (Contains-order (process_count g) order topological.all p l) in
         among x h f by (item_cases g x h)
   ]
 
-  pub next_earlier : (x : ℕ) → x < item_count g → IsDone g order p (length (queue_of g p)) x → IsEarlier g order (place order p + 1) x
+  pub next_earlier : (x : ℕ) → x < item_count g → IsDone g order p (length (queue_of g p)) x →
+      IsEarlier g order (place order p + 1) x
   next_earlier x h (inl e) = omega (arith, e)
-  next_earlier x h (inr (inl e)) = let is = ap (λ i. place order (producer_of_item g i)) (ap (item_at g) e ∙ item_at-start g p l) in omega (arith, is)
-  next_earlier x h (inr (inr c)) = let q = in_queue g p x (Contains-take (length (queue_of g p)) (queue_of g p) x c) in omega (arith, ap (place order) q.by)
+  next_earlier x h (inr (inl e)) =
+      let is = ap (λ i. place order (producer_of_item g i)) (ap (item_at g) e ∙ item_at-start g p l) in
+      omega (arith, is)
+  next_earlier x h (inr (inr c)) = let q = in_queue g p x (Contains-take (length (queue_of g p)) (queue_of g p) x c) in
+      omega (arith, ap (place order) q.by)

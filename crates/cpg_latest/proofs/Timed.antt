@@ -1,5 +1,6 @@
 -- What times that keep the rules of a run are, and what each is at or above.
-use Rattle.std.proofs.Common.{◌≡◌, ℕ, ◌+◌, ◌<◌, ◌≤◌, true, List, [], ◌∷◌, ◌++◌, flat_map, length, get_or, Contains, Option, Some, None, option_to_list, option_map, unwrap_or, refl, sym, ap, ◌∙◌}
+use Rattle.std.proofs.Common.{◌≡◌, ℕ, ◌+◌, ◌<◌, ◌≤◌, true, List, [], ◌∷◌, ◌++◌, flat_map, length, get_or, Contains}
+use Rattle.std.proofs.Common.{Option, Some, None, option_to_list, option_map, unwrap_or, refl, sym, ap, ◌∙◌}
 use Rattle.std.proofs.Common.{subst, arith, inl, inr, true≢false}
 use Rattle.std.proofs.lemmas.List.{get_or_past}
 use Rattle.std.proofs.lemmas.List.FromFn.{length-map-range_with_len}
@@ -7,27 +8,32 @@ use Rattle.std.proofs.lemmas.Option.{none-some}
 use Rattle.std.proofs.lemmas.Bool.{cond-true, cond-false, cases_lt, cases_Bool}
 use Rattle.std.proofs.lemmas.List.Elements.{Contains-append_left, Contains-append_right}
 use Rattle.cpg_base.specs.Numbers.{greatest}
-use Rattle.cpg_base.specs.Graph.{Graph, process_count, item_count, item_at, process_at, node_of, inputs, is_sent, is_sent_item, home, producer}
+use Rattle.cpg_base.specs.Graph.{Graph, process_count, item_count, item_at, process_at, node_of, inputs, is_sent}
+use Rattle.cpg_base.specs.Graph.{is_sent_item, home, producer}
 use Rattle.cpg_base.specs.declared.item.Item.{Item}
 use Rattle.cpg_base.specs.declared.item.Item.TheVariants.{Start, Message, Broadcast}
 use Rattle.cpg_base.specs.Activity.{item_active, active, live}
 use Rattle.cpg_base.specs.Bus.{next_slot, round}
-use Rattle.cpg_base.proofs.Lists.{get_or-map-below, Contains-first, Contains-rest, Contains-map, Contains-filter, greatest_above}
+use Rattle.cpg_base.proofs.Lists.{get_or-map-below, Contains-first, Contains-rest, Contains-map, Contains-filter}
+use Rattle.cpg_base.proofs.Lists.{greatest_above}
 use Rattle.cpg_base.proofs.Items.{item_at-start}
 use Rattle.cpg_base.specs.Scenario.{Scenario}
 use Rattle.cpg_base.specs.Order.{before_on_node}
 use Rattle.cpg_order.specs.Deciding.{deciding}
 use Rattle.cpg_order.specs.Queue.{queued_before}
 use Rattle.cpg_latest.specs.Timed.{IsTimed, end_where}
-use Rattle.cpg_run.specs.Run.{Times, time_in, end_in, time_by, unfrozen_time, bounds_of_item, start_bounds, input_bounds, processor_bounds, hearing_bounds, send_bounds, input_there, heard_there}
+use Rattle.cpg_run.specs.Run.{Times, time_in, end_in, time_by, unfrozen_time, bounds_of_item, start_bounds}
+use Rattle.cpg_run.specs.Run.{input_bounds, processor_bounds, hearing_bounds, send_bounds, input_there, heard_there}
 
-module _ (g : Graph) (order : List ℕ) (frozen : List (Option ℕ)) (s : Scenario) (t : Times) (run : IsTimed g order frozen s t) where
+module _ (g : Graph) (order : List ℕ) (frozen : List (Option ℕ)) (s : Scenario) (t : Times)
+    (run : IsTimed g order frozen s t) where
   -- the item is active in the scenario
   abbrev pub Acts : ℕ → Type 0
   Acts x = item_active g s.values (item_at g x) ≡ true
 
   pub time_is : (x : ℕ) → x < item_count g → get_or t.times x None ≡ time_by g order frozen s t x
-  time_is x l = ap (λ ts. get_or ts x None) run.times ∙ get_or-map-below (time_by g order frozen s t) (item_count g) x None l
+  time_is x l =
+      ap (λ ts. get_or ts x None) run.times ∙ get_or-map-below (time_by g order frozen s t) (item_count g) x None l
 
   -- the time of an active item
   abbrev pub time_of : ℕ → ℕ
@@ -49,7 +55,8 @@ module _ (g : Graph) (order : List ℕ) (frozen : List (Option ℕ)) (s : Scenar
       | inr a ↦ absurd (none-some y (sym (time_is x l ∙ cond-false _ _ _ a) ∙ e))
     ]
     | inr l ↦ absurd (none-some y (sym (get_or_past t.times x None
-        (omega (arith, ap length run.times, length-map-range_with_len (time_by g order frozen s t) 0 (item_count g)))) ∙ e))
+        (omega (arith, ap length run.times, length-map-range_with_len (time_by g order frozen s t) 0 (item_count g))))
+        ∙ e))
   ]
 
   pub start_acts : (p : ℕ) → p < process_count g → active g s.values p ≡ true → Acts p
@@ -59,7 +66,8 @@ module _ (g : Graph) (order : List ℕ) (frozen : List (Option ℕ)) (s : Scenar
   acts_start p l a = sym (ap (item_active g s.values) (item_at-start g p l)) ∙ a
 
   pub end_is : (p : ℕ) → p < process_count g → get_or t.ends p None ≡ end_where t run.end_of p
-  end_is p l = ap (λ ts. get_or ts p None) run.ends ∙ get_or-map-below (end_where t run.end_of) (process_count g) p None l
+  end_is p l =
+      ap (λ ts. get_or ts p None) run.ends ∙ get_or-map-below (end_where t run.end_of) (process_count g) p None l
 
   pub has_end : (p : ℕ) → p < process_count g → active g s.values p ≡ true → get_or t.ends p None ≡ Some (run.end_of p)
   has_end p l a = end_is p l ∙ ap (option_map (λ start. run.end_of p)) (has_time p (omega arith) (start_acts p l a))
@@ -68,32 +76,51 @@ module _ (g : Graph) (order : List ℕ) (frozen : List (Option ℕ)) (s : Scenar
   end_active p l a = ap (λ o. unwrap_or o 0) (has_end p l a)
 
   pub unfrozen_below : (x : ℕ) → x < item_count g → Acts x → unfrozen_time g order s t x ≤ time_in t x
-  unfrozen_below x l a = omega (arith, time_in_active x l a, greatest_above (unfrozen_time g order s t x ∷ option_to_list (get_or frozen x None)) (unfrozen_time g order s t x) (Contains-first _ _))
+  unfrozen_below x l a = omega (
+    arith,
+    time_in_active x l a,
+    greatest_above (unfrozen_time g order s t x ∷ option_to_list (get_or frozen x None)) (unfrozen_time g order s t x)
+        (Contains-first _ _),
+  )
 
-  bound_below : (x : ℕ) (b : ℕ) → x < item_count g → Acts x → Contains (bounds_of_item g order s t x (item_at g x)) b → b ≤ time_in t x
-  bound_below x b l a k = omega (arith, unfrozen_below x l a, greatest_above (bounds_of_item g order s t x (item_at g x)) b k)
+  bound_below : (x : ℕ) (b : ℕ) → x < item_count g → Acts x → Contains (bounds_of_item g order s t x (item_at g x)) b →
+      b ≤ time_in t x
+  bound_below x b l a k =
+      omega (arith, unfrozen_below x l a, greatest_above (bounds_of_item g order s t x (item_at g x)) b k)
 
-  start_bound : (p b : ℕ) → p < process_count g → active g s.values p ≡ true → Contains (start_bounds g order s t p) b → b ≤ time_in t p
-  start_bound p b l a k = bound_below p b (omega arith) (start_acts p l a) (subst (λ i. Contains (bounds_of_item g order s t p i) b) (sym (item_at-start g p l)) k)
+  start_bound : (p b : ℕ) → p < process_count g → active g s.values p ≡ true → Contains (start_bounds g order s t p) b →
+      b ≤ time_in t p
+  start_bound p b l a k = bound_below p b (omega arith) (start_acts p l a)
+      (subst (λ i. Contains (bounds_of_item g order s t p i) b) (sym (item_at-start g p l)) k)
 
-  pub release_below : (p : ℕ) → p < process_count g → active g s.values p ≡ true → (process_at g p).release ≤ time_in t p
+  pub release_below : (p : ℕ) → p < process_count g → active g s.values p ≡ true →
+      (process_at g p).release ≤ time_in t p
   release_below p l a = start_bound p _ l a (Contains-first _ _)
 
-  pub input_below : (p e : ℕ) → p < process_count g → active g s.values p ≡ true → Contains (inputs g p) e → live g s.values e ≡ true → input_there g t e ≤ time_in t p
+  pub input_below : (p e : ℕ) → p < process_count g → active g s.values p ≡ true → Contains (inputs g p) e →
+      live g s.values e ≡ true →
+      input_there g t e ≤ time_in t p
   input_below p e l a k v = start_bound p (input_there g t e) l a
-      (Contains-rest _ _ _ (Contains-append_left _ _ _ (Contains-append_left _ _ _ (Contains-map (input_there g t) _ e (Contains-filter (live g s.values) (inputs g p) e v k)))))
+      (Contains-rest _ _ _ (Contains-append_left _ _ _ (Contains-append_left _ _ _
+      (Contains-map (input_there g t) _ e (Contains-filter (live g s.values) (inputs g p) e v k)))))
 
-  pub before_below : (p q : ℕ) → p < process_count g → active g s.values p ≡ true → Contains (before_on_node g order p) q → active g s.values q ≡ true → end_in t q ≤ time_in t p
+  pub before_below : (p q : ℕ) → p < process_count g → active g s.values p ≡ true →
+      Contains (before_on_node g order p) q → active g s.values q ≡ true →
+      end_in t q ≤ time_in t p
   before_below p q l a k v = start_bound p (end_in t q) l a
       (Contains-rest _ _ _ (Contains-append_left _ (hearing_bounds g order s t p) _
-      (Contains-append_right (input_bounds g s t p) (processor_bounds g order s t p) _ (Contains-map (end_in t) _ q (Contains-filter (active g s.values) (before_on_node g order p) q v k)))))
+      (Contains-append_right (input_bounds g s t p) (processor_bounds g order s t p) _
+      (Contains-map (end_in t) _ q (Contains-filter (active g s.values) (before_on_node g order p) q v k)))))
 
-  pub hearing_below : (p c : ℕ) → p < process_count g → active g s.values p ≡ true → Contains (flat_map (deciding g s.values) (before_on_node g order p ++ p ∷ [])) c →
+  pub hearing_below : (p c : ℕ) → p < process_count g → active g s.values p ≡ true →
+      Contains (flat_map (deciding g s.values) (before_on_node g order p ++ p ∷ [])) c →
       heard_there g t (node_of g p) c ≤ time_in t p
   hearing_below p c l a k = start_bound p (heard_there g t (node_of g p) c) l a
-      (Contains-rest _ _ _ (Contains-append_right (input_bounds g s t p ++ processor_bounds g order s t p) (hearing_bounds g order s t p) _ (Contains-map (heard_there g t (node_of g p)) _ c k)))
+      (Contains-rest _ _ _ (Contains-append_right (input_bounds g s t p ++ processor_bounds g order s t p)
+      (hearing_bounds g order s t p) _ (Contains-map (heard_there g t (node_of g p)) _ c k)))
 
-  sent_bounds : (x : ℕ) (i : Item) → is_sent_item g i ≡ true → bounds_of_item g order s t x i ≡ send_bounds g order s t x
+  sent_bounds : (x : ℕ) (i : Item) → is_sent_item g i ≡ true →
+      bounds_of_item g order s t x i ≡ send_bounds g order s t x
   sent_bounds x (Start p) h = absurd (true≢false (sym h))
   sent_bounds x (Message e) h = refl
   sent_bounds x (Broadcast c) h = refl
@@ -101,12 +128,17 @@ module _ (g : Graph) (order : List ℕ) (frozen : List (Option ℕ)) (s : Scenar
   pub unfrozen_sent : (x : ℕ) → is_sent g x ≡ true → unfrozen_time g order s t x ≡ greatest (send_bounds g order s t x)
   unfrozen_sent x e = ap greatest (sent_bounds x (item_at g x) e)
 
-  send_bound : (x b : ℕ) → x < item_count g → Acts x → is_sent g x ≡ true → Contains (send_bounds g order s t x) b → b ≤ time_in t x
+  send_bound : (x b : ℕ) → x < item_count g → Acts x → is_sent g x ≡ true → Contains (send_bounds g order s t x) b →
+      b ≤ time_in t x
   send_bound x b l a e k = bound_below x b l a (subst (λ bs. Contains bs b) (sym (sent_bounds x (item_at g x) e)) k)
 
-  pub producer_below : (x : ℕ) → x < item_count g → Acts x → is_sent g x ≡ true → next_slot g (home g x) (end_in t (producer g x)) ≤ time_in t x
+  pub producer_below : (x : ℕ) → x < item_count g → Acts x → is_sent g x ≡ true →
+      next_slot g (home g x) (end_in t (producer g x)) ≤ time_in t x
   producer_below x l a e = send_bound x _ l a e (Contains-first _ _)
 
-  pub queue_below : (x y : ℕ) → x < item_count g → Acts x → is_sent g x ≡ true → Contains (queued_before g order x) y → Acts y → time_in t y + round g ≤ time_in t x
+  pub queue_below : (x y : ℕ) → x < item_count g → Acts x → is_sent g x ≡ true → Contains (queued_before g order x) y →
+      Acts y →
+      time_in t y + round g ≤ time_in t x
   queue_below x y l a e k v = send_bound x (time_in t y + round g) l a e
-      (Contains-rest _ _ _ (Contains-map (λ y. time_in t y + round g) _ y (Contains-filter (λ y. item_active g s.values (item_at g y)) (queued_before g order x) y v k)))
+      (Contains-rest _ _ _ (Contains-map (λ y. time_in t y + round g) _ y
+      (Contains-filter (λ y. item_active g s.values (item_at g y)) (queued_before g order x) y v k)))

@@ -1,9 +1,11 @@
 -- What is known before a place, and the process there with what it sends, give what is known before the next place.
-use Rattle.std.proofs.Common.{◌≡◌, ◌≢◌, ◌∙◌, ℕ, ◌+◌, ◌<◌, ◌≤◌, max, Bool, true, false, ◌&&◌, List, length, get_or, set, take, Contains, Option, Some, None, option_map, arith, refl, sym, ap, inl, inr}
+use Rattle.std.proofs.Common.{◌≡◌, ◌≢◌, ◌∙◌, ℕ, ◌+◌, ◌<◌, ◌≤◌, max, Bool, true, false, ◌&&◌, List, length, get_or, set}
+use Rattle.std.proofs.Common.{take, Contains, Option, Some, None, option_map, arith, refl, sym, ap, inl, inr}
 use Rattle.std.proofs.Common.{◌⊎◌, subst, true≢false, get_or-set_same, get_or-set_other}
 use Rattle.std.proofs.lemmas.Bool.{cases_lt, cases_eq, cases_Bool, cond-false}
 use Rattle.std.proofs.lemmas.List.{take_all}
-use Rattle.cpg_base.specs.Graph.{Graph, process_count, condition_count, item_count, item_at, edge_at, producer, producer_of_item, node_of, source, process_of, is_sent, is_sent_item}
+use Rattle.cpg_base.specs.Graph.{Graph, process_count, condition_count, item_count, item_at, edge_at, producer}
+use Rattle.cpg_base.specs.Graph.{producer_of_item, node_of, source, process_of, is_sent, is_sent_item}
 use Rattle.cpg_base.specs.declared.item.Item.{Item}
 use Rattle.cpg_base.specs.declared.item.Item.TheVariants.{Start, Message, Broadcast}
 use Rattle.cpg_base.specs.Activity.{active, live, takes, value_of, item_active}
@@ -29,13 +31,18 @@ and_none true = refl
 and_none false = refl
 
 -- what an inactive process makes is inactive
-idle_item : (g : Graph) (values : List Bool) (i : Item) → active g values (producer_of_item g i) ≡ false → item_active g values i ≡ false
+idle_item : (g : Graph) (values : List Bool) (i : Item) → active g values (producer_of_item g i) ≡ false →
+    item_active g values i ≡ false
 idle_item g values (Start p) h = h
-idle_item g values (Message e) h = ap (λ b. is_sent_item g (Message e) && (b && takes (edge_at g e).when (value_of g values (source g e)))) h ∙ and_none (is_sent_item g (Message e))
-idle_item g values (Broadcast c) h = ap (λ b. is_sent_item g (Broadcast c) && b) h ∙ and_none (is_sent_item g (Broadcast c))
+idle_item g values (Message e) h =
+    ap (λ b. is_sent_item g (Message e) && (b && takes (edge_at g e).when (value_of g values (source g e)))) h
+    ∙ and_none (is_sent_item g (Message e))
+idle_item g values (Broadcast c) h =
+    ap (λ b. is_sent_item g (Broadcast c) && b) h ∙ and_none (is_sent_item g (Broadcast c))
 
 -- what does not go over the bus is a start or inactive
-unsent_idle : (g : Graph) (values : List Bool) (i : Item) → is_sent_item g i ≡ false → ((p : ℕ) → i ≡ Start p → ⊥) → item_active g values i ≡ false
+unsent_idle : (g : Graph) (values : List Bool) (i : Item) → is_sent_item g i ≡ false → ((p : ℕ) → i ≡ Start p → ⊥) →
+    item_active g values i ≡ false
 unsent_idle g values (Start p) h other = absurd (other p refl)
 unsent_idle g values (Message e) h other = ap (λ b. b && live g values e) h
 unsent_idle g values (Broadcast c) h other = ap (λ b. b && active g values (process_of g c)) h
@@ -51,25 +58,35 @@ message_start e q h = true≢false (sym (ap starts_one h))
 broadcast_start : (c q : ℕ) → Broadcast c ≡ Start q → ⊥
 broadcast_start c q h = true≢false (sym (ap starts_one h))
 
-module _ (g : Graph) (order : List ℕ) (topological : IsTopological g order) (frozen : List (Option ℕ)) (s : Scenario) (t : Times) (run : IsTimed g order frozen s t)
+module _ (g : Graph) (order : List ℕ) (topological : IsTopological g order) (frozen : List (Option ℕ)) (s : Scenario)
+    (t : Times) (run : IsTimed g order frozen s t)
     (i p : ℕ) (l : p < process_count g) (at : place order p ≡ i) where
   up_to : (q : ℕ) → q < process_count g → place order q < i + 1 → (place order q < i) ⊎ (q ≡ p)
   up_to q k h = elim (cases_lt (place order q) i) [
     | inl less ↦ inl less
-    | inr more ↦ inr (same_place order q p (Contains-order (process_count g) order topological.all q k) (Contains-order (process_count g) order topological.all p l) (omega arith))
+    | inr more ↦ inr (same_place order q p (Contains-order (process_count g) order topological.all q k)
+        (Contains-order (process_count g) order topological.all p l) (omega arith))
   ]
 
   -- ---- when nodes are ready
 
-  pub ready_other : (node v : ℕ) → node ≢ node_of g p → IsReady g order s t i node v → IsReady g order s t (i + 1) node v
+  pub ready_other : (node v : ℕ) → node ≢ node_of g p → IsReady g order s t i node v →
+      IsReady g order s t (i + 1) node v
   ready_other node v other r = record {
-    ends = λ q k h same a. elim (up_to q k h) [ inl less ↦ r.ends q k less same a | inr e ↦ absurd (other (sym same ∙ ap (node_of g) e)) ];
-    heard = λ q c k h same m d. elim (up_to q k h) [ inl less ↦ r.heard q c k less same m d | inr e ↦ absurd (other (sym same ∙ ap (node_of g) e)) ];
-    least = λ b x y. r.least b (λ q k less same a. x q k (omega arith) same a) (λ q c k less same m d. y q c k (omega arith) same m d);
+    ends = λ q k h same a.
+        elim (up_to q k h) [ inl less ↦ r.ends q k less same a | inr e ↦ absurd (other (sym same ∙ ap (node_of g) e)) ];
+    heard = λ q c k h same m d. elim (up_to q k h) [
+      | inl less ↦ r.heard q c k less same m d
+      | inr e ↦ absurd (other (sym same ∙ ap (node_of g) e))
+    ];
+    least = λ b x y. r.least b (λ q k less same a. x q k (omega arith) same a)
+        (λ q c k less same m d. y q c k (omega arith) same m d);
   }
 
-  pub ready_here : (r h v : ℕ) → IsReady g order s t i (node_of g p) r → IsMost (λ c. (c < condition_count g) × (decides g s.values p c ≡ true)) (heard_there g t (node_of g p)) h
-      → max r h ≤ v → (active g s.values p ≡ true → end_in t p ≤ v) → ((b : ℕ) → max r h ≤ b → (active g s.values p ≡ true → end_in t p ≤ b) → v ≤ b)
+  pub ready_here : (r h v : ℕ) → IsReady g order s t i (node_of g p) r →
+      IsMost (λ c. (c < condition_count g) × (decides g s.values p c ≡ true)) (heard_there g t (node_of g p)) h
+      → max r h ≤ v → (active g s.values p ≡ true → end_in t p ≤ v) →
+      ((b : ℕ) → max r h ≤ b → (active g s.values p ≡ true → end_in t p ≤ b) → v ≤ b)
       → IsReady g order s t (i + 1) (node_of g p) v
   ready_here r h v ready heard above ended least = record {
     ends = λ q k less same a. elim (up_to q k less) [
@@ -81,7 +98,8 @@ module _ (g : Graph) (order : List ℕ) (topological : IsTopological g order) (f
       | inr e ↦ omega (arith, heard.above c (m, subst (λ z. decides g s.values z c ≡ true) e d))
     ];
     least = λ b x y.
-        let a = ready.least b (λ q k sooner same a. x q k (omega arith) same a) (λ q c k sooner same m d. y q c k (omega arith) same m d) in
+        let a = ready.least b (λ q k sooner same a. x q k (omega arith) same a)
+        (λ q c k sooner same m d. y q c k (omega arith) same m d) in
         let c = heard.least b (λ c d. y p c l (omega arith) refl d.0 d.1) in
         least b (omega arith) (λ acts. x p l (omega arith) refl acts);
   }
@@ -89,29 +107,42 @@ module _ (g : Graph) (order : List ℕ) (topological : IsTopological g order) (f
   pub ready_idle : (r h v : ℕ) → active g s.values p ≡ false → v ≡ max r h → IsReady g order s t i (node_of g p) r →
       IsMost (λ c. (c < condition_count g) × (decides g s.values p c ≡ true)) (heard_there g t (node_of g p)) h
       → IsReady g order s t (i + 1) (node_of g p) v
-  ready_idle r h v idle is ready heard = ready_here r h v ready heard (omega arith) (λ acts. absurd (true≢false (sym acts ∙ idle))) (λ b m acts. omega arith)
+  ready_idle r h v idle is ready heard = ready_here r h v ready heard (omega arith)
+      (λ acts. absurd (true≢false (sym acts ∙ idle))) (λ b m acts. omega arith)
 
-  pub ready_active : (r h v : ℕ) → active g s.values p ≡ true → v ≡ end_in t p → max r h ≤ v → IsReady g order s t i (node_of g p) r →
+  pub ready_active : (r h v : ℕ) → active g s.values p ≡ true → v ≡ end_in t p → max r h ≤ v →
+      IsReady g order s t i (node_of g p) r →
       IsMost (λ c. (c < condition_count g) × (decides g s.values p c ≡ true)) (heard_there g t (node_of g p)) h
       → IsReady g order s t (i + 1) (node_of g p) v
-  ready_active r h v acts is above ready heard = ready_here r h v ready heard above (λ _. omega arith) (λ b m ended. let e = ended acts in omega arith)
+  ready_active r h v acts is above ready heard =
+      ready_here r h v ready heard above (λ _. omega arith) (λ b m ended. let e = ended acts in omega arith)
 
   -- ---- when slots are free
 
   pub free_other : (node v : ℕ) → node ≢ node_of g p → IsFree g order s t i node v → IsFree g order s t (i + 1) node v
-  free_other node v other m = most_same (free_after g t) (IsSentBefore g order s node i) (IsSentBefore g order s node (i + 1)) v
-      (λ y h. (h.0, omega (arith, h.1)))
-      (λ y h. (h.0, elim (up_to (producer g y) (producer_in_range g order topological y h.0.within) h.1) [ inl less ↦ less | inr e ↦ absurd (other (sym h.0.home ∙ ap (node_of g) e)) ]))
-      m
-
-  pub free_idle : (node v : ℕ) → active g s.values p ≡ false → IsFree g order s t i node v → IsFree g order s t (i + 1) node v
-  free_idle node v idle m = most_same (free_after g t) (IsSentBefore g order s node i) (IsSentBefore g order s node (i + 1)) v
+  free_other node v other m =
+      most_same (free_after g t) (IsSentBefore g order s node i) (IsSentBefore g order s node (i + 1)) v
       (λ y h. (h.0, omega (arith, h.1)))
       (λ y h. (
         h.0,
         elim (up_to (producer g y) (producer_in_range g order topological y h.0.within) h.1) [
           | inl less ↦ less
-          | inr e ↦ absurd (true≢false (sym h.0.active ∙ idle_item g s.values (item_at g y) (ap (active g s.values) e ∙ idle)))
+          | inr e ↦ absurd (other (sym h.0.home ∙ ap (node_of g) e))
+        ],
+      ))
+      m
+
+  pub free_idle : (node v : ℕ) → active g s.values p ≡ false → IsFree g order s t i node v →
+      IsFree g order s t (i + 1) node v
+  free_idle node v idle m =
+      most_same (free_after g t) (IsSentBefore g order s node i) (IsSentBefore g order s node (i + 1)) v
+      (λ y h. (h.0, omega (arith, h.1)))
+      (λ y h. (
+        h.0,
+        elim (up_to (producer g y) (producer_in_range g order topological y h.0.within) h.1) [
+          | inl less ↦ less
+          | inr e ↦ absurd
+              (true≢false (sym h.0.active ∙ idle_item g s.values (item_at g y) (ap (active g s.values) e ∙ idle)))
         ],
       ))
       m
@@ -119,13 +150,18 @@ module _ (g : Graph) (order : List ℕ) (topological : IsTopological g order) (f
   in_whole : (y : ℕ) → Contains (queue_of g p) y → Contains (take (length (queue_of g p)) (queue_of g p)) y
   in_whole y c = subst (λ ys. Contains ys y) (sym (take_all (length (queue_of g p)) (queue_of g p) (omega arith))) c
 
-  pub free_here : (v : ℕ) → IsMost (IsSentBy g order s p (length (queue_of g p))) (free_after g t) v → IsFree g order s t (i + 1) (node_of g p) v
-  free_here v m = most_same (free_after g t) (IsSentBy g order s p (length (queue_of g p))) (IsSentBefore g order s (node_of g p) (i + 1)) v
+  pub free_here : (v : ℕ) → IsMost (IsSentBy g order s p (length (queue_of g p))) (free_after g t) v →
+      IsFree g order s t (i + 1) (node_of g p) v
+  free_here v m = most_same (free_after g t) (IsSentBy g order s p (length (queue_of g p)))
+      (IsSentBefore g order s (node_of g p) (i + 1)) v
       (λ y h. (
         h.0,
         elim h.1 [
           | inl less ↦ omega arith
-          | inr c ↦ omega (arith, ap (place order) (in_queue g p y (Contains-take (length (queue_of g p)) (queue_of g p) y c)).by)
+          | inr c ↦ omega (
+            arith,
+            ap (place order) (in_queue g p y (Contains-take (length (queue_of g p)) (queue_of g p) y c)).by,
+          )
         ],
       ))
       (λ y h. (
@@ -142,23 +178,27 @@ module _ (g : Graph) (order : List ℕ) (topological : IsTopological g order) (f
   no_time : (x : ℕ) → x < item_count g → item_active g s.values (item_at g x) ≡ false → get_or t.times x None ≡ None
   no_time x k idle = time_is g order frozen s t run x k ∙ cond-false _ _ _ idle
 
-  pub knows_idle : (known : Times) → active g s.values p ≡ false → Knows g order t i known → Knows g order t (i + 1) known
+  pub knows_idle : (known : Times) → active g s.values p ≡ false → Knows g order t i known →
+      Knows g order t (i + 1) known
   knows_idle known idle knows = record {
     times = λ x k h. elim (up_to (producer g x) (producer_in_range g order topological x k) h) [
       | inl less ↦ knows.times x k less
-      | inr e ↦ knows.later x k (omega (arith, ap (place order) e)) ∙ sym (no_time x k (idle_item g s.values (item_at g x) (ap (active g s.values) e ∙ idle)))
+      | inr e ↦ knows.later x k (omega (arith, ap (place order) e))
+          ∙ sym (no_time x k (idle_item g s.values (item_at g x) (ap (active g s.values) e ∙ idle)))
     ];
     later = λ x k h. knows.later x k (omega arith);
     ends = λ q k h. elim (up_to q k h) [
       | inl less ↦ knows.ends q k less
       | inr e ↦ knows.no_ends q k (omega (arith, ap (place order) e))
           ∙ sym (end_is g order frozen s t run q k ∙ ap (option_map (λ start. run.end_of q))
-          (no_time q (omega arith) (ap (item_active g s.values) (item_at-start g q k) ∙ ap (active g s.values) e ∙ idle)))
+          (no_time q (omega arith)
+          (ap (item_active g s.values) (item_at-start g q k) ∙ ap (active g s.values) e ∙ idle)))
     ];
     no_ends = λ q k h. knows.no_ends q k (omega arith);
   }
 
-  module _ (acts : active g s.values p ≡ true) (known begun new : Times) (start end free : ℕ) (knows : Knows g order t i known)
+  module _ (acts : active g s.values p ≡ true) (known begun new : Times) (start end free : ℕ)
+      (knows : Knows g order t i known)
       (places : length known.times ≡ item_count g) (ends : length known.ends ≡ process_count g)
       (starts : begun.times ≡ set known.times p (Some start)) (stops : begun.ends ≡ set known.ends p (Some end))
       (start_is : start ≡ time_in t p) (end_is : end ≡ end_in t p)
@@ -171,7 +211,8 @@ module _ (g : Graph) (order : List ℕ) (topological : IsTopological g order) (f
 
     -- what is neither the start nor sent is as before
     as_before : (x : ℕ) → x ≢ p → (Contains (queue_of g p) x → ⊥) → get_or new.times x None ≡ get_or known.times x None
-    as_before x other unqueued = sent.others x (λ c. unqueued (queued x c)) ∙ ap (λ ts. get_or ts x None) starts ∙ get_or-set_other known.times p x (Some start) None other
+    as_before x other unqueued = sent.others x (λ c. unqueued (queued x c)) ∙ ap (λ ts. get_or ts x None) starts
+        ∙ get_or-set_other known.times p x (Some start) None other
 
     elsewhere : (x : ℕ) → (producer g x ≡ p → ⊥) → get_or new.times x None ≡ get_or known.times x None
     elsewhere x other = as_before x (λ e. other (ap (producer g) e ∙ start_by p l)) (λ c. other (in_queue g p x c).by)
@@ -179,7 +220,8 @@ module _ (g : Graph) (order : List ℕ) (topological : IsTopological g order) (f
     its_start : get_or new.times p None ≡ get_or t.times p None
     its_start = sent.others p (λ c. let q = in_queue g p p (queued p c) in absurd (omega (arith, q.above)))
         ∙ ap (λ ts. get_or ts p None) starts ∙ get_or-set_same known.times p (Some start) None (omega arith)
-        ∙ ap Some start_is ∙ sym (has_time g order frozen s t run p (omega arith) (start_acts g order frozen s t run p l acts))
+        ∙ ap Some start_is
+        ∙ sym (has_time g order frozen s t run p (omega arith) (start_acts g order frozen s t run p l acts))
 
     its_item : (x : ℕ) → x < item_count g → producer g x ≡ p → get_or new.times x None ≡ get_or t.times x None
     its_item x k by = elim (cases_eq x p) [
@@ -188,7 +230,8 @@ module _ (g : Graph) (order : List ℕ) (topological : IsTopological g order) (f
         | inl bus ↦ sent.sent x (in_whole x (queue-Contains g p x k bus by))
         | inr local ↦ as_before x other (λ c. true≢false (sym (in_queue g p x c).sent ∙ local))
             ∙ knows.later x k (omega (arith, ap (place order) by))
-            ∙ sym (no_time x k (unsent_idle g s.values (item_at g x) local (λ q e. other (sym (start_of x q k e) ∙ by))))
+            ∙ sym
+            (no_time x k (unsent_idle g s.values (item_at g x) local (λ q e. other (sym (start_of x q k e) ∙ by))))
       ]
     ]
       where
@@ -200,11 +243,13 @@ module _ (g : Graph) (order : List ℕ) (topological : IsTopological g order) (f
         ]
 
     its_end : get_or new.ends p None ≡ get_or t.ends p None
-    its_end = ap (λ ts. get_or ts p None) (keeps.ends ∙ stops) ∙ get_or-set_same known.ends p (Some end) None (omega arith)
+    its_end =
+        ap (λ ts. get_or ts p None) (keeps.ends ∙ stops) ∙ get_or-set_same known.ends p (Some end) None (omega arith)
         ∙ ap Some (end_is ∙ end_active g order frozen s t run p l acts) ∙ sym (has_end g order frozen s t run p l acts)
 
     other_end : (q : ℕ) → q ≢ p → get_or new.ends q None ≡ get_or known.ends q None
-    other_end q other = ap (λ ts. get_or ts q None) (keeps.ends ∙ stops) ∙ get_or-set_other known.ends p q (Some end) None other
+    other_end q other =
+        ap (λ ts. get_or ts q None) (keeps.ends ∙ stops) ∙ get_or-set_other known.ends p q (Some end) None other
 
     pub knows_active : Knows g order t (i + 1) new
     knows_active = record {
@@ -217,5 +262,6 @@ module _ (g : Graph) (order : List ℕ) (topological : IsTopological g order) (f
         | inl less ↦ other_end q (λ e. absurd (omega (arith, ap (place order) e))) ∙ knows.ends q k less
         | inr e ↦ subst (λ z. get_or new.ends z None ≡ get_or t.ends z None) (sym e) its_end
       ];
-      no_ends = λ q k h. other_end q (λ e. absurd (omega (arith, ap (place order) e))) ∙ knows.no_ends q k (omega arith);
+      no_ends =
+          λ q k h. other_end q (λ e. absurd (omega (arith, ap (place order) e))) ∙ knows.no_ends q k (omega arith);
     }

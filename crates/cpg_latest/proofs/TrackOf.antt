@@ -1,5 +1,6 @@
 -- Each scenario has a track whose scenario with the same faults has its run.
-use Rattle.std.proofs.Common.{◌≡◌, ◌∙◌, ℕ, ◌<◌, Bool, true, false, not, ◌&&◌, ◌||◌, List, [], map, filter, length, get_or, Option, refl, sym, ap, subst, inl, inr}
+use Rattle.std.proofs.Common.{◌≡◌, ◌∙◌, ℕ, ◌<◌, Bool, true, false, not, ◌&&◌, ◌||◌, List, [], map, filter, length}
+use Rattle.std.proofs.Common.{get_or, Option, refl, sym, ap, subst, inl, inr}
 use Rattle.std.proofs.lemmas.Bool.{cases_Bool, or_left, or_right}
 use Rattle.std.proofs.lemmas.List.{get_or_default}
 use Rattle.std.proofs.lemmas.List.FromFn.{length-map-range_with_len}
@@ -31,29 +32,38 @@ and_off : (a b : Bool) → b ≡ false → (a && b) ≡ false
 and_off true b e = e
 and_off false b e = refl
 
-module _ (g : Graph) (urgency : List ℕ) (urgent : IsUrgencyOrder g urgency) (lawful : IsTopological g urgency) (s : Scenario) where
-  at_condition : (c : ℕ) → c < condition_count g → get_or (cleared g s.values) c false ≡ (get_or s.values c false && active g s.values (process_of g c))
-  at_condition c l = get_or-map-below (λ c. get_or s.values c false && active g s.values (process_of g c)) (condition_count g) c false l
+module _ (g : Graph) (urgency : List ℕ) (urgent : IsUrgencyOrder g urgency) (lawful : IsTopological g urgency)
+    (s : Scenario) where
+  at_condition : (c : ℕ) → c < condition_count g →
+      get_or (cleared g s.values) c false ≡ (get_or s.values c false && active g s.values (process_of g c))
+  at_condition c l = get_or-map-below (λ c. get_or s.values c false && active g s.values (process_of g c))
+      (condition_count g) c false l
 
   alike : AreActiveAlike g s (with_faults (cleared g s.values) s.faults)
   alike = record {
-    values = λ c l acts. and_on (get_or s.values c false) (active g s.values (process_of g c)) acts ∙ sym (at_condition c l);
+    values =
+        λ c l acts. and_on (get_or s.values c false) (active g s.values (process_of g c)) acts ∙ sym (at_condition c l);
     faults = λ p l acts. refl;
   }
 
   long : length (cleared g s.values) ≡ condition_count g
-  long = length-map-range_with_len (λ c. get_or s.values c false && active g s.values (process_of g c)) 0 (condition_count g)
+  long = length-map-range_with_len (λ c. get_or s.values c false && active g s.values (process_of g c)) 0
+      (condition_count g)
 
-  passes : (c : ℕ) → c < condition_count g → (not (get_or (cleared g s.values) c false) || active g (cleared g s.values) (process_of g c)) ≡ true
+  passes : (c : ℕ) → c < condition_count g →
+      (not (get_or (cleared g s.values) c false) || active g (cleared g s.values) (process_of g c)) ≡ true
   passes c l = elim (cases_Bool (active g s.values (process_of g c))) [
     | inl acts ↦ or_right (not (get_or (cleared g s.values) c false)) (active g (cleared g s.values) (process_of g c))
-        (sym (active_is_same g urgency urgent lawful s (with_faults (cleared g s.values) s.faults) alike (process_of g c) (process_of_below g c l)) ∙ acts)
+        (sym (active_is_same g urgency urgent lawful s (with_faults (cleared g s.values) s.faults) alike
+        (process_of g c) (process_of_below g c l)) ∙ acts)
     | inr idle ↦ or_left (not (get_or (cleared g s.values) c false)) (active g (cleared g s.values) (process_of g c))
         (ap not (at_condition c l ∙ and_off (get_or s.values c false) (active g s.values (process_of g c)) idle))
   ]
 
   cleared_is_track : is_track g (cleared g s.values) ≡ true
-  cleared_is_track = all_from (λ c. not (get_or (cleared g s.values) c false) || active g (cleared g s.values) (process_of g c)) (numbers_below (condition_count g))
+  cleared_is_track =
+      all_from (λ c. not (get_or (cleared g s.values) c false) || active g (cleared g s.values) (process_of g c))
+      (numbers_below (condition_count g))
       (λ c d. passes c (numbers-Contains (condition_count g) c d))
 
   -- the track at a place has the runs of the scenario, and what they rest on
@@ -61,26 +71,37 @@ module _ (g : Graph) (urgency : List ℕ) (urgent : IsUrgencyOrder g urgency) (l
     pub place : ℕ
     pub there : place < length tracks
     pub scenario : IsScenario g s → IsScenario g (with_faults (track_at tracks place) s.faults)
-    pub run : (order : List ℕ) (frozen : List (Option ℕ)) (t : Times) → IsTopological g order → IsRun g order frozen s t → IsRun g order frozen (with_faults (track_at tracks place) s.faults) t
-    pub active : (x : ℕ) → x < item_count g → item_active g s.values (item_at g x) ≡ item_active g (track_at tracks place) (item_at g x)
-    pub unfrozen : (order : List ℕ) (t : Times) (x : ℕ) → IsTopological g order → x < item_count g → unfrozen_time g order s t x ≡ unfrozen_time g order (with_faults (track_at tracks place) []) t x
+    pub run : (order : List ℕ) (frozen : List (Option ℕ)) (t : Times) → IsTopological g order →
+        IsRun g order frozen s t →
+        IsRun g order frozen (with_faults (track_at tracks place) s.faults) t
+    pub active : (x : ℕ) → x < item_count g →
+        item_active g s.values (item_at g x) ≡ item_active g (track_at tracks place) (item_at g x)
+    pub unfrozen : (order : List ℕ) (t : Times) (x : ℕ) → IsTopological g order → x < item_count g →
+        unfrozen_time g order s t x ≡ unfrozen_time g order (with_faults (track_at tracks place) []) t x
 
   -- what the cleared outcome has
-  of_outcome : (tracks : List (List Bool)) (i : ℕ) → i < length tracks → cleared g s.values ≡ track_at tracks i → HasTrack tracks
+  of_outcome : (tracks : List (List Bool)) (i : ℕ) → i < length tracks → cleared g s.values ≡ track_at tracks i →
+      HasTrack tracks
   of_outcome tracks i l is = record {
     place = i;
     there = l;
-    scenario = λ law. subst (λ o. IsScenario g (with_faults o s.faults)) is (record { values = long; faults = law.faults; budget = law.budget });
+    scenario = λ law. subst (λ o. IsScenario g (with_faults o s.faults)) is
+        (record { values = long; faults = law.faults; budget = law.budget });
     run = λ order frozen t topological run. subst (λ o. IsRun g order frozen (with_faults o s.faults) t) is
-        (run_of_alike g urgency urgent lawful s (with_faults (cleared g s.values) s.faults) alike order topological frozen t run);
+        (run_of_alike g urgency urgent lawful s
+        (with_faults (cleared g s.values) s.faults) alike order topological frozen t run);
     active = λ x k. subst (λ o. item_active g s.values (item_at g x) ≡ item_active g o (item_at g x)) is
         (item_is_same g urgency urgent lawful s (with_faults (cleared g s.values) s.faults) alike x (item_cases g x k));
-    unfrozen = λ order t x topological k. subst (λ o. unfrozen_time g order s t x ≡ unfrozen_time g order (with_faults o []) t x) is
-        (ap greatest (bounds_same g urgency urgent lawful s (with_faults (cleared g s.values) s.faults) alike order topological [] t x (item_cases g x k)));
+    unfrozen = λ order t x topological k.
+        subst (λ o. unfrozen_time g order s t x ≡ unfrozen_time g order (with_faults o []) t x) is
+        (ap greatest (bounds_same g urgency urgent lawful s
+        (with_faults (cleared g s.values) s.faults) alike order topological [] t x (item_cases g x k)));
   }
 
   pub has_track : (tracks : List (List Bool)) → AreTracks g tracks → HasTrack tracks
   has_track tracks all =
-      let c = Contains-permutation (filter (is_track g) (outcomes (condition_count g))) tracks (cleared g s.values) all.all
-      (Contains-filter (is_track g) (outcomes (condition_count g)) (cleared g s.values) cleared_is_track (Contains-outcomes (condition_count g) (cleared g s.values) long)) in
+      let c =
+      Contains-permutation (filter (is_track g) (outcomes (condition_count g))) tracks (cleared g s.values) all.all
+      (Contains-filter (is_track g) (outcomes (condition_count g)) (cleared g s.values) cleared_is_track
+      (Contains-outcomes (condition_count g) (cleared g s.values) long)) in
       of_outcome tracks c.0 c.1 (sym (get_or_default tracks c.0 [] (cleared g s.values) c.1 ∙ c.2))

@@ -1,5 +1,6 @@
 -- How far the latest times of a track have been found along an order: its courses, one for each number of faults.
-use Rattle.std.specs.Prelude.{ℕ, ◌+◌, ◌≡◌, ◌≤◌, ◌<◌, ◌⊎◌, ◌==◌, if◌then◌else◌, max, true, false, Bool, List, [], Option, None, Contains, filter, length, map, get_or, take, slice_set, zero, suc}
+use Rattle.std.specs.Prelude.{ℕ, ◌+◌, ◌≡◌, ◌≤◌, ◌<◌, ◌⊎◌, ◌==◌, if◌then◌else◌, max, true, false, Bool, List, [], Option}
+use Rattle.std.specs.Prelude.{None, Contains, filter, length, map, get_or, take, slice_set, zero, suc}
 use Rattle.cpg_base.specs.Graph.{Graph, item_count, node_of, condition_count, inputs, producer, is_frozen}
 use Rattle.cpg_base.specs.Activity.{active, live}
 use Rattle.cpg_base.specs.Duration.{duration}
@@ -33,12 +34,15 @@ GoesOn g Done frozen more = (x : ℕ) → x < item_count g → Done x → get_or
 
 -- so it is of the latest times of an outcome, whatever frozen times follow
 abbrev pub ForLatest : Graph → List ℕ → (ℕ → Type 0) → List (Option ℕ) → List Bool → ((ℕ → Times) → Type 0) → Type 0
-ForLatest g order Done frozen values P = (more : List (Option ℕ)) → GoesOn g Done frozen more → (late : ℕ → Times) → AreLatest g order more values late → P late
+ForLatest g order Done frozen values P = (more : List (Option ℕ)) → GoesOn g Done frozen more → (late : ℕ → Times) →
+    AreLatest g order more values late → P late
 
 -- the latest times with n faults are known before the place i
-pub record IsCourse (g : Graph) (order : List ℕ) (Done : ℕ → Type 0) (frozen : List (Option ℕ)) (values : List Bool) (i n : ℕ) (c : ProgressState) : Type 0 where
+pub record IsCourse (g : Graph) (order : List ℕ) (Done : ℕ → Type 0) (frozen : List (Option ℕ)) (values : List Bool)
+    (i n : ℕ) (c : ProgressState) : Type 0 where
   pub places : HasPlaces g c.known c.ready c.free
-  pub at : ForLatest g order Done frozen values (λ late. IsAt g order (with_faults values []) (late n) i c.known c.ready c.free)
+  pub at : ForLatest g order Done frozen values
+      (λ late. IsAt g order (with_faults values []) (late n) i c.known c.ready c.free)
 
 -- a process has begun and sent the first k of its items, and with the rest all is known before the next place
 pub record HasGone (g : Graph) (order : List ℕ) (s : Scenario) (t : Times) (p k : ℕ) (c : ProgressState) : Type 0 where
@@ -49,15 +53,19 @@ pub record HasGone (g : Graph) (order : List ℕ) (s : Scenario) (t : Times) (p 
   pub sent : HasSent g order s t p k begun c.known (get_or c.free (node_of g p) 0)
   pub keeps : KeepsEnds begun c.known
   pub free : c.free ≡ slice_set frees (node_of g p) (get_or c.free (node_of g p) 0)
-  pub next : (new : Times) (free : ℕ) → HasSent g order s t p (length (queue_of g p)) begun new free → KeepsEnds begun new →
+  pub next : (new : Times) (free : ℕ) → HasSent g order s t p (length (queue_of g p)) begun new free →
+      KeepsEnds begun new →
       IsAt g order s t (place order p + 1) new c.ready (slice_set frees (node_of g p) free)
 
 -- so it is of the latest times with n faults, if the process is active; else all is known before the next place
-pub record IsSending (g : Graph) (order : List ℕ) (Done : ℕ → Type 0) (frozen : List (Option ℕ)) (values : List Bool) (p k n : ℕ) (c : ProgressState) : Type 0 where
+pub record IsSending (g : Graph) (order : List ℕ) (Done : ℕ → Type 0) (frozen : List (Option ℕ)) (values : List Bool)
+    (p k n : ℕ) (c : ProgressState) : Type 0 where
   pub places : HasPlaces g c.known c.ready c.free
-  pub acts : active g values p ≡ true → ForLatest g order Done frozen values (λ late. HasGone g order (with_faults values []) (late n) p k c)
+  pub acts : active g values p ≡ true →
+      ForLatest g order Done frozen values (λ late. HasGone g order (with_faults values []) (late n) p k c)
   pub idle : active g values p ≡ false →
-      ForLatest g order Done frozen values (λ late. IsAt g order (with_faults values []) (late n) (place order p + 1) c.known c.ready c.free)
+      ForLatest g order Done frozen values
+      (λ late. IsAt g order (with_faults values []) (late n) (place order p + 1) c.known c.ready c.free)
 
 -- a course for each number of faults
 pub record IsLane (g : Graph) (P : ℕ → ProgressState → Type 0) (courses : List ProgressState) : Type 0 where
@@ -65,7 +73,8 @@ pub record IsLane (g : Graph) (P : ℕ → ProgressState → Type 0) (courses : 
   pub each : (n : ℕ) (d : ProgressState) → n < g.faults + 1 → P n (get_or courses n d)
 
 -- and such a lane for each track
-pub record AreLanes (g : Graph) (P : List Bool → ℕ → ProgressState → Type 0) (tracks : List (List Bool)) (lanes : List (List ProgressState)) : Type 0 where
+pub record AreLanes (g : Graph) (P : List Bool → ℕ → ProgressState → Type 0) (tracks : List (List Bool))
+    (lanes : List (List ProgressState)) : Type 0 where
   pub count : length lanes ≡ length tracks
   pub each : (i : ℕ) (d : List ProgressState) → i < length tracks → IsLane g (P (track_at tracks i)) (get_or lanes i d)
 
@@ -83,12 +92,14 @@ outcomes_of scenarios = map (λ s. s.values) scenarios
 
 -- each has a value for each condition
 abbrev pub HaveValues : Graph → List Scenario → Type 0
-HaveValues g scenarios = (i : ℕ) (d : Scenario) → i < length scenarios → length (get_or scenarios i d).values ≡ condition_count g
+HaveValues g scenarios =
+    (i : ℕ) (d : Scenario) → i < length scenarios → length (get_or scenarios i d).values ≡ condition_count g
 
 pub record IsAsked (g : Graph) (guards : Guards) (p : ℕ) (a : Asked) : Type 0 where
   pub long : length a.scenario.now.values ≡ condition_count g
   pub acts : a.acts ≡ active g a.scenario.now.values p
-  pub conditions : (urgency : List ℕ) → IsAdmitted g urgency guards → a.conditions.items ≡ deciding_along g urgency a.scenario.now.values p
+  pub conditions : (urgency : List ℕ) → IsAdmitted g urgency guards →
+      a.conditions.items ≡ deciding_along g urgency a.scenario.now.values p
   pub inputs : a.inputs.items ≡ filter (live g a.scenario.now.values) (inputs g p)
 
 abbrev pub AreAsked : Graph → Guards → ℕ → List Asked → Type 0
@@ -101,7 +112,8 @@ outcomes_asked asked = map (λ a. a.scenario.now.values) asked
 -- a node is ready for a process when it was ready before and has heard what decides the process
 pub record IsReadyFor (g : Graph) (values : List Bool) (p : ℕ) (c : ProgressState) (ready : ℕ) : Type 0 where
   pub heard : ℕ
-  pub is_heard : IsMost (λ c. (c < condition_count g) × (decides g values p c ≡ true)) (heard_there g c.known (node_of g p)) heard
+  pub is_heard : IsMost (λ c. (c < condition_count g) × (decides g values p c ≡ true))
+      (heard_there g c.known (node_of g p)) heard
   pub is : ready ≡ max (get_or c.ready (node_of g p) 0) heard
 
 -- ---- the ends of a process

@@ -1,5 +1,6 @@
 -- The courses of a track and of all tracks, as a process begins and sends in them.
-use Rattle.std.specs.Prelude.{ℕ, ◌+◌, ◌-◌, ◌≡◌, max, Bool, List, [], Option, Some, None, length, map, get_or, replicate, slice_set}
+use Rattle.std.specs.Prelude.{ℕ, ◌+◌, ◌-◌, ◌≡◌, max, Bool, List, [], Option, Some, None, length, map, get_or, replicate}
+use Rattle.std.specs.Prelude.{slice_set}
 use Rattle.cpg_base.specs.Bus.{next_slot, round}
 use Rattle.cpg_base.specs.Graph.{Graph, process_count, node_of, process_at}
 use Rattle.cpg_base.specs.Numbers.{greatest, numbers_below}
@@ -11,34 +12,41 @@ use Rattle.cpg_run.specs.Progress.{ProgressState}
 use Rattle.cpg_run.specs.Run.{end_in, input_bounds}
 use Rattle.cpg_run.specs.declared.setting.Setting.{Setting}
 use Rattle.cpg_latest.specs.Latest.{latest_end, with_faults}
-use Rattle.cpg_latest.specs.Course.{AreLanes, AreSettledOf, ForLatest, IsCourse, IsDone, IsEarlier, IsReadyFor, IsSending, last_end}
+use Rattle.cpg_latest.specs.Course.{AreLanes, AreSettledOf, ForLatest, IsCourse, IsDone, IsEarlier, IsReadyFor}
+use Rattle.cpg_latest.specs.Course.{IsSending, last_end}
 
 -- all is known before the place i
 abbrev pub IsBefore : Setting → List (Option ℕ) → ℕ → List Bool → ℕ → ProgressState → Type 0
-IsBefore setting frozen i values n c = IsCourse setting.problem.now setting.order.now (IsEarlier setting.problem.now setting.order.now i) frozen values i n c
+IsBefore setting frozen i values n c = IsCourse setting.problem.now setting.order.now
+    (IsEarlier setting.problem.now setting.order.now i) frozen values i n c
 
 -- all is known before a process, whose frozen time is set
 abbrev pub CanBegin : Setting → List (Option ℕ) → ℕ → List Bool → ℕ → ProgressState → Type 0
 CanBegin setting frozen p values n c =
-    IsCourse setting.problem.now setting.order.now (IsDone setting.problem.now setting.order.now p 0) frozen values (place setting.order.now p) n c
+    IsCourse setting.problem.now setting.order.now (IsDone setting.problem.now setting.order.now p 0) frozen values
+    (place setting.order.now p) n c
 
 -- a process has begun and sent the first k of its items, and the frozen times of the first d of them are set
 abbrev pub HasSentTo : Setting → List (Option ℕ) → ℕ → ℕ → ℕ → List Bool → ℕ → ProgressState → Type 0
-HasSentTo setting frozen p d k values n c = IsSending setting.problem.now setting.order.now (IsDone setting.problem.now setting.order.now p d) frozen values p k n c
+HasSentTo setting frozen p d k values n c = IsSending setting.problem.now setting.order.now
+    (IsDone setting.problem.now setting.order.now p d) frozen values p k n c
 
 -- the latest end of a process with one fault less
 abbrev pub IsLastEnd : Setting → List (Option ℕ) → ℕ → List Bool → ℕ → ℕ → Type 0
 IsLastEnd setting frozen p values n last =
-    ForLatest setting.problem.now setting.order.now (IsDone setting.problem.now setting.order.now p 0) frozen values (λ late. last ≡ last_end setting.problem.now late n p)
+    ForLatest setting.problem.now setting.order.now (IsDone setting.problem.now setting.order.now p 0) frozen values
+    (λ late. last ≡ last_end setting.problem.now late n p)
 
 -- its latest end
 abbrev pub IsEndOf : Setting → List (Option ℕ) → ℕ → List Bool → ℕ → ℕ → Type 0
 IsEndOf setting frozen p values n end =
-    ForLatest setting.problem.now setting.order.now (IsDone setting.problem.now setting.order.now p 0) frozen values (λ late. end ≡ latest_end setting.problem.now late n p)
+    ForLatest setting.problem.now setting.order.now (IsDone setting.problem.now setting.order.now p 0) frozen values
+    (λ late. end ≡ latest_end setting.problem.now late n p)
 
 -- the course with all the faults
 abbrev pub last_course : Graph → List ProgressState → ProgressState
-last_course g courses = get_or courses g.faults (record { known = record { times = []; ends = []; finish = 0 }; ready = []; free = [] })
+last_course g courses =
+    get_or courses g.faults (record { known = record { times = []; ends = []; finish = 0 }; ready = []; free = [] })
 
 -- when a process could start that isn't frozen
 pub record IsUnfrozenStart (g : Graph) (values : List Bool) (p : ℕ) (c : ProgressState) (time : ℕ) : Type 0 where
@@ -67,13 +75,17 @@ abbrev pub queued : Graph → ℕ → ℕ → ℕ
 queued g p at = get_or (queue_of g p) at 0
 
 -- along an order before the place i: the frozen times so far, and what is known of all tracks
-pub record AreKnown (setting : Setting) (tracks : List (List Bool)) (i : ℕ) (frozen : List (Option ℕ)) (lanes : List (List ProgressState)) : Type 0 where
-  pub settled : AreSettledOf setting.problem.now setting.order.now (IsEarlier setting.problem.now setting.order.now i) frozen
+pub record AreKnown (setting : Setting) (tracks : List (List Bool)) (i : ℕ) (frozen : List (Option ℕ))
+    (lanes : List (List ProgressState)) : Type 0 where
+  pub settled : AreSettledOf setting.problem.now setting.order.now
+      (IsEarlier setting.problem.now setting.order.now i) frozen
   pub known : AreLanes setting.problem.now (IsBefore setting frozen i) tracks lanes
 
 -- and while a process sends
-pub record AreSending (setting : Setting) (tracks : List (List Bool)) (p k : ℕ) (frozen : List (Option ℕ)) (lanes : List (List ProgressState)) : Type 0 where
-  pub settled : AreSettledOf setting.problem.now setting.order.now (IsDone setting.problem.now setting.order.now p k) frozen
+pub record AreSending (setting : Setting) (tracks : List (List Bool)) (p k : ℕ) (frozen : List (Option ℕ))
+    (lanes : List (List ProgressState)) : Type 0 where
+  pub settled : AreSettledOf setting.problem.now setting.order.now
+      (IsDone setting.problem.now setting.order.now p k) frozen
   pub known : AreLanes setting.problem.now (HasSentTo setting frozen p k k) tracks lanes
 
 -- one more item has its frozen time, and nothing else is changed
@@ -91,4 +103,5 @@ excess_of_course g c = greatest (map (λ p. end_in c.known p - due g p) (numbers
 
 -- a lane in which nothing is known
 abbrev pub no_lane : Graph → List ProgressState
-no_lane g = replicate (g.faults + 1) (record { known = no_times g; ready = replicate (length g.nodes) 0; free = replicate (length g.nodes) 0 })
+no_lane g = replicate (g.faults + 1)
+    (record { known = no_times g; ready = replicate (length g.nodes) 0; free = replicate (length g.nodes) 0 })

@@ -1,6 +1,7 @@
--- The latest times of a track along an order: those with at most so many faults on the ways to each item, from which the rules make
--- the next ones as they make the times of a run.
-use Rattle.std.specs.Prelude.{ℕ, ◌+◌, ◌-◌, ◌≡◌, ◌≤◌, Bool, List, [], Option, None, map, get_or, option_map, option_to_list}
+-- The latest times of a track along an order: those with at most so many faults on the ways to each item, from which
+-- the rules make the next ones as they make the times of a run.
+use Rattle.std.specs.Prelude.{ℕ, ◌+◌, ◌-◌, ◌≡◌, ◌≤◌, Bool, List, [], Option, None, map, get_or, option_map}
+use Rattle.std.specs.Prelude.{option_to_list}
 use Rattle.std.specs.Int.{div_ceil}
 use Rattle.std.specs.List.{flat_map}
 use Rattle.cpg_base.specs.Graph.{Graph, process_count, process_at, item_count}
@@ -29,8 +30,11 @@ latest_end_by g late n p = option_map (λ start. latest_end g late n p) (get_or 
 abbrev pub again : Graph → ℕ → ℕ
 again g p = (process_at g p).mu + div_ceil (process_at g p).wcet (process_at g p).parts + (process_at g p).alpha
 
--- the times of each number of faults are those that the rules make of each other; only the ends rest on those of fewer faults
-pub record AreLatest (g : Graph) (order : List ℕ) (frozen : List (Option ℕ)) (values : List Bool) (late : ℕ → Times) : Type 0 where
-  pub times : (n : ℕ) → n ≤ g.faults → (late n).times ≡ map (time_by g order frozen (with_faults values []) (late n)) (numbers_below (item_count g))
+-- the times of each number of faults are those that the rules make of each other; only the ends rest on those of fewer
+-- faults
+pub record AreLatest (g : Graph) (order : List ℕ) (frozen : List (Option ℕ)) (values : List Bool)
+    (late : ℕ → Times) : Type 0 where
+  pub times : (n : ℕ) → n ≤ g.faults →
+      (late n).times ≡ map (time_by g order frozen (with_faults values []) (late n)) (numbers_below (item_count g))
   pub ends : (n : ℕ) → n ≤ g.faults → (late n).ends ≡ map (latest_end_by g late n) (numbers_below (process_count g))
   pub finish : (n : ℕ) → n ≤ g.faults → (late n).finish ≡ greatest (flat_map option_to_list (late n).ends)

@@ -17,11 +17,15 @@ pub record IsNoLater (g : Graph) (order : List ℕ) (s : Scenario) (t u : Times)
 
 -- each run is no later than the latest times of its track with as many faults
 abbrev pub RunsAreNoLater : Type 0
-RunsAreNoLater = (g : Graph) (order : List ℕ) (frozen : List (Option ℕ)) (s : Scenario) (t : Times) (late : ℕ → Times) (n : ℕ) → IsTopological g order →
-    IsScenario g s → IsRun g order frozen s t → AreLatest g order frozen s.values late → sum s.faults ≤ n → n ≤ g.faults → IsNoLater g order s t (late n)
+RunsAreNoLater =
+    (g : Graph) (order : List ℕ) (frozen : List (Option ℕ)) (s : Scenario) (t : Times) (late : ℕ → Times) (n : ℕ) →
+    IsTopological g order →
+    IsScenario g s → IsRun g order frozen s t → AreLatest g order frozen s.values late → sum s.faults ≤ n →
+    n ≤ g.faults → IsNoLater g order s t (late n)
 
 -- in some run of the track with at most n faults a number is as great
-pub record IsReached (g : Graph) (order : List ℕ) (frozen : List (Option ℕ)) (values : List Bool) (n : ℕ) (of : Times → ℕ) (v : ℕ) : Type 0 where
+pub record IsReached (g : Graph) (order : List ℕ) (frozen : List (Option ℕ)) (values : List Bool) (n : ℕ)
+    (of : Times → ℕ) (v : ℕ) : Type 0 where
   pub faults : List ℕ
   pub lawful : IsScenario g (with_faults values faults)
   pub few : sum faults ≤ n
@@ -30,21 +34,29 @@ pub record IsReached (g : Graph) (order : List ℕ) (frozen : List (Option ℕ))
   pub is : v ≤ of times
 
 -- so it is of each latest time
-pub record AreReached (g : Graph) (order : List ℕ) (frozen : List (Option ℕ)) (values : List Bool) (late : ℕ → Times) (n : ℕ) : Type 0 where
+pub record AreReached (g : Graph) (order : List ℕ) (frozen : List (Option ℕ)) (values : List Bool) (late : ℕ → Times)
+    (n : ℕ) : Type 0 where
   pub items : (x : ℕ) → x < item_count g → IsReached g order frozen values n (λ t. time_in t x) (time_in (late n) x)
-  pub unfrozen : (x : ℕ) → x < item_count g → IsReached g order frozen values n (λ t. unfrozen_time g order (with_faults values []) t x) (unfrozen_time g order (with_faults values []) (late n) x)
+  pub unfrozen : (x : ℕ) → x < item_count g →
+      IsReached g order frozen values n (λ t. unfrozen_time g order (with_faults values []) t x)
+      (unfrozen_time g order (with_faults values []) (late n) x)
   pub ends : (p : ℕ) → p < process_count g → IsReached g order frozen values n (λ t. end_in t p) (end_in (late n) p)
 
 abbrev pub LatestAreReached : Type 0
-LatestAreReached = (g : Graph) (order : List ℕ) (frozen : List (Option ℕ)) (values : List Bool) (late : ℕ → Times) (n : ℕ) → IsTopological g order →
-    length values ≡ condition_count g → AreLatest g order frozen values late → n ≤ g.faults → AreReached g order frozen values late n
+LatestAreReached =
+    (g : Graph) (order : List ℕ) (frozen : List (Option ℕ)) (values : List Bool) (late : ℕ → Times) (n : ℕ) →
+    IsTopological g order →
+    length values ≡ condition_count g → AreLatest g order frozen values late → n ≤ g.faults →
+    AreReached g order frozen values late n
 
 -- ---- of all tracks
 
 -- the frozen times that they give are those of the runs
 abbrev pub LatestAreFrozen : Type 0
-LatestAreFrozen = (g : Graph) (urgency order : List ℕ) (frozen : List (Option ℕ)) (tracks : List (List Bool)) (lates : ℕ → ℕ → Times) →
-    IsUrgencyOrder g urgency → IsTopological g urgency → IsTopological g order → AreLatestOf g order frozen tracks lates →
+LatestAreFrozen = (g : Graph) (urgency order : List ℕ) (frozen : List (Option ℕ)) (tracks : List (List Bool))
+    (lates : ℕ → ℕ → Times) →
+    IsUrgencyOrder g urgency → IsTopological g urgency → IsTopological g order →
+    AreLatestOf g order frozen tracks lates →
     AreLatestFrozen g order tracks lates frozen → AreFrozenTimes g order frozen
 
 -- the greatest of all runs, and one that has it
@@ -58,8 +70,10 @@ pub record HasGreatest (g : Graph) (order : List ℕ) (frozen : List (Option ℕ
   pub is_worst : IsGreatest g order frozen (λ t. t.finish) worst
 
 abbrev pub LatestAreGreatest : Type 0
-LatestAreGreatest = (g : Graph) (urgency order : List ℕ) (frozen : List (Option ℕ)) (tracks : List (List Bool)) (lates : ℕ → ℕ → Times) →
-    IsUrgencyOrder g urgency → IsTopological g urgency → IsTopological g order → AreLatestOf g order frozen tracks lates →
+LatestAreGreatest = (g : Graph) (urgency order : List ℕ) (frozen : List (Option ℕ)) (tracks : List (List Bool))
+    (lates : ℕ → ℕ → Times) →
+    IsUrgencyOrder g urgency → IsTopological g urgency → IsTopological g order →
+    AreLatestOf g order frozen tracks lates →
     HasGreatest g order frozen (latest_excess g tracks lates) (latest_finish g tracks lates)
 
 -- the figures of an order, with its frozen times

@@ -13,7 +13,8 @@ abbrev pub track_at : List (List Bool) → ℕ → List Bool
 track_at tracks i = get_or tracks i []
 
 -- of each track those of each number of faults, under the same frozen times
-pub record AreLatestOf (g : Graph) (order : List ℕ) (frozen : List (Option ℕ)) (tracks : List (List Bool)) (lates : ℕ → ℕ → Times) : Type 0 where
+pub record AreLatestOf (g : Graph) (order : List ℕ) (frozen : List (Option ℕ)) (tracks : List (List Bool))
+    (lates : ℕ → ℕ → Times) : Type 0 where
   pub all : AreTracks g tracks
   pub each : (i : ℕ) → i < length tracks → AreLatest g order frozen (track_at tracks i) (lates i)
 
@@ -26,15 +27,20 @@ abbrev pub unfrozen_in : Graph → List ℕ → List (List Bool) → (ℕ → �
 unfrozen_in g order tracks lates x i = unfrozen_time g order (with_faults (track_at tracks i) []) (lates i g.faults) x
 
 -- a frozen item has the latest of these, or no time where it is active in no track
-pub record IsLatestFrozen (g : Graph) (order : List ℕ) (tracks : List (List Bool)) (lates : ℕ → ℕ → Times) (x : ℕ) (frozen : Option ℕ) : Type 0 where
-  pub reached : (time : ℕ) → frozen ≡ Some time → (i : ℕ) × (i < length tracks) × (acts_in g tracks x i ≡ true) × (unfrozen_in g order tracks lates x i ≡ time)
-  pub greatest : (time i : ℕ) → frozen ≡ Some time → i < length tracks → acts_in g tracks x i ≡ true → unfrozen_in g order tracks lates x i ≤ time
+pub record IsLatestFrozen (g : Graph) (order : List ℕ) (tracks : List (List Bool)) (lates : ℕ → ℕ → Times) (x : ℕ)
+    (frozen : Option ℕ) : Type 0 where
+  pub reached : (time : ℕ) → frozen ≡ Some time →
+      (i : ℕ) × (i < length tracks) × (acts_in g tracks x i ≡ true) × (unfrozen_in g order tracks lates x i ≡ time)
+  pub greatest : (time i : ℕ) → frozen ≡ Some time → i < length tracks → acts_in g tracks x i ≡ true →
+      unfrozen_in g order tracks lates x i ≤ time
   pub none : frozen ≡ None → (i : ℕ) → i < length tracks → acts_in g tracks x i ≡ false
 
 -- it rests on earlier items alone, so that the latest times and these are found along the order together
-pub record AreLatestFrozen (g : Graph) (order : List ℕ) (tracks : List (List Bool)) (lates : ℕ → ℕ → Times) (frozen : List (Option ℕ)) : Type 0 where
+pub record AreLatestFrozen (g : Graph) (order : List ℕ) (tracks : List (List Bool)) (lates : ℕ → ℕ → Times)
+    (frozen : List (Option ℕ)) : Type 0 where
   pub count : length frozen ≡ item_count g
-  pub each : (x : ℕ) → x < item_count g → is_frozen g x ≡ true → IsLatestFrozen g order tracks lates x (get_or frozen x None)
+  pub each : (x : ℕ) → x < item_count g → is_frozen g x ≡ true →
+      IsLatestFrozen g order tracks lates x (get_or frozen x None)
   pub others : (x : ℕ) → is_frozen g x ≡ false → get_or frozen x None ≡ None
 
 -- the greatest finish of the tracks

@@ -1,17 +1,21 @@
 -- The faults of a graph file are those of its document, and the first of them is told.
-use Rattle.std.proofs.Common.{◌≡◌, ◌↔◌, ℕ, List, [], ◌∷◌, ◌++◌, Option, Some, None, Ok, Err, Contains, refl, sym, ap, ◌∙◌, subst, inl, inr}
+use Rattle.std.proofs.Common.{◌≡◌, ◌↔◌, ℕ, List, [], ◌∷◌, ◌++◌, Option, Some, None, Ok, Err, Contains, refl, sym, ap}
+use Rattle.std.proofs.Common.{◌∙◌, subst, inl, inr}
 use Rattle.std.proofs.lemmas.List.Elements.{Contains-append_left, Contains-append_right}
 use Rattle.toml.specs.Data.{Members}
 use Rattle.cpg_base.proofs.Lists.{Contains-first, Contains-cases, Contains-nil}
 use Rattle.cpg_reader.specs.declared.place.ReadFault.{ReadFault}
-use Rattle.cpg_reader.specs.declared.place.ReadFault.TheVariants.{NotToml, BadField, DoubleName, UnknownName, OverLimit, OutOfMemory}
+use Rattle.cpg_reader.specs.declared.place.ReadFault.TheVariants.{NotToml, BadField, DoubleName, UnknownName, OverLimit}
+use Rattle.cpg_reader.specs.declared.place.ReadFault.TheVariants.{OutOfMemory}
 use Rattle.cpg_base.specs.Graph.{Graph}
 use Rattle.cpg_reader.specs.Reading.{Reading}
 use Rattle.cpg_reader.specs.Shape.{read_raw}
 use Rattle.cpg_reader.specs.Document.{members_if, document_of, problem_of}
-use Rattle.cpg_laws.specs.GraphFiles.{field_faults, limit_faults, double_faults, unknown_faults, graph_faults, document_faults, faults_of, IsFirst}
+use Rattle.cpg_laws.specs.GraphFiles.{field_faults, limit_faults, double_faults, unknown_faults, graph_faults}
+use Rattle.cpg_laws.specs.GraphFiles.{document_faults, faults_of, IsFirst}
 use Rattle.cpg_laws.specs.Refusals.{IsFirstOf}
-use Rattle.cpg_laws.specs.DocumentFaults.{document, HasGoodFields, IsFaultOf, IsFaultIn, IsFaulty, FilesAreRefusedByDocument}
+use Rattle.cpg_laws.specs.DocumentFaults.{document, HasGoodFields, IsFaultOf, IsFaultIn, IsFaulty}
+use Rattle.cpg_laws.specs.DocumentFaults.{FilesAreRefusedByDocument}
 use Rattle.cpg_laws.proofs.GraphFiles.{fields_first, graph_files_show_first_faults}
 use Rattle.cpg_laws.proofs.Refusals.{refusals_are_first}
 use Rattle.cpg_laws.proofs.DocumentValues.{graph_in, graph_is}
@@ -31,50 +35,70 @@ module _ (ms : Members) where
 
   graph_is_faulty : HasGoodFields ms → Each (IsFaultOf ms) (graph_faults (Ok (graph_in ms)))
   graph_is_faulty good =
-      each_joined (IsFaultOf ms) (limit_faults (graph_in ms)) (double_faults (graph_in ms) ++ unknown_faults (graph_in ms))
-      (each_weaker (IsOver ms) (IsFaultOf ms) (λ fault h. subst (IsFaultOf ms) (sym h.1) (good, h.2)) (limit_faults (graph_in ms)) (limits_over ms good))
+      each_joined (IsFaultOf ms) (limit_faults (graph_in ms))
+      (double_faults (graph_in ms) ++ unknown_faults (graph_in ms))
+      (each_weaker (IsOver ms) (IsFaultOf ms) (λ fault h. subst (IsFaultOf ms) (sym h.1) (good, h.2))
+      (limit_faults (graph_in ms)) (limits_over ms good))
       (each_joined (IsFaultOf ms) (double_faults (graph_in ms)) (unknown_faults (graph_in ms))
-      (each_weaker (IsTwice ms) (IsFaultOf ms) (λ fault h. subst (IsFaultOf ms) (sym h.1) (good, h.2)) (double_faults (graph_in ms)) (doubles_stand ms good))
-      (each_weaker (IsNameless ms) (IsFaultOf ms) (λ fault h. subst (IsFaultOf ms) (sym h.1) (good, h.2)) (unknown_faults (graph_in ms)) (unknowns_stand ms good)))
+      (each_weaker (IsTwice ms) (IsFaultOf ms) (λ fault h. subst (IsFaultOf ms) (sym h.1) (good, h.2))
+      (double_faults (graph_in ms)) (doubles_stand ms good))
+      (each_weaker (IsNameless ms) (IsFaultOf ms) (λ fault h. subst (IsFaultOf ms) (sym h.1) (good, h.2))
+      (unknown_faults (graph_in ms)) (unknowns_stand ms good)))
 
-  rest_is_faulty : (faults : List ReadFault) → field_faults ms ≡ faults → IsFirst faults (read_raw ms) → Each (IsFaultOf ms) (graph_faults (read_raw ms))
-  rest_is_faulty [] none h = let good = fields_are_good ms none in subst (λ r. Each (IsFaultOf ms) (graph_faults r)) (sym (read_is good)) (graph_is_faulty good)
+  rest_is_faulty : (faults : List ReadFault) → field_faults ms ≡ faults → IsFirst faults (read_raw ms) →
+      Each (IsFaultOf ms) (graph_faults (read_raw ms))
+  rest_is_faulty [] none h = let good = fields_are_good ms none in
+      subst (λ r. Each (IsFaultOf ms) (graph_faults r)) (sym (read_is good)) (graph_is_faulty good)
   rest_is_faulty (fault ∷ faults) is h = subst (λ r. Each (IsFaultOf ms) (graph_faults r)) (sym h) tt
 
   document_is_faulty : Each (IsFaultOf ms) (document_faults (Ok ms))
   document_is_faulty = each_joined (IsFaultOf ms) (field_faults ms) (graph_faults (read_raw ms))
-      (each_weaker (IsBad ms) (IsFaultOf ms) (λ fault h. subst (IsFaultOf ms) (sym h.1) h.2) (field_faults ms) (fields_are_bad ms))
+      (each_weaker (IsBad ms) (IsFaultOf ms) (λ fault h. subst (IsFaultOf ms) (sym h.1) h.2) (field_faults ms)
+      (fields_are_bad ms))
       (rest_is_faulty (field_faults ms) refl (fields_first ms))
 
-  in_graph : HasGoodFields ms → (fault : ReadFault) → Contains (graph_faults (Ok (graph_in ms))) fault → Contains (document_faults (Ok ms)) fault
-  in_graph good fault c = Contains-append_right (field_faults ms) (graph_faults (read_raw ms)) fault (subst (λ r. Contains (graph_faults r) fault) (sym (read_is good)) c)
+  in_graph : HasGoodFields ms → (fault : ReadFault) → Contains (graph_faults (Ok (graph_in ms))) fault →
+      Contains (document_faults (Ok ms)) fault
+  in_graph good fault c = Contains-append_right (field_faults ms) (graph_faults (read_raw ms)) fault
+      (subst (λ r. Contains (graph_faults r) fault) (sym (read_is good)) c)
 
-  in_names : HasGoodFields ms → (fault : ReadFault) → Contains (double_faults (graph_in ms) ++ unknown_faults (graph_in ms)) fault → Contains (document_faults (Ok ms)) fault
-  in_names good fault c = in_graph good fault (Contains-append_right (limit_faults (graph_in ms)) (double_faults (graph_in ms) ++ unknown_faults (graph_in ms)) fault c)
+  in_names : HasGoodFields ms → (fault : ReadFault) →
+      Contains (double_faults (graph_in ms) ++ unknown_faults (graph_in ms)) fault →
+      Contains (document_faults (Ok ms)) fault
+  in_names good fault c = in_graph good fault (Contains-append_right (limit_faults (graph_in ms))
+      (double_faults (graph_in ms) ++ unknown_faults (graph_in ms)) fault c)
 
   fault_there : (fault : ReadFault) → IsFaultOf ms fault → Contains (document_faults (Ok ms)) fault
   fault_there NotToml h = absurd h
-  fault_there (BadField at) h = Contains-append_left (field_faults ms) (graph_faults (read_raw ms)) (BadField at) (bad_field_there ms at h)
+  fault_there (BadField at) h =
+      Contains-append_left (field_faults ms) (graph_faults (read_raw ms)) (BadField at) (bad_field_there ms at h)
   fault_there (OverLimit what) h = in_graph h.0 (OverLimit what)
-      (Contains-append_left (limit_faults (graph_in ms)) (double_faults (graph_in ms) ++ unknown_faults (graph_in ms)) (OverLimit what) (limit_there ms h.0 what h.1))
-  fault_there (DoubleName at) h = in_names h.0 (DoubleName at) (Contains-append_left (double_faults (graph_in ms)) (unknown_faults (graph_in ms)) (DoubleName at) (double_there ms h.0 at h.1))
-  fault_there (UnknownName at) h = in_names h.0 (UnknownName at) (Contains-append_right (double_faults (graph_in ms)) (unknown_faults (graph_in ms)) (UnknownName at) (unknown_there ms h.0 at h.1))
+      (Contains-append_left (limit_faults (graph_in ms)) (double_faults (graph_in ms) ++ unknown_faults (graph_in ms))
+      (OverLimit what) (limit_there ms h.0 what h.1))
+  fault_there (DoubleName at) h = in_names h.0 (DoubleName at) (Contains-append_left (double_faults (graph_in ms))
+      (unknown_faults (graph_in ms)) (DoubleName at) (double_there ms h.0 at h.1))
+  fault_there (UnknownName at) h = in_names h.0 (UnknownName at) (Contains-append_right (double_faults (graph_in ms))
+      (unknown_faults (graph_in ms)) (UnknownName at) (unknown_there ms h.0 at h.1))
   fault_there OutOfMemory h = absurd h
 
 -- ---- one file
 
-faults_are : (o : Option Members) (fault : ReadFault) → Contains (document_faults (members_if o)) fault ↔ IsFaultIn o fault
+faults_are : (o : Option Members) (fault : ReadFault) →
+    Contains (document_faults (members_if o)) fault ↔ IsFaultIn o fault
 faults_are None fault = (
   λ c. elim (Contains-cases NotToml [] fault c) [ inl same ↦ sym same | inr rest ↦ absurd (Contains-nil fault rest) ],
   λ same. subst (λ f. Contains (NotToml ∷ []) f) (sym same) (Contains-first NotToml []),
 )
-faults_are (Some ms) fault = (each_contained (IsFaultOf ms) (document_faults (Ok ms)) (document_is_faulty ms) fault, fault_there ms fault)
+faults_are (Some ms) fault =
+    (each_contained (IsFaultOf ms) (document_faults (Ok ms)) (document_is_faulty ms) fault, fault_there ms fault)
 
 file_faults_are : (bytes : List ℕ) (fault : ReadFault) → Contains (faults_of bytes) fault ↔ IsFaulty bytes fault
 unfolding document_of
 file_faults_are bytes fault = faults_are (document bytes) fault
 
-first_by : (P Q : ReadFault → Type 0) → ((fault : ReadFault) → P fault → Q fault) → ((fault : ReadFault) → Q fault → P fault) → (fault : ReadFault) → IsFirstOf P fault → IsFirstOf Q fault
+first_by : (P Q : ReadFault → Type 0) → ((fault : ReadFault) → P fault → Q fault) →
+    ((fault : ReadFault) → Q fault → P fault) → (fault : ReadFault) → IsFirstOf P fault →
+    IsFirstOf Q fault
 first_by P Q there back fault h = record {
   stands = there fault h.stands;
   kinds = λ other c. h.kinds other (back other c);
@@ -84,7 +108,8 @@ first_by P Q there back fault h = record {
 same_fault : {T : Type 0} (r : Reading T) (fault other : ReadFault) → r ≡ Err fault → r ≡ Err other → fault ≡ other
 same_fault r fault other e f = cc
 
-read_where : {T : Type 0} (faults : List ReadFault) (r : Reading T) → IsFirst faults r → ((x : T) × (r ≡ Ok x)) ↔ ((fault : ReadFault) → Contains faults fault → ⊥)
+read_where : {T : Type 0} (faults : List ReadFault) (r : Reading T) → IsFirst faults r →
+    ((x : T) × (r ≡ Ok x)) ↔ ((fault : ReadFault) → Contains faults fault → ⊥)
 read_where [] r told = (λ h fault c. Contains-nil fault c, λ none. told)
 read_where (f ∷ faults) r told = (λ h. absurd (let ok = h.1 in cc), λ none. absurd (none f (Contains-first f faults)))
 
@@ -97,8 +122,10 @@ module _ (bytes : List ℕ) where
 
   first_is_told : (fault : ReadFault) → (problem_of bytes ≡ Err fault) ↔ IsFirstOf (IsFaulty bytes) fault
   first_is_told fault =
-      let (told, first) = (refusals_are_first bytes).first fault in
-      (λ e. first_by (Contains (faults_of bytes)) (IsFaulty bytes) there back fault (told e), λ h. first (first_by (IsFaulty bytes) (Contains (faults_of bytes)) back there fault h))
+      let (told, first) = (refusals_are_first bytes).first fault in (
+        λ e. first_by (Contains (faults_of bytes)) (IsFaulty bytes) there back fault (told e),
+        λ h. first (first_by (IsFaulty bytes) (Contains (faults_of bytes)) back there fault h),
+      )
 
   read_is_faultless : ((g : Graph) × (problem_of bytes ≡ Ok g)) ↔ ((fault : ReadFault) → IsFaulty bytes fault → ⊥)
   read_is_faultless =
@@ -109,6 +136,7 @@ pub files_are_refused_by_document : FilesAreRefusedByDocument
 files_are_refused_by_document bytes = record {
   faults = file_faults_are bytes;
   first = first_is_told bytes;
-  one = λ fault other h k. same_fault (problem_of bytes) fault other ((first_is_told bytes fault).1 h) ((first_is_told bytes other).1 k);
+  one = λ fault other h k.
+      same_fault (problem_of bytes) fault other ((first_is_told bytes fault).1 h) ((first_is_told bytes other).1 k);
   read = read_is_faultless bytes;
 }

@@ -1,15 +1,19 @@
 -- What a document says if its fields are good, by what stands at its keys.
-use Rattle.std.proofs.Common.{◌≡◌, ℕ, ◌+◌, ℤ, pos, Bool, false, List, [], ◌∷◌, Option, Some, None, Ok, Err, unwrap_or, option_and_then, map, refl, subst}
+use Rattle.std.proofs.Common.{◌≡◌, ℕ, ◌+◌, ℤ, pos, Bool, false, List, [], ◌∷◌, Option, Some, None, Ok, Err, unwrap_or}
+use Rattle.std.proofs.Common.{option_and_then, map, refl, subst}
 use Rattle.toml.specs.Data.{Data, Members, get_member, as_integer, as_bool}
 use Rattle.cpg_reader.specs.declared.place.Table.{Table}
 use Rattle.cpg_reader.specs.declared.place.Table.TheVariants as tables
 use Rattle.cpg_reader.specs.declared.place.Key.{Key}
-use Rattle.cpg_reader.specs.declared.place.Key.TheVariants.{Faults, Deadline, Node, Slot, Process, Edge, Order, Name, Length, Bytes, Wcet, Parts, Alpha, Chi, Mu, Join, Frozen, Release, From, To, When}
+use Rattle.cpg_reader.specs.declared.place.Key.TheVariants.{Faults, Deadline, Node, Slot, Process, Edge, Order, Name}
+use Rattle.cpg_reader.specs.declared.place.Key.TheVariants.{Length, Bytes, Wcet, Parts, Alpha, Chi, Mu, Join, Frozen}
+use Rattle.cpg_reader.specs.declared.place.Key.TheVariants.{Release, From, To, When}
 use Rattle.cpg_reader.specs.declared.shape.RawSlot.{RawSlot}
 use Rattle.cpg_reader.specs.declared.shape.RawProcess.{RawProcess}
 use Rattle.cpg_reader.specs.declared.shape.RawEdge.{RawEdge}
 use Rattle.cpg_reader.specs.Reading.{Reading, pure, ◌>>=◌, ◌>>◌, each}
-use Rattle.cpg_reader.specs.Rows.{DocumentRow, value_at, text_of, as_name, as_names, as_tables, typed_in, optional_in, optional, required_in, required, with_default, read_name, read_integer, integer_or}
+use Rattle.cpg_reader.specs.Rows.{DocumentRow, value_at, text_of, as_name, as_names, as_tables, typed_in, optional_in}
+use Rattle.cpg_reader.specs.Rows.{optional, required_in, required, with_default, read_name, read_integer, integer_or}
 use Rattle.cpg_reader.specs.Rows.{flag_or, read_array}
 use Rattle.cpg_reader.specs.Shape.{RawGraph, read_node, read_slot, read_process, read_edge, read_rows, read_raw}
 use Rattle.cpg_laws.specs.GraphFiles.{top_of, elements}
@@ -18,7 +22,8 @@ use Rattle.cpg_laws.specs.GraphFiles.{top_of, elements}
 record Gives {T : Type 0} (r : Reading T) (x : T) : Type 0 where
   is : (y : T) → r ≡ Ok y → y ≡ x
 
-bind_gives : {T U : Type 0} (r : Reading T) (next : T → Reading U) (x : T) (z : U) → Gives r x → Gives (next x) z → Gives (r >>= next) z
+bind_gives : {T U : Type 0} (r : Reading T) (next : T → Reading U) (x : T) (z : U) → Gives r x → Gives (next x) z →
+    Gives (r >>= next) z
 bind_gives (Ok w) next x z h k = record { is = λ y e. k.is y (subst (λ v. next v ≡ Ok y) (h.is w refl) e) }
 bind_gives (Err fault) next x z h k = record { is = λ y e. cc }
 
@@ -29,10 +34,14 @@ seq_gives (Err fault) next z k = record { is = λ y e. cc }
 pure_gives : {T : Type 0} (x : T) → Gives (pure x) x
 pure_gives x = record { is = λ y e. cc }
 
-each_gives : {T U : Type 0} (step : ℕ → T → Reading U) (f : T → U) → ((i : ℕ) (x : T) → Gives (step i x) (f x)) → (i : ℕ) (xs : List T) → Gives (each step i xs) (map f xs)
+each_gives : {T U : Type 0} (step : ℕ → T → Reading U) (f : T → U) → ((i : ℕ) (x : T) → Gives (step i x) (f x)) →
+    (i : ℕ) (xs : List T) →
+    Gives (each step i xs) (map f xs)
 each_gives step f gives i [] = pure_gives []
-each_gives step f gives i (x ∷ xs) = bind_gives (step i x) (λ y. each step (i + 1) xs >>= (λ ys. pure (y ∷ ys))) (f x) (f x ∷ map f xs) (gives i x)
-    (bind_gives (each step (i + 1) xs) (λ ys. pure (f x ∷ ys)) (map f xs) (f x ∷ map f xs) (each_gives step f gives (i + 1) xs) (pure_gives (f x ∷ map f xs)))
+each_gives step f gives i (x ∷ xs) =
+    bind_gives (step i x) (λ y. each step (i + 1) xs >>= (λ ys. pure (y ∷ ys))) (f x) (f x ∷ map f xs) (gives i x)
+    (bind_gives (each step (i + 1) xs) (λ ys. pure (f x ∷ ys)) (map f xs) (f x ∷ map f xs)
+    (each_gives step f gives (i + 1) xs) (pure_gives (f x ∷ map f xs)))
 
 -- ---- what stands at a key
 
@@ -63,11 +72,13 @@ module _ {T : Type 0} (as_type : Data → Option T) (row : DocumentRow) (key : K
   optional_gives = optional_by (value_at row key)
 
   required_gives : (x : T) → Gives (required as_type row key) (unwrap_or (value_in as_type row.members key) x)
-  required_gives x = bind_gives (optional as_type row key) (required_in row key) (value_in as_type row.members key) (unwrap_or (value_in as_type row.members key) x) optional_gives
+  required_gives x = bind_gives (optional as_type row key) (required_in row key) (value_in as_type row.members key)
+      (unwrap_or (value_in as_type row.members key) x) optional_gives
       (required_by x (value_in as_type row.members key))
 
   default_gives : (x : T) → Gives (with_default x as_type row key) (unwrap_or (value_in as_type row.members key) x)
-  default_gives x = bind_gives (optional as_type row key) (λ found. pure (unwrap_or found x)) (value_in as_type row.members key) (unwrap_or (value_in as_type row.members key) x) optional_gives
+  default_gives x = bind_gives (optional as_type row key) (λ found. pure (unwrap_or found x))
+      (value_in as_type row.members key) (unwrap_or (value_in as_type row.members key) x) optional_gives
       (pure_gives (unwrap_or (value_in as_type row.members key) x))
 
 -- ---- the elements
@@ -77,7 +88,8 @@ node_in ms = name_in ms Name
 
 -- a number that is needed counts, if it is missing, as one in its range
 abbrev pub slot_in : Members → RawSlot
-slot_in ms = record { node = name_in ms Node; length = integer_in ms Length (pos 1); bytes = integer_in ms Bytes (pos 1) }
+slot_in ms =
+    record { node = name_in ms Node; length = integer_in ms Length (pos 1); bytes = integer_in ms Bytes (pos 1) }
 
 abbrev pub process_in : Members → RawProcess
 process_in ms = record {
@@ -97,7 +109,13 @@ process_in ms = record {
 }
 
 abbrev pub edge_in : Members → RawEdge
-edge_in ms = record { from = name_in ms From; to = name_in ms To; bytes = integer_in ms Bytes (pos 1); when = value_in as_bool ms When; frozen = unwrap_or (value_in as_bool ms Frozen) false }
+edge_in ms = record {
+  from = name_in ms From;
+  to = name_in ms To;
+  bytes = integer_in ms Bytes (pos 1);
+  when = value_in as_bool ms When;
+  frozen = unwrap_or (value_in as_bool ms Frozen) false;
+}
 
 -- the whole document
 abbrev pub graph_in : Members → RawGraph
@@ -125,7 +143,8 @@ module _ (row : DocumentRow) where
   unfolding integer_or
   integer_or_gives key absent = default_gives as_integer row key absent
 
-  flag_gives : (key : Key) (absent : Bool) → Gives (flag_or absent row key) (unwrap_or (value_in as_bool row.members key) absent)
+  flag_gives : (key : Key) (absent : Bool) →
+      Gives (flag_or absent row key) (unwrap_or (value_in as_bool row.members key) absent)
   unfolding flag_or
   flag_gives key absent = default_gives as_bool row key absent
 
@@ -139,39 +158,49 @@ module _ (row : DocumentRow) where
 
   slot_gives : Gives (read_slot row) (slot_in row.members)
   unfolding read_slot
-  slot_gives = bind_gives _ _ _ _ (name_gives Node) (bind_gives _ _ _ _ (integer_gives Length (pos 1)) (bind_gives _ _ _ _ (integer_gives Bytes (pos 1)) (seq_gives _ _ _ (pure_gives _))))
+  slot_gives = bind_gives _ _ _ _ (name_gives Node) (bind_gives _ _ _ _ (integer_gives Length (pos 1))
+      (bind_gives _ _ _ _ (integer_gives Bytes (pos 1)) (seq_gives _ _ _ (pure_gives _))))
 
   process_gives : Gives (read_process row) (process_in row.members)
   unfolding read_process
   process_gives =
-      bind_gives _ _ _ _ (name_gives Name) (bind_gives _ _ _ _ (name_gives Node) (bind_gives _ _ _ _ (integer_gives Wcet (pos 1)) (bind_gives _ _ _ _ (integer_or_gives Parts (pos 1))
+      bind_gives _ _ _ _ (name_gives Name) (bind_gives _ _ _ _ (name_gives Node)
+      (bind_gives _ _ _ _ (integer_gives Wcet (pos 1)) (bind_gives _ _ _ _ (integer_or_gives Parts (pos 1))
       (bind_gives _ _ _ _ (integer_or_gives Alpha (pos 0))
-      (bind_gives _ _ _ _ (integer_or_gives Chi (pos 0)) (bind_gives _ _ _ _ (integer_or_gives Mu (pos 0)) (bind_gives _ _ _ _ (flag_gives Join false)
+      (bind_gives _ _ _ _ (integer_or_gives Chi (pos 0))
+      (bind_gives _ _ _ _ (integer_or_gives Mu (pos 0)) (bind_gives _ _ _ _ (flag_gives Join false)
       (bind_gives _ _ _ _ (flag_gives Frozen false)
-      (bind_gives _ _ _ _ (integer_or_gives Release (pos 0)) (bind_gives _ _ _ _ (optional_gives as_integer row Deadline) (seq_gives _ _ _ (pure_gives _))))))))))))
+      (bind_gives _ _ _ _ (integer_or_gives Release (pos 0))
+      (bind_gives _ _ _ _ (optional_gives as_integer row Deadline) (seq_gives _ _ _ (pure_gives _))))))))))))
 
   edge_gives : Gives (read_edge row) (edge_in row.members)
   unfolding read_edge
   edge_gives = bind_gives _ _ _ _ (name_gives From)
       (bind_gives _ _ _ _ (name_gives To) (bind_gives _ _ _ _ (integer_or_gives Bytes (pos 1))
-      (bind_gives _ _ _ _ (optional_gives as_bool row When) (bind_gives _ _ _ _ (flag_gives Frozen false) (seq_gives _ _ _ (pure_gives _))))))
+      (bind_gives _ _ _ _ (optional_gives as_bool row When)
+      (bind_gives _ _ _ _ (flag_gives Frozen false) (seq_gives _ _ _ (pure_gives _))))))
 
-rows_give : {T : Type 0} (table : Table) (element_at : DocumentRow → Reading T) (element_in : Members → T) → ((row : DocumentRow) → Gives (element_at row) (element_in row.members)) →
+rows_give : {T : Type 0} (table : Table) (element_at : DocumentRow → Reading T) (element_in : Members → T) →
+    ((row : DocumentRow) → Gives (element_at row) (element_in row.members)) →
     (members : List Members) → Gives (read_rows table element_at members) (map element_in members)
-rows_give table element_at element_in gives members = each_gives (λ i ms. element_at (record { table = table; index = i; members = ms })) element_in
+rows_give table element_at element_in gives members =
+    each_gives (λ i ms. element_at (record { table = table; index = i; members = ms })) element_in
     (λ i ms. gives (record { table = table; index = i; members = ms })) 0 members
 
 graph_gives : (ms : Members) → Gives (read_raw ms) (graph_in ms)
 unfolding read_raw
 graph_gives ms =
-    bind_gives _ _ _ _ (integer_gives (top_of ms) Faults (pos 0)) (bind_gives _ _ _ _ (integer_gives (top_of ms) Deadline (pos 0))
+    bind_gives _ _ _ _ (integer_gives (top_of ms) Faults (pos 0))
+    (bind_gives _ _ _ _ (integer_gives (top_of ms) Deadline (pos 0))
     (bind_gives _ _ _ _ (list_gives (top_of ms) Node)
-    (bind_gives _ _ _ _ (list_gives (top_of ms) Slot) (bind_gives _ _ _ _ (list_gives (top_of ms) Process) (bind_gives _ _ _ _ (list_gives (top_of ms) Edge)
+    (bind_gives _ _ _ _ (list_gives (top_of ms) Slot)
+    (bind_gives _ _ _ _ (list_gives (top_of ms) Process) (bind_gives _ _ _ _ (list_gives (top_of ms) Edge)
     (bind_gives _ _ _ _ (optional_gives as_names (top_of ms) Order)
     (seq_gives _ _ _ (bind_gives _ _ _ _ (rows_give tables.Node read_node node_in node_gives (elements ms Node))
     (bind_gives _ _ _ _ (rows_give tables.Slot read_slot slot_in slot_gives (elements ms Slot))
     (bind_gives _ _ _ _ (rows_give tables.Process read_process process_in process_gives (elements ms Process))
-    (bind_gives _ _ _ _ (rows_give tables.Edge read_edge edge_in edge_gives (elements ms Edge)) (pure_gives _))))))))))))
+    (bind_gives _ _ _ _ (rows_give tables.Edge read_edge edge_in edge_gives (elements ms Edge))
+    (pure_gives _))))))))))))
 
 -- the graph that is read is the one of the document
 pub graph_is : (ms : Members) (g : RawGraph) → read_raw ms ≡ Ok g → g ≡ graph_in ms

@@ -1,5 +1,6 @@
 -- What stands in a list of faults: what holds of each of them, and which of them are there.
-use Rattle.std.proofs.Common.{◌≡◌, ℕ, zero, suc, ◌+◌, Bool, true, false, cond, ◌||◌, List, [], ◌∷◌, ◌++◌, Some, is_some, Contains, map, position, slice_get, refl, sym, ap, ◌∙◌, subst, ⊎_elim, arith}
+use Rattle.std.proofs.Common.{◌≡◌, ℕ, zero, suc, ◌+◌, Bool, true, false, cond, ◌||◌, List, [], ◌∷◌, ◌++◌, Some, is_some}
+use Rattle.std.proofs.Common.{Contains, map, position, slice_get, refl, sym, ap, ◌∙◌, subst, ⊎_elim, arith}
 use Rattle.std.proofs.Common.{add-zero, zero-add}
 use Rattle.std.specs.List.{list_any, position_from}
 use Rattle.std.proofs.lemmas.Bool.{false≢true}
@@ -21,7 +22,8 @@ Stand Q i (x ∷ xs) = Q i x × Stand Q (i + 1) xs
 module _ (P : ReadFault → Type 0) where
   pub each_contained : (faults : List ReadFault) → Each P faults → (fault : ReadFault) → Contains faults fault → P fault
   each_contained [] h fault c = absurd (Contains-nil fault c)
-  each_contained (f ∷ faults) h fault c = ⊎_elim (λ same. subst P same h.0) (λ rest. each_contained faults h.1 fault rest) (Contains-cases f faults fault c)
+  each_contained (f ∷ faults) h fault c =
+      ⊎_elim (λ same. subst P same h.0) (λ rest. each_contained faults h.1 fault rest) (Contains-cases f faults fault c)
 
   pub each_joined : (faults others : List ReadFault) → Each P faults → Each P others → Each P (faults ++ others)
   each_joined [] others h k = k
@@ -31,14 +33,17 @@ module _ (P : ReadFault → Type 0) where
   each_unless true fault h = tt
   each_unless false fault h = (h refl, tt)
 
-  pub each_weaker : (Q : ReadFault → Type 0) → ((fault : ReadFault) → P fault → Q fault) → (faults : List ReadFault) → Each P faults → Each Q faults
+  pub each_weaker : (Q : ReadFault → Type 0) → ((fault : ReadFault) → P fault → Q fault) → (faults : List ReadFault) →
+      Each P faults → Each Q faults
   each_weaker Q weaker [] h = tt
   each_weaker Q weaker (f ∷ faults) h = (weaker f h.0, each_weaker Q weaker faults h.1)
 
-  pub each_of_each : {T : Type 0} (Q : ℕ → T → Type 0) (faults : ℕ → T → List ReadFault) → ((i : ℕ) (x : T) → Q i x → Each P (faults i x)) → (i : ℕ) (xs : List T) → Stand Q i xs →
+  pub each_of_each : {T : Type 0} (Q : ℕ → T → Type 0) (faults : ℕ → T → List ReadFault) →
+      ((i : ℕ) (x : T) → Q i x → Each P (faults i x)) → (i : ℕ) (xs : List T) → Stand Q i xs →
       Each P (of_each faults i xs)
   each_of_each Q faults each i [] h = tt
-  each_of_each Q faults each i (x ∷ xs) h = each_joined (faults i x) (of_each faults (i + 1) xs) (each i x h.0) (each_of_each Q faults each (i + 1) xs h.1)
+  each_of_each Q faults each i (x ∷ xs) h =
+      each_joined (faults i x) (of_each faults (i + 1) xs) (each i x h.0) (each_of_each Q faults each (i + 1) xs h.1)
 
 pub unless_contains : (b : Bool) (fault : ReadFault) → b ≡ false → Contains (unless b fault) fault
 unless_contains true fault e = absurd (false≢true (sym e))
@@ -48,27 +53,40 @@ onward : (i k : ℕ) → i + suc k ≡ (i + 1) + k
 onward i k = omega arith
 
 module _ {T : Type 0} where
-  stand_from : (Q : ℕ → T → Type 0) (i : ℕ) (xs : List T) → ((k : ℕ) (x : T) → slice_get xs k ≡ Some x → Q (i + k) x) → Stand Q i xs
+  stand_from : (Q : ℕ → T → Type 0) (i : ℕ) (xs : List T) → ((k : ℕ) (x : T) → slice_get xs k ≡ Some x → Q (i + k) x) →
+      Stand Q i xs
   stand_from Q i [] h = tt
-  stand_from Q i (x ∷ xs) h = (subst (λ n. Q n x) (add-zero i) (h 0 x refl), stand_from Q (i + 1) xs (λ k y e. subst (λ n. Q n y) (onward i k) (h (suc k) y e)))
+  stand_from Q i (x ∷ xs) h = (
+    subst (λ n. Q n x) (add-zero i) (h 0 x refl),
+    stand_from Q (i + 1) xs (λ k y e. subst (λ n. Q n y) (onward i k) (h (suc k) y e)),
+  )
 
   -- it is enough to look at each place
-  pub stand_all : (Q : ℕ → T → Type 0) (xs : List T) → ((k : ℕ) (x : T) → slice_get xs k ≡ Some x → Q k x) → Stand Q 0 xs
+  pub stand_all : (Q : ℕ → T → Type 0) (xs : List T) → ((k : ℕ) (x : T) → slice_get xs k ≡ Some x → Q k x) →
+      Stand Q 0 xs
   stand_all Q xs h = stand_from Q 0 xs (λ k x e. subst (λ n. Q n x) (sym (zero-add k)) (h k x e))
 
-  contains_from : (faults : ℕ → T → List ReadFault) (fault : ReadFault) (i k : ℕ) (xs : List T) (x : T) → slice_get xs k ≡ Some x → Contains (faults (i + k) x) fault →
+  contains_from : (faults : ℕ → T → List ReadFault) (fault : ReadFault) (i k : ℕ) (xs : List T) (x : T) →
+      slice_get xs k ≡ Some x →
+      Contains (faults (i + k) x) fault →
       Contains (of_each faults i xs) fault
   contains_from faults fault i k [] x e c = cc
   contains_from faults fault i zero (y ∷ ys) x e c = Contains-append_left (faults i y) (of_each faults (i + 1) ys) fault
-      (subst (λ z. Contains (faults i z) fault) (let same : x ≡ y = cc in same) (subst (λ n. Contains (faults n x) fault) (add-zero i) c))
-  contains_from faults fault i (suc k) (y ∷ ys) x e c = Contains-append_right (faults i y) (of_each faults (i + 1) ys) fault
+      (subst (λ z. Contains (faults i z) fault) (let same : x ≡ y = cc in
+      same) (subst (λ n. Contains (faults n x) fault) (add-zero i) c))
+  contains_from faults fault i (suc k) (y ∷ ys) x e c =
+      Contains-append_right (faults i y) (of_each faults (i + 1) ys) fault
       (contains_from faults fault (i + 1) k ys x e (subst (λ n. Contains (faults n x) fault) (onward i k) c))
 
-  pub of_each_contains : (faults : ℕ → T → List ReadFault) (fault : ReadFault) (k : ℕ) (xs : List T) (x : T) → slice_get xs k ≡ Some x → Contains (faults k x) fault →
+  pub of_each_contains : (faults : ℕ → T → List ReadFault) (fault : ReadFault) (k : ℕ) (xs : List T) (x : T) →
+      slice_get xs k ≡ Some x →
+      Contains (faults k x) fault →
       Contains (of_each faults 0 xs) fault
-  of_each_contains faults fault k xs x e c = contains_from faults fault 0 k xs x e (subst (λ n. Contains (faults n x) fault) (sym (zero-add k)) c)
+  of_each_contains faults fault k xs x e c =
+      contains_from faults fault 0 k xs x e (subst (λ n. Contains (faults n x) fault) (sym (zero-add k)) c)
 
-pub of_each_mapped : {S T : Type 0} (faults : ℕ → T → List ReadFault) (f : S → T) (i : ℕ) (xs : List S) → of_each faults i (map f xs) ≡ of_each (λ i x. faults i (f x)) i xs
+pub of_each_mapped : {S T : Type 0} (faults : ℕ → T → List ReadFault) (f : S → T) (i : ℕ) (xs : List S) →
+    of_each faults i (map f xs) ≡ of_each (λ i x. faults i (f x)) i xs
 of_each_mapped faults f i [] = refl
 of_each_mapped faults f i (x ∷ xs) = ap (λ rest. faults i (f x) ++ rest) (of_each_mapped faults f (i + 1) xs)
 
@@ -78,7 +96,8 @@ some_from : {T : Type 0} (test : T → Bool) (i : ℕ) (xs : List T) → is_some
 some_from test i [] = refl
 some_from test i (x ∷ xs) = by (test x) (some_from test (i + 1) xs)
   where
-    by : (b : Bool) → is_some (position_from test (i + 1) xs) ≡ list_any test xs → is_some (cond b (Some i) (position_from test (i + 1) xs)) ≡ (b || list_any test xs)
+    by : (b : Bool) → is_some (position_from test (i + 1) xs) ≡ list_any test xs →
+        is_some (cond b (Some i) (position_from test (i + 1) xs)) ≡ (b || list_any test xs)
     by true h = refl
     by false h = h
 

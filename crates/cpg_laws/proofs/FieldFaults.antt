@@ -1,5 +1,6 @@
 -- The bad fields of a document are those that its tables have.
-use Rattle.std.proofs.Common.{◌≡◌, ℕ, zero, suc, Bool, true, false, ◌&&◌, List, [], ◌∷◌, Some, Contains, map, slice_get, refl, sym, ap, ◌∙◌, subst, inl, inr, Ordering, Less, Equal, Greater, is_eq}
+use Rattle.std.proofs.Common.{◌≡◌, ℕ, zero, suc, Bool, true, false, ◌&&◌, List, [], ◌∷◌, Some, Contains, map, slice_get}
+use Rattle.std.proofs.Common.{refl, sym, ap, ◌∙◌, subst, inl, inr, Ordering, Less, Equal, Greater, is_eq}
 use Rattle.std.proofs.Common.{nat_cmp, true≢false}
 use Rattle.std.specs.Prelude.{bytes_eq}
 use Rattle.std.specs.List.{list_any}
@@ -12,7 +13,8 @@ use Rattle.std.proofs.lemmas.List.Elements.{Contains-append_left, Contains-appen
 use Rattle.std.proofs.lemmas.Map.Text.{is_eq-slice_cmp}
 use Rattle.std.proofs.lemmas.Slice.Eq.{bytes_eq-Decides}
 use Rattle.toml.specs.Data.{Data, Members, no_members, member, get_member}
-use Rattle.cpg_base.proofs.Lists.{Contains-first, Contains-rest, Contains-cases, Contains-nil, Contains-map, Contains-map_parts, list_any_true, list_any_parts}
+use Rattle.cpg_base.proofs.Lists.{Contains-first, Contains-rest, Contains-cases, Contains-nil, Contains-map}
+use Rattle.cpg_base.proofs.Lists.{Contains-map_parts, list_any_true, list_any_parts}
 use Rattle.cpg_reader.specs.declared.place.Table.{Table}
 use Rattle.cpg_reader.specs.declared.place.Table.TheVariants as tables
 use Rattle.cpg_reader.specs.declared.place.Key.{Key}
@@ -21,9 +23,12 @@ use Rattle.cpg_reader.specs.declared.place.Place.{Place}
 use Rattle.cpg_reader.specs.declared.place.ReadFault.{ReadFault}
 use Rattle.cpg_reader.specs.declared.place.ReadFault.TheVariants.{BadField}
 use Rattle.cpg_reader.specs.Rows.{DocumentRow, place_in, value_at, text_of, are_listed}
-use Rattle.cpg_laws.specs.GraphFiles.{unless, Field, is_good_value, top_fields, node_fields, slot_fields, process_fields, edge_fields, bad_fields, bad_in, top_of, elements, bad_elements, field_faults}
+use Rattle.cpg_laws.specs.GraphFiles.{unless, Field, is_good_value, top_fields, node_fields, slot_fields}
+use Rattle.cpg_laws.specs.GraphFiles.{process_fields, edge_fields, bad_fields, bad_in, top_of, elements, bad_elements}
+use Rattle.cpg_laws.specs.GraphFiles.{field_faults}
 use Rattle.cpg_laws.specs.DocumentFaults.{table_at, fields_of, HasOtherKey, IsBadField, HasGoodFields}
-use Rattle.cpg_laws.proofs.FaultLists.{Each, each_joined, each_unless, each_of_each, unless_contains, stand_all, of_each_contains}
+use Rattle.cpg_laws.proofs.FaultLists.{Each, each_joined, each_unless, each_of_each, unless_contains, stand_all}
+use Rattle.cpg_laws.proofs.FaultLists.{of_each_contains}
 
 -- ---- keys
 
@@ -33,10 +38,13 @@ keys_of fields = map (λ f. f.key) fields
 abbrev is_key : List Field → List ℕ → Bool
 is_key fields text = list_any (λ key. bytes_eq (text_of key) text) (keys_of fields)
 
-key_is : (fields : List Field) (text : List ℕ) (f : Field) → Contains fields f → text_of f.key ≡ text → is_key fields text ≡ true
-key_is fields text f c same = list_any_true (λ key. bytes_eq (text_of key) text) (keys_of fields) f.key (Contains-map (λ f. f.key) fields f c) ((bytes_eq-Decides (text_of f.key) text).1 same)
+key_is : (fields : List Field) (text : List ℕ) (f : Field) → Contains fields f → text_of f.key ≡ text →
+    is_key fields text ≡ true
+key_is fields text f c same = list_any_true (λ key. bytes_eq (text_of key) text) (keys_of fields) f.key
+    (Contains-map (λ f. f.key) fields f c) ((bytes_eq-Decides (text_of f.key) text).1 same)
 
-is_some_key : (fields : List Field) (text : List ℕ) → is_key fields text ≡ true → (f : Field) × Contains fields f × (text_of f.key ≡ text)
+is_some_key : (fields : List Field) (text : List ℕ) → is_key fields text ≡ true →
+    (f : Field) × Contains fields f × (text_of f.key ≡ text)
 is_some_key fields text e =
     let (key, c, same) = list_any_parts (λ key. bytes_eq (text_of key) text) (keys_of fields) e in
     let (f, d, is) = Contains-map_parts (λ f. f.key) fields key c in
@@ -44,9 +52,11 @@ is_some_key fields text e =
 
 -- what stands at a key of a table that has one member more
 at_own_key : (text : List ℕ) (d : Data) (ms : Members) → get_member text (member text d ms) ≡ Some d
-at_own_key text d ms = ap (λ o. match_ordering o (get_member text ms) (Some d) (get_member text ms)) (tied_itself nat_list_cmp_total text)
+at_own_key text d ms =
+    ap (λ o. match_ordering o (get_member text ms) (Some d) (get_member text ms)) (tied_itself nat_list_cmp_total text)
 
-still_there : (text : List ℕ) (d : Data) (other : List ℕ) (e : Data) (ms : Members) → get_member text ms ≡ Some d → (z : Data) × (get_member text (member other e ms) ≡ Some z)
+still_there : (text : List ℕ) (d : Data) (other : List ℕ) (e : Data) (ms : Members) → get_member text ms ≡ Some d →
+    (z : Data) × (get_member text (member other e ms) ≡ Some z)
 still_there text d other e ms is = by (slice_cmp nat_cmp text other)
   where
     by : (o : Ordering) → (z : Data) × (match_ordering o (get_member text ms) (Some e) (get_member text ms) ≡ Some z)
@@ -54,33 +64,41 @@ still_there text d other e ms is = by (slice_cmp nat_cmp text other)
     by Equal = (e, refl)
     by Greater = (d, is)
 
-unlisted : (fields : List Field) (members : Members) → are_listed (keys_of fields) members ≡ false → HasOtherKey members fields
+unlisted : (fields : List Field) (members : Members) → are_listed (keys_of fields) members ≡ false →
+    HasOtherKey members fields
 unlisted fields no_members e = absurd (true≢false e)
 unlisted fields (member text d ms) e = by (is_key fields text) refl e (unlisted fields ms)
   where
-    by : (b : Bool) → is_key fields text ≡ b → (b && are_listed (keys_of fields) ms) ≡ false → (are_listed (keys_of fields) ms ≡ false → HasOtherKey ms fields) → HasOtherKey (member text d ms) fields
+    by : (b : Bool) → is_key fields text ≡ b → (b && are_listed (keys_of fields) ms) ≡ false →
+        (are_listed (keys_of fields) ms ≡ false → HasOtherKey ms fields) →
+        HasOtherKey (member text d ms) fields
     by true is rest more =
         let (other, z, there, apart) = more rest in
         let (y, still) = still_there other z text d ms there in
         (other, y, still, apart)
-    by false is rest more = (text, d, at_own_key text d ms, λ f c same. true≢false (sym (key_is fields text f c same) ∙ is))
+    by false is rest more =
+        (text, d, at_own_key text d ms, λ f c same. true≢false (sym (key_is fields text f c same) ∙ is))
 
 same_text : (text other : List ℕ) → slice_cmp nat_cmp text other ≡ Equal → text ≡ other
 same_text text other e = (bytes_eq-Decides text other).0 (sym (is_eq-slice_cmp text other) ∙ ap is_eq e)
 
-listed : (fields : List Field) (text : List ℕ) (d : Data) (members : Members) → are_listed (keys_of fields) members ≡ true → get_member text members ≡ Some d → is_key fields text ≡ true
+listed : (fields : List Field) (text : List ℕ) (d : Data) (members : Members) →
+    are_listed (keys_of fields) members ≡ true → get_member text members ≡ Some d →
+    is_key fields text ≡ true
 listed fields text d no_members e is = cc
 listed fields text d (member other z ms) e is =
     let (here, rest) = and_parts (is_key fields other) (are_listed (keys_of fields) ms) e in
     by (slice_cmp nat_cmp text other) refl here is (listed fields text d ms rest)
   where
-    by : (o : Ordering) → slice_cmp nat_cmp text other ≡ o → is_key fields other ≡ true → match_ordering o (get_member text ms) (Some z) (get_member text ms) ≡ Some d →
+    by : (o : Ordering) → slice_cmp nat_cmp text other ≡ o → is_key fields other ≡ true →
+        match_ordering o (get_member text ms) (Some z) (get_member text ms) ≡ Some d →
         (get_member text ms ≡ Some d → is_key fields text ≡ true) → is_key fields text ≡ true
     by Less o here is more = more is
     by Equal o here is more = subst (λ t. is_key fields t ≡ true) (sym (same_text text other o)) here
     by Greater o here is more = more is
 
-other_key : (fields : List Field) (members : Members) → HasOtherKey members fields → are_listed (keys_of fields) members ≡ false
+other_key : (fields : List Field) (members : Members) → HasOtherKey members fields →
+    are_listed (keys_of fields) members ≡ false
 other_key fields members (text, d, is, apart) = false_from_ne_true (are_listed (keys_of fields) members)
     (λ e. let (f, c, same) = is_some_key fields text (listed fields text d members e is) in apart f c same)
 
@@ -91,10 +109,14 @@ abbrev pub IsBad : Members → ReadFault → Type 0
 IsBad ms fault = (place : Place) × (fault ≡ BadField place) × IsBadField ms place
 
 module _ (ms : Members) (row : DocumentRow) (at : table_at ms row.table row.index ≡ Some row.members) where
-  bad_keys : (fields : List Field) → ((f : Field) → Contains fields f → Contains (fields_of row.table) f) → Each (IsBad ms) (bad_fields row (keys_of (fields_of row.table)) fields)
-  bad_keys [] those = each_unless (IsBad ms) (are_listed (keys_of (fields_of row.table)) row.members) (BadField (place_in row Unknown))
+  bad_keys : (fields : List Field) → ((f : Field) → Contains fields f → Contains (fields_of row.table) f) →
+      Each (IsBad ms) (bad_fields row (keys_of (fields_of row.table)) fields)
+  bad_keys [] those =
+      each_unless (IsBad ms) (are_listed (keys_of (fields_of row.table)) row.members) (BadField (place_in row Unknown))
       (λ e. (place_in row Unknown, refl, (row.members, at, inr (refl, unlisted (fields_of row.table) row.members e))))
-  bad_keys (f ∷ fields) those = each_joined (IsBad ms) (unless (is_good_value f (value_at row f.key)) (BadField (place_in row f.key))) (bad_fields row (keys_of (fields_of row.table)) fields)
+  bad_keys (f ∷ fields) those =
+      each_joined (IsBad ms) (unless (is_good_value f (value_at row f.key)) (BadField (place_in row f.key)))
+      (bad_fields row (keys_of (fields_of row.table)) fields)
       (each_unless (IsBad ms) (is_good_value f (value_at row f.key)) (BadField (place_in row f.key))
       (λ e. (place_in row f.key, refl, (row.members, at, inl (f, those f (Contains-first f fields), refl, e)))))
       (bad_keys fields (λ g c. those g (Contains-rest f fields g c)))
@@ -103,19 +125,26 @@ module _ (ms : Members) (row : DocumentRow) (at : table_at ms row.table row.inde
   row_is_bad = bad_keys (fields_of row.table) (λ f c. c)
 
 module _ (row : DocumentRow) (keys : List Key) where
-  value_there : (fields : List Field) (f : Field) → Contains fields f → is_good_value f (value_at row f.key) ≡ false → Contains (bad_fields row keys fields) (BadField (place_in row f.key))
+  value_there : (fields : List Field) (f : Field) → Contains fields f → is_good_value f (value_at row f.key) ≡ false →
+      Contains (bad_fields row keys fields) (BadField (place_in row f.key))
   value_there [] f c e = absurd (Contains-nil f c)
   value_there (g ∷ fields) f c e = elim (Contains-cases g fields f c) [
-    | inl same ↦ Contains-append_left (unless (is_good_value g (value_at row g.key)) (BadField (place_in row g.key))) (bad_fields row keys fields) (BadField (place_in row f.key))
-        (subst (λ z. Contains (unless (is_good_value z (value_at row z.key)) (BadField (place_in row z.key))) (BadField (place_in row f.key))) (sym same)
+    | inl same ↦ Contains-append_left (unless (is_good_value g (value_at row g.key)) (BadField (place_in row g.key)))
+        (bad_fields row keys fields) (BadField (place_in row f.key))
+        (subst (λ z. Contains (unless (is_good_value z (value_at row z.key)) (BadField (place_in row z.key)))
+        (BadField (place_in row f.key))) (sym same)
         (unless_contains (is_good_value f (value_at row f.key)) (BadField (place_in row f.key)) e))
-    | inr rest ↦ Contains-append_right (unless (is_good_value g (value_at row g.key)) (BadField (place_in row g.key))) (bad_fields row keys fields) (BadField (place_in row f.key))
+    | inr rest ↦ Contains-append_right (unless (is_good_value g (value_at row g.key)) (BadField (place_in row g.key)))
+        (bad_fields row keys fields) (BadField (place_in row f.key))
         (value_there fields f rest e)
   ]
 
-  key_there : (fields : List Field) → are_listed keys row.members ≡ false → Contains (bad_fields row keys fields) (BadField (place_in row Unknown))
+  key_there : (fields : List Field) → are_listed keys row.members ≡ false →
+      Contains (bad_fields row keys fields) (BadField (place_in row Unknown))
   key_there [] e = unless_contains (are_listed keys row.members) (BadField (place_in row Unknown)) e
-  key_there (g ∷ fields) e = Contains-append_right (unless (is_good_value g (value_at row g.key)) (BadField (place_in row g.key))) (bad_fields row keys fields) (BadField (place_in row Unknown))
+  key_there (g ∷ fields) e =
+      Contains-append_right (unless (is_good_value g (value_at row g.key)) (BadField (place_in row g.key)))
+      (bad_fields row keys fields) (BadField (place_in row Unknown))
       (key_there fields e)
 
 -- ---- the document
@@ -123,9 +152,13 @@ module _ (row : DocumentRow) (keys : List Key) where
 abbrev row_of : Table → ℕ → Members → DocumentRow
 row_of table i ms = record { table = table; index = i; members = ms }
 
-elements_are_bad : (ms : Members) (table : Table) (members : List Members) → ((i : ℕ) → table_at ms table i ≡ slice_get members i) → Each (IsBad ms) (bad_elements table (fields_of table) members)
-elements_are_bad ms table members are = each_of_each (IsBad ms) (λ i x. slice_get members i ≡ Some x) (λ i x. bad_in (fields_of table) (row_of table i x))
-    (λ i x e. row_is_bad ms (row_of table i x) (are i ∙ e)) 0 members (stand_all (λ i x. slice_get members i ≡ Some x) members (λ k x e. e))
+elements_are_bad : (ms : Members) (table : Table) (members : List Members) →
+    ((i : ℕ) → table_at ms table i ≡ slice_get members i) →
+    Each (IsBad ms) (bad_elements table (fields_of table) members)
+elements_are_bad ms table members are =
+    each_of_each (IsBad ms) (λ i x. slice_get members i ≡ Some x) (λ i x. bad_in (fields_of table) (row_of table i x))
+    (λ i x e. row_is_bad ms (row_of table i x) (are i ∙ e)) 0 members
+    (stand_all (λ i x. slice_get members i ≡ Some x) members (λ k x e. e))
 
 pub fields_are_bad : (ms : Members) → Each (IsBad ms) (field_faults ms)
 fields_are_bad ms =
@@ -140,30 +173,44 @@ module _ (ms : Members) (fault : ReadFault) where
   abbrev part : Table → Key → List Field → List ReadFault
   part table key fields = bad_elements table fields (elements ms key)
 
-  row_there : (table : Table) (i : ℕ) (row : Members) → table_at ms table i ≡ Some row → Contains (bad_in (fields_of table) (row_of table i row)) fault → Contains (field_faults ms) fault
-  row_there tables.Top zero row at c = Contains-append_left (bad_in top_fields (top_of ms)) _ fault (subst (λ z. Contains (bad_in top_fields (top_of z)) fault) (let same : row ≡ ms = cc in same) c)
+  row_there : (table : Table) (i : ℕ) (row : Members) → table_at ms table i ≡ Some row →
+      Contains (bad_in (fields_of table) (row_of table i row)) fault →
+      Contains (field_faults ms) fault
+  row_there tables.Top zero row at c = Contains-append_left (bad_in top_fields (top_of ms)) _ fault
+      (subst (λ z. Contains (bad_in top_fields (top_of z)) fault) (let same : row ≡ ms = cc in same) c)
   row_there tables.Top (suc i) row at c = cc
-  row_there tables.Node i row at c = Contains-append_right (bad_in top_fields (top_of ms)) _ fault (Contains-append_left (part tables.Node Node node_fields) _ fault
+  row_there tables.Node i row at c = Contains-append_right (bad_in top_fields (top_of ms)) _ fault
+      (Contains-append_left (part tables.Node Node node_fields) _ fault
       (of_each_contains (λ i x. bad_in node_fields (row_of tables.Node i x)) fault i (elements ms Node) row at c))
   row_there tables.Slot i row at c = Contains-append_right (bad_in top_fields (top_of ms)) _ fault
-      (Contains-append_right (part tables.Node Node node_fields) _ fault (Contains-append_left (part tables.Slot Slot slot_fields) _ fault
+      (Contains-append_right (part tables.Node Node node_fields) _ fault
+      (Contains-append_left (part tables.Slot Slot slot_fields) _ fault
       (of_each_contains (λ i x. bad_in slot_fields (row_of tables.Slot i x)) fault i (elements ms Slot) row at c)))
   row_there tables.Process i row at c = Contains-append_right (bad_in top_fields (top_of ms)) _ fault
       (Contains-append_right (part tables.Node Node node_fields) _ fault
-      (Contains-append_right (part tables.Slot Slot slot_fields) _ fault (Contains-append_left (part tables.Process Process process_fields) _ fault
-      (of_each_contains (λ i x. bad_in process_fields (row_of tables.Process i x)) fault i (elements ms Process) row at c))))
+      (Contains-append_right (part tables.Slot Slot slot_fields) _ fault
+      (Contains-append_left (part tables.Process Process process_fields) _ fault
+      (of_each_contains (λ i x. bad_in process_fields (row_of tables.Process i x)) fault i
+      (elements ms Process) row at c))))
   row_there tables.Edge i row at c = Contains-append_right (bad_in top_fields (top_of ms)) _ fault
       (Contains-append_right (part tables.Node Node node_fields) _ fault
-      (Contains-append_right (part tables.Slot Slot slot_fields) _ fault (Contains-append_right (part tables.Process Process process_fields) _ fault
+      (Contains-append_right (part tables.Slot Slot slot_fields) _ fault
+      (Contains-append_right (part tables.Process Process process_fields) _ fault
       (of_each_contains (λ i x. bad_in edge_fields (row_of tables.Edge i x)) fault i (elements ms Edge) row at c))))
 
 pub bad_field_there : (ms : Members) (place : Place) → IsBadField ms place → Contains (field_faults ms) (BadField place)
-bad_field_there ms place (members, at, inl (f, c, same, e)) = row_there ms (BadField place) place.table place.index members at
-    (subst (λ key. Contains (bad_in (fields_of place.table) (row_of place.table place.index members)) (BadField (record { table = place.table; index = place.index; key = key }))) same
-    (value_there (row_of place.table place.index members) (keys_of (fields_of place.table)) (fields_of place.table) f c (ap (λ key. is_good_value f (get_member (text_of key) members)) same ∙ e)))
-bad_field_there ms place (members, at, inr (unknown, other)) = row_there ms (BadField place) place.table place.index members at
-    (subst (λ key. Contains (bad_in (fields_of place.table) (row_of place.table place.index members)) (BadField (record { table = place.table; index = place.index; key = key }))) (sym unknown)
-    (key_there (row_of place.table place.index members) (keys_of (fields_of place.table)) (fields_of place.table) (other_key (fields_of place.table) members other)))
+bad_field_there ms place (members, at, inl (f, c, same, e)) =
+    row_there ms (BadField place) place.table place.index members at
+    (subst (λ key. Contains (bad_in (fields_of place.table) (row_of place.table place.index members))
+    (BadField (record { table = place.table; index = place.index; key = key }))) same
+    (value_there (row_of place.table place.index members) (keys_of (fields_of place.table)) (fields_of place.table) f c
+    (ap (λ key. is_good_value f (get_member (text_of key) members)) same ∙ e)))
+bad_field_there ms place (members, at, inr (unknown, other)) =
+    row_there ms (BadField place) place.table place.index members at
+    (subst (λ key. Contains (bad_in (fields_of place.table) (row_of place.table place.index members))
+    (BadField (record { table = place.table; index = place.index; key = key }))) (sym unknown)
+    (key_there (row_of place.table place.index members) (keys_of (fields_of place.table)) (fields_of place.table)
+    (other_key (fields_of place.table) members other)))
 
 -- ---- a document has no fault of a field if its fields are good
 
@@ -175,4 +222,5 @@ good_fields ms good = by (field_faults ms) (fields_are_bad ms)
     by (f ∷ faults) h = absurd (good h.0.0 h.0.2)
 
 pub fields_are_good : (ms : Members) → field_faults ms ≡ [] → HasGoodFields ms
-fields_are_good ms none place bad = Contains-nil (BadField place) (subst (λ faults. Contains faults (BadField place)) none (bad_field_there ms place bad))
+fields_are_good ms none place bad = Contains-nil (BadField place)
+    (subst (λ faults. Contains faults (BadField place)) none (bad_field_there ms place bad))

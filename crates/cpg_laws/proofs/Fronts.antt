@@ -1,5 +1,6 @@
 -- Fronts of packs.
-use Rattle.std.proofs.Common.{ℕ, zero, suc, ◌≡◌, List, [], ◌∷◌, ◌++◌, length, take, drop, refl, sym, ap, ◌∙◌, subst, arith}
+use Rattle.std.proofs.Common.{ℕ, zero, suc, ◌≡◌, List, [], ◌∷◌, ◌++◌, length, take, drop, refl, sym, ap, ◌∙◌, subst}
+use Rattle.std.proofs.Common.{arith}
 use Rattle.std.proofs.lemmas.List.{length-append, length-take}
 use Rattle.cpg_codec.specs.Packs.{BeginsPack}
 use Rattle.cpg_codec.specs.Spelling.{spelling}
@@ -25,7 +26,15 @@ fronts_of_packs t n h l =
       no_further = λ less _. absurd (omega (arith, front, less));
       longest = λ m le _. omega (arith, front, le);
       no_pack = λ u f e.
-          let rest = no_proper_prefix t u (drop n (spelling t)) h f (parted n (spelling t) ∙ ap (λ b. b ++ drop n (spelling t)) e) in
+          let rest = no_proper_prefix t u (drop n (spelling t)) h f
+          (parted n (spelling t) ∙ ap (λ b. b ++ drop n (spelling t)) e) in
           let none : length (drop n (spelling t)) ≡ 0 = ap length rest in
-          absurd (omega (arith, none, front, l, ap length (parted n (spelling t)), length-append (take n (spelling t)) (drop n (spelling t))));
+          absurd (omega (
+            arith,
+            none,
+            front,
+            l,
+            ap length (parted n (spelling t)),
+            length-append (take n (spelling t)) (drop n (spelling t)),
+          ));
     }

@@ -1,5 +1,6 @@
 -- Step by step: if each step is refused by the first of its faults, so is a document.
-use Rattle.std.proofs.Common.{◌≡◌, ℕ, ◌+◌, ◌&&◌, Bool, true, false, not, List, [], ◌∷◌, ◌++◌, Option, Some, None, is_some, unwrap_or, option_and_then, Ok, Err, length, position, pos, refl, sym, ap}
+use Rattle.std.proofs.Common.{◌≡◌, ℕ, ◌+◌, ◌&&◌, Bool, true, false, not, List, [], ◌∷◌, ◌++◌, Option, Some, None}
+use Rattle.std.proofs.Common.{is_some, unwrap_or, option_and_then, Ok, Err, length, position, pos, refl, sym, ap}
 use Rattle.std.proofs.Common.{subst, if◌then◌else◌}
 use Rattle.std.specs.Prelude.{bytes_eq, nat_le}
 use Rattle.std.specs.List.{list_any, list_all}
@@ -9,7 +10,9 @@ use Rattle.cpg_reader.specs.declared.place.Table.{Table}
 use Rattle.cpg_reader.specs.declared.place.Table.TheVariants as tables
 use Rattle.cpg_reader.specs.declared.place.Place.{Place}
 use Rattle.cpg_reader.specs.declared.place.Key.{Key}
-use Rattle.cpg_reader.specs.declared.place.Key.TheVariants.{Faults, Deadline, Node, Slot, Process, Edge, Order, Name, Length, Bytes, Wcet, Parts, Alpha, Chi, Mu, Join, Frozen, Release, From, To, When}
+use Rattle.cpg_reader.specs.declared.place.Key.TheVariants.{Faults, Deadline, Node, Slot, Process, Edge, Order, Name}
+use Rattle.cpg_reader.specs.declared.place.Key.TheVariants.{Length, Bytes, Wcet, Parts, Alpha, Chi, Mu, Join, Frozen}
+use Rattle.cpg_reader.specs.declared.place.Key.TheVariants.{Release, From, To, When}
 use Rattle.cpg_reader.specs.declared.place.Key.TheVariants.{Unknown}
 use Rattle.cpg_reader.specs.declared.place.What.{What}
 use Rattle.cpg_reader.specs.declared.place.What.TheVariants.{Nodes, Slots, Processes, Edges, Number, Conditions}
@@ -20,28 +23,38 @@ use Rattle.cpg_reader.specs.declared.shape.RawSlot.{RawSlot}
 use Rattle.cpg_reader.specs.declared.shape.RawProcess.{RawProcess}
 use Rattle.cpg_reader.specs.declared.shape.RawEdge.{RawEdge}
 use Rattle.cpg_reader.specs.Reading.{Reading, pure, done, ◌>>=◌, ◌>>◌, each}
-use Rattle.cpg_reader.specs.Rows.{DocumentRow, place_in, bad, value_at, as_name, as_names, as_tables, are_listed, typed_in, optional_in, optional, required_in, required, with_default, only, read_name}
+use Rattle.cpg_reader.specs.Rows.{DocumentRow, place_in, bad, value_at, as_name, as_names, as_tables, are_listed}
+use Rattle.cpg_reader.specs.Rows.{typed_in, optional_in, optional, required_in, required, with_default, only, read_name}
 use Rattle.cpg_reader.specs.Rows.{read_integer, integer_or, flag_or, read_array}
 use Rattle.cpg_reader.specs.Shape.{RawGraph, read_node, read_slot, read_process, read_edge, read_rows, read_raw}
-use Rattle.cpg_reader.specs.Ranges.{top_numbers, slot_numbers, process_numbers, edge_numbers, is_within, in_range, all_in_range, at_most, sources, different, limits}
-use Rattle.cpg_reader.specs.Names.{place, name_place, apart_from, apart, known, number_of, slot_of, process_of, edge_of, ordered, order_of, order_apart, slot_names, process_names, resolved, graph_of}
+use Rattle.cpg_reader.specs.Ranges.{top_numbers, slot_numbers, process_numbers, edge_numbers, is_within, in_range}
+use Rattle.cpg_reader.specs.Ranges.{all_in_range, at_most, sources, different, limits}
+use Rattle.cpg_reader.specs.Names.{place, name_place, apart_from, apart, known, number_of, slot_of, process_of, edge_of}
+use Rattle.cpg_reader.specs.Names.{ordered, order_of, order_apart, slot_names, process_names, resolved, graph_of}
 use Rattle.cpg_reader.specs.Document.{document_of, read_members, problem_of}
-use Rattle.cpg_laws.specs.GraphFiles.{unless, of_each, Field, is_good_value, needed_name, needed_integer, list, node_fields, slot_fields, process_fields, edge_fields, bad_in, top_of, elements}
-use Rattle.cpg_laws.specs.GraphFiles.{bad_elements, field_faults, too_many, out_of_range, limit_faults, doubles_from, differ_from, order_place, order_doubles, double_faults, is_known, order_unknowns}
-use Rattle.cpg_laws.specs.GraphFiles.{unknown, unknown_ends, unknown_faults, graph_faults, document_faults, IsFirst, GraphFilesShowFirstFaults}
+use Rattle.cpg_laws.specs.GraphFiles.{unless, of_each, Field, is_good_value, needed_name, needed_integer, list}
+use Rattle.cpg_laws.specs.GraphFiles.{node_fields, slot_fields, process_fields, edge_fields, bad_in, top_of, elements}
+use Rattle.cpg_laws.specs.GraphFiles.{bad_elements, field_faults, too_many, out_of_range, limit_faults, doubles_from}
+use Rattle.cpg_laws.specs.GraphFiles.{differ_from, order_place, order_doubles, double_faults, is_known, order_unknowns}
+use Rattle.cpg_laws.specs.GraphFiles.{unknown, unknown_ends, unknown_faults, graph_faults, document_faults, IsFirst}
+use Rattle.cpg_laws.specs.GraphFiles.{GraphFilesShowFirstFaults}
 
 -- ---- steps one after another
 
-bind : {T U : Type 0} (fs gs : List ReadFault) (r : Reading T) (next : T → Reading U) → IsFirst fs r → ((x : T) → r ≡ Ok x → IsFirst gs (next x)) → IsFirst (fs ++ gs) (r >>= next)
+bind : {T U : Type 0} (fs gs : List ReadFault) (r : Reading T) (next : T → Reading U) → IsFirst fs r →
+    ((x : T) → r ≡ Ok x → IsFirst gs (next x)) →
+    IsFirst (fs ++ gs) (r >>= next)
 bind [] gs r next h more = subst (λ z. IsFirst gs (z >>= next)) (sym h.1) (more h.0 h.1)
 bind (f ∷ fs) gs r next h more = ap (λ z. z >>= next) h
 
-seq : {T U : Type 0} (fs gs : List ReadFault) (r : Reading T) (next : Reading U) → IsFirst fs r → IsFirst gs next → IsFirst (fs ++ gs) (r >> next)
+seq : {T U : Type 0} (fs gs : List ReadFault) (r : Reading T) (next : Reading U) → IsFirst fs r → IsFirst gs next →
+    IsFirst (fs ++ gs) (r >> next)
 seq [] gs r next h more = subst (λ z. IsFirst gs (z >> next)) (sym h.1) more
 seq (f ∷ fs) gs r next h more = ap (λ z. z >> next) h
 
 -- a last step that can't be refused
-bind_last : {T U : Type 0} (fs : List ReadFault) (r : Reading T) (f : T → U) → IsFirst fs r → IsFirst fs (r >>= (λ x. pure (f x)))
+bind_last : {T U : Type 0} (fs : List ReadFault) (r : Reading T) (f : T → U) → IsFirst fs r →
+    IsFirst fs (r >>= (λ x. pure (f x)))
 bind_last [] r f h = (f h.0, ap (λ z. z >>= (λ x. pure (f x))) h.1)
 bind_last (g ∷ gs) r f h = ap (λ z. z >>= (λ x. pure (f x))) h
 
@@ -50,42 +63,54 @@ seq_last [] r y h = (y, ap (λ z. z >> pure y) h.1)
 seq_last (g ∷ gs) r y h = ap (λ z. z >> pure y) h
 
 -- steps within a longer list of faults
-bind_within : {T U : Type 0} (fs gs hs : List ReadFault) (r : Reading T) (next : T → Reading U) → IsFirst fs r → ((x : T) → r ≡ Ok x → IsFirst (gs ++ hs) (next x)) →
+bind_within : {T U : Type 0} (fs gs hs : List ReadFault) (r : Reading T) (next : T → Reading U) → IsFirst fs r →
+    ((x : T) → r ≡ Ok x → IsFirst (gs ++ hs) (next x)) →
     IsFirst ((fs ++ gs) ++ hs) (r >>= next)
 bind_within [] gs hs r next h more = subst (λ z. IsFirst (gs ++ hs) (z >>= next)) (sym h.1) (more h.0 h.1)
 bind_within (f ∷ fs) gs hs r next h more = ap (λ z. z >>= next) h
 
-seq_within : {T U : Type 0} (fs gs hs : List ReadFault) (r : Reading T) (next : Reading U) → IsFirst fs r → IsFirst (gs ++ hs) next → IsFirst ((fs ++ gs) ++ hs) (r >> next)
+seq_within : {T U : Type 0} (fs gs hs : List ReadFault) (r : Reading T) (next : Reading U) → IsFirst fs r →
+    IsFirst (gs ++ hs) next →
+    IsFirst ((fs ++ gs) ++ hs) (r >> next)
 seq_within [] gs hs r next h more = subst (λ z. IsFirst (gs ++ hs) (z >> next)) (sym h.1) more
 seq_within (f ∷ fs) gs hs r next h more = ap (λ z. z >> next) h
 
 -- a test, and what follows it
-or_next : {T : Type 0} (b : Bool) (fault : ReadFault) (fs : List ReadFault) (next : Reading T) → IsFirst fs next → IsFirst (unless b fault ++ fs) (if b then next else Err fault)
+or_next : {T : Type 0} (b : Bool) (fault : ReadFault) (fs : List ReadFault) (next : Reading T) → IsFirst fs next →
+    IsFirst (unless b fault ++ fs) (if b then next else Err fault)
 or_next true fault fs next h = h
 or_next false fault fs next h = refl
 
-if_next : {T : Type 0} (b : Bool) (fault : ReadFault) (fs : List ReadFault) (next : Reading T) → IsFirst fs next → IsFirst (unless (not b) fault ++ fs) (if b then Err fault else next)
+if_next : {T : Type 0} (b : Bool) (fault : ReadFault) (fs : List ReadFault) (next : Reading T) → IsFirst fs next →
+    IsFirst (unless (not b) fault ++ fs) (if b then Err fault else next)
 if_next true fault fs next h = refl
 if_next false fault fs next h = h
 
-each_first : {T U : Type 0} (faults : ℕ → T → List ReadFault) (step : ℕ → T → Reading U) → ((i : ℕ) (x : T) → IsFirst (faults i x) (step i x)) → (i : ℕ) (xs : List T) →
+each_first : {T U : Type 0} (faults : ℕ → T → List ReadFault) (step : ℕ → T → Reading U) →
+    ((i : ℕ) (x : T) → IsFirst (faults i x) (step i x)) →
+    (i : ℕ) (xs : List T) →
     IsFirst (of_each faults i xs) (each step i xs)
 each_first faults step first i [] = ([], refl)
-each_first faults step first i (x ∷ xs) = bind (faults i x) (of_each faults (i + 1) xs) (step i x) (λ y. each step (i + 1) xs >>= (λ ys. pure (y ∷ ys))) (first i x)
-    (λ y e. bind_last (of_each faults (i + 1) xs) (each step (i + 1) xs) (λ ys. y ∷ ys) (each_first faults step first (i + 1) xs))
+each_first faults step first i (x ∷ xs) = bind (faults i x) (of_each faults (i + 1) xs) (step i x)
+    (λ y. each step (i + 1) xs >>= (λ ys. pure (y ∷ ys))) (first i x)
+    (λ y e. bind_last (of_each faults (i + 1) xs) (each step (i + 1) xs) (λ ys. y ∷ ys)
+    (each_first faults step first (i + 1) xs))
 
 -- ---- fields
 
 -- the faults of what stands at a key
 abbrev of_field : {T : Type 0} → DocumentRow → Key → Bool → (Data → Option T) → Option Data → List ReadFault
-of_field row key needed as_type o = unless (is_good_value (record { key = key; needed = needed; fits = λ d. is_some (as_type d) }) o) (BadField (place_in row key))
+of_field row key needed as_type o =
+    unless (is_good_value (record { key = key; needed = needed; fits = λ d. is_some (as_type d) }) o)
+    (BadField (place_in row key))
 
 module _ {T : Type 0} (row : DocumentRow) (key : Key) (as_type : Data → Option T) where
   typed : (x : Option T) → IsFirst (unless (is_some x) (BadField (place_in row key))) (typed_in row key x)
   typed None = refl
   typed (Some x) = (Some x, refl)
 
-  typed_required : (x : Option T) → IsFirst (unless (is_some x) (BadField (place_in row key))) (typed_in row key x >>= required_in row key)
+  typed_required : (x : Option T) →
+      IsFirst (unless (is_some x) (BadField (place_in row key))) (typed_in row key x >>= required_in row key)
   typed_required None = refl
   typed_required (Some x) = (x, refl)
 
@@ -93,7 +118,8 @@ module _ {T : Type 0} (row : DocumentRow) (key : Key) (as_type : Data → Option
   optional_by None = (None, refl)
   optional_by (Some d) = typed (as_type d)
 
-  required_by : (o : Option Data) → IsFirst (of_field row key true as_type o) (optional_in row key as_type o >>= required_in row key)
+  required_by : (o : Option Data) →
+      IsFirst (of_field row key true as_type o) (optional_in row key as_type o >>= required_in row key)
   required_by None = refl
   required_by (Some d) = typed_required (as_type d)
 
@@ -105,24 +131,31 @@ module _ {T : Type 0} (row : DocumentRow) (key : Key) (as_type : Data → Option
   unfolding optional
   required_first = required_by (value_at row key)
 
-  default_first : (value : T) → IsFirst (of_field row key false as_type (value_at row key)) (with_default value as_type row key)
-  default_first value = bind_last (of_field row key false as_type (value_at row key)) (optional as_type row key) (λ found. unwrap_or found value) optional_first
+  default_first : (value : T) →
+      IsFirst (of_field row key false as_type (value_at row key)) (with_default value as_type row key)
+  default_first value = bind_last (of_field row key false as_type (value_at row key)) (optional as_type row key)
+      (λ found. unwrap_or found value) optional_first
 
   -- what is found at a key, or its default, if what stands there is good
-  default_by : (value : T) (o : Option Data) (x : T) → (optional_in row key as_type o >>= (λ found. pure (unwrap_or found value))) ≡ Ok x → x ≡ unwrap_or (option_and_then as_type o) value
+  default_by : (value : T) (o : Option Data) (x : T) →
+      (optional_in row key as_type o >>= (λ found. pure (unwrap_or found value))) ≡ Ok x →
+      x ≡ unwrap_or (option_and_then as_type o) value
   default_by value None x e = cc
   default_by value (Some d) x e = by (as_type d) e
     where
-      by : (y : Option T) → (typed_in row key y >>= (λ found. pure (unwrap_or found value))) ≡ Ok x → x ≡ unwrap_or y value
+      by : (y : Option T) → (typed_in row key y >>= (λ found. pure (unwrap_or found value))) ≡ Ok x →
+          x ≡ unwrap_or y value
       by None e = cc
       by (Some y) e = cc
 
-  default_is : (value x : T) → with_default value as_type row key ≡ Ok x → x ≡ unwrap_or (option_and_then as_type (value_at row key)) value
+  default_is : (value x : T) → with_default value as_type row key ≡ Ok x →
+      x ≡ unwrap_or (option_and_then as_type (value_at row key)) value
   unfolding optional
   default_is value x e = default_by value (value_at row key) x e
 
 module _ (row : DocumentRow) where
-  only_first : (keys : List Key) → IsFirst (unless (are_listed keys row.members) (BadField (place_in row Unknown))) (only keys row)
+  only_first : (keys : List Key) →
+      IsFirst (unless (are_listed keys row.members) (BadField (place_in row Unknown))) (only keys row)
   unfolding only
   only_first keys = by (are_listed keys row.members)
     where
@@ -130,15 +163,20 @@ module _ (row : DocumentRow) where
       by true = (tt, refl)
       by false = refl
 
-  name_first : (key : Key) → IsFirst (unless (is_good_value (needed_name key) (value_at row key)) (BadField (place_in row key))) (read_name row key)
+  name_first : (key : Key) →
+      IsFirst (unless (is_good_value (needed_name key) (value_at row key)) (BadField (place_in row key)))
+      (read_name row key)
   unfolding read_name
   name_first key = required_first row key as_name
 
-  integer_first : (key : Key) → IsFirst (unless (is_good_value (needed_integer key) (value_at row key)) (BadField (place_in row key))) (read_integer row key)
+  integer_first : (key : Key) →
+      IsFirst (unless (is_good_value (needed_integer key) (value_at row key)) (BadField (place_in row key)))
+      (read_integer row key)
   unfolding read_integer
   integer_first key = required_first row key as_integer
 
-  list_first : (key : Key) → IsFirst (unless (is_good_value (list key) (value_at row key)) (BadField (place_in row key))) (read_array row key)
+  list_first : (key : Key) →
+      IsFirst (unless (is_good_value (list key) (value_at row key)) (BadField (place_in row key))) (read_array row key)
   unfolding read_array
   list_first key = default_first row key as_tables []
 
@@ -152,7 +190,8 @@ module _ (row : DocumentRow) where
   slot_first : IsFirst (bad_in slot_fields row) (read_slot row)
   unfolding read_slot
   slot_first = bind _ _ _ _ (name_first row Node)
-      (λ node _. bind _ _ _ _ (integer_first row Length) (λ length _. bind _ _ _ _ (integer_first row Bytes) (λ bytes _. seq_last _ _ _ (only_first row (Node ∷ Length ∷ Bytes ∷ [])))))
+      (λ node _. bind _ _ _ _ (integer_first row Length) (λ length _. bind _ _ _ _ (integer_first row Bytes)
+      (λ bytes _. seq_last _ _ _ (only_first row (Node ∷ Length ∷ Bytes ∷ [])))))
 
   process_first : IsFirst (bad_in process_fields row) (read_process row)
   unfolding read_process integer_or flag_or
@@ -167,7 +206,8 @@ module _ (row : DocumentRow) where
       (λ join _. bind _ _ _ _ (default_first row Frozen as_bool false)
       (λ frozen _. bind _ _ _ _ (default_first row Release as_integer (pos 0))
       (λ release _. bind _ _ _ _ (optional_first row Deadline as_integer)
-      (λ deadline _. seq_last _ _ _ (only_first row (Name ∷ Node ∷ Wcet ∷ Parts ∷ Alpha ∷ Chi ∷ Mu ∷ Join ∷ Frozen ∷ Release ∷ Deadline ∷ [])))))))))))))
+      (λ deadline _. seq_last _ _ _ (only_first row
+      (Name ∷ Node ∷ Wcet ∷ Parts ∷ Alpha ∷ Chi ∷ Mu ∷ Join ∷ Frozen ∷ Release ∷ Deadline ∷ [])))))))))))))
 
   edge_first : IsFirst (bad_in edge_fields row) (read_edge row)
   unfolding read_edge integer_or flag_or
@@ -175,19 +215,26 @@ module _ (row : DocumentRow) where
       (λ from _. bind _ _ _ _ (name_first row To)
       (λ to _. bind _ _ _ _ (default_first row Bytes as_integer (pos 1))
       (λ bytes _. bind _ _ _ _ (optional_first row When as_bool)
-      (λ when _. bind _ _ _ _ (default_first row Frozen as_bool false) (λ frozen _. seq_last _ _ _ (only_first row (From ∷ To ∷ Bytes ∷ When ∷ Frozen ∷ [])))))))
+      (λ when _. bind _ _ _ _ (default_first row Frozen as_bool false)
+      (λ frozen _. seq_last _ _ _ (only_first row (From ∷ To ∷ Bytes ∷ When ∷ Frozen ∷ [])))))))
 
-rows_first : {T : Type 0} (table : Table) (fields : List Field) (element_at : DocumentRow → Reading T) → ((row : DocumentRow) → IsFirst (bad_in fields row) (element_at row)) →
+rows_first : {T : Type 0} (table : Table) (fields : List Field) (element_at : DocumentRow → Reading T) →
+    ((row : DocumentRow) → IsFirst (bad_in fields row) (element_at row)) →
     (members : List Members) → IsFirst (bad_elements table fields members) (read_rows table element_at members)
-rows_first table fields element_at first members = each_first (λ i ms. bad_in fields (record { table = table; index = i; members = ms }))
-    (λ i ms. element_at (record { table = table; index = i; members = ms })) (λ i ms. first (record { table = table; index = i; members = ms })) 0 members
+rows_first table fields element_at first members =
+    each_first (λ i ms. bad_in fields (record { table = table; index = i; members = ms }))
+    (λ i ms. element_at (record { table = table; index = i; members = ms }))
+    (λ i ms. first (record { table = table; index = i; members = ms })) 0 members
 
 -- the elements that are read are those of the document
-rows_of : {T : Type 0} (ms : Members) (key : Key) (table : Table) (fields : List Field) (element_at : DocumentRow → Reading T) → ((row : DocumentRow) → IsFirst (bad_in fields row) (element_at row)) →
+rows_of : {T : Type 0} (ms : Members) (key : Key) (table : Table) (fields : List Field)
+    (element_at : DocumentRow → Reading T) →
+    ((row : DocumentRow) → IsFirst (bad_in fields row) (element_at row)) →
     (members : List Members) → read_array (top_of ms) key ≡ Ok members →
     IsFirst (bad_elements table fields (elements ms key)) (read_rows table element_at members)
 unfolding read_array
-rows_of ms key table fields element_at first members e = subst (λ rows. IsFirst (bad_elements table fields rows) (read_rows table element_at members))
+rows_of ms key table fields element_at first members e =
+    subst (λ rows. IsFirst (bad_elements table fields rows) (read_rows table element_at members))
     (default_is (top_of ms) key as_tables [] members e) (rows_first table fields element_at first members)
 
 pub fields_first : (ms : Members) → IsFirst (field_faults ms) (read_raw ms)
@@ -203,12 +250,15 @@ fields_first ms =
     seq _ _ _ _ (only_first (top_of ms) (Faults ∷ Deadline ∷ Node ∷ Slot ∷ Process ∷ Edge ∷ Order ∷ []))
     (bind _ _ _ _ (rows_of ms Node tables.Node node_fields read_node node_first node_tables nodes_are) (λ nodes e3.
     bind _ _ _ _ (rows_of ms Slot tables.Slot slot_fields read_slot slot_first slot_tables slots_are) (λ slots e4.
-    bind _ _ _ _ (rows_of ms Process tables.Process process_fields read_process process_first process_tables processes_are) (λ processes e5.
+    bind _ _ _ _
+    (rows_of ms Process tables.Process process_fields read_process process_first process_tables processes_are)
+    (λ processes e5.
     bind_last _ _ _ (rows_of ms Edge tables.Edge edge_fields read_edge edge_first edge_tables edges_are))))))))))))
 
 -- ---- limits
 
-at_most_first : {T : Type 0} (limit : ℕ) (what : What) (xs : List T) → IsFirst (too_many limit what xs) (at_most limit what xs)
+at_most_first : {T : Type 0} (limit : ℕ) (what : What) (xs : List T) →
+    IsFirst (too_many limit what xs) (at_most limit what xs)
 at_most_first limit what xs = by (nat_le (length xs) limit)
   where
     by : (b : Bool) → IsFirst (unless b (OverLimit what)) (if b then done else Err (OverLimit what))
@@ -217,13 +267,16 @@ at_most_first limit what xs = by (nat_le (length xs) limit)
 
 range_first : (table : Table) (i : ℕ) (ns : List BoundedField) → IsFirst (out_of_range table i ns) (in_range table i ns)
 range_first table i [] = (tt, refl)
-range_first table i (n ∷ ns) = or_next (is_within n.low n.high n.value) (OverLimit (Number (record { table = table; index = i; key = n.key }))) (out_of_range table i ns) (in_range table i ns)
+range_first table i (n ∷ ns) =
+    or_next (is_within n.low n.high n.value) (OverLimit (Number (record { table = table; index = i; key = n.key })))
+    (out_of_range table i ns) (in_range table i ns)
     (range_first table i ns)
 
 ranges_first : {T : Type 0} (table : Table) (numbers_of : T → List BoundedField) (i : ℕ) (xs : List T) →
     IsFirst (of_each (λ i x. out_of_range table i (numbers_of x)) i xs) (all_in_range table numbers_of i xs)
 ranges_first table numbers_of i [] = (tt, refl)
-ranges_first table numbers_of i (x ∷ xs) = seq _ _ _ _ (range_first table i (numbers_of x)) (ranges_first table numbers_of (i + 1) xs)
+ranges_first table numbers_of i (x ∷ xs) =
+    seq _ _ _ _ (range_first table i (numbers_of x)) (ranges_first table numbers_of (i + 1) xs)
 
 limits_first : (g : RawGraph) → IsFirst (limit_faults g) (limits g)
 unfolding limits
@@ -242,12 +295,15 @@ limits_first g =
 
 -- names of elements, each at a place of its own
 module _ (table : Table) (key : Key) (own : (i : ℕ) → name_place table i key ≡ place table i key) where
-  apart_from_first : (i : ℕ) (earlier names : List (List ℕ)) → IsFirst (doubles_from table key i earlier names) (apart_from table key i earlier names)
+  apart_from_first : (i : ℕ) (earlier names : List (List ℕ)) →
+      IsFirst (doubles_from table key i earlier names) (apart_from table key i earlier names)
   apart_from_first i earlier [] = (tt, refl)
   apart_from_first i earlier (name ∷ names) =
-      subst (λ at. IsFirst (unless (not (list_any (bytes_eq name) earlier)) (DoubleName at) ++ doubles_from table key (i + 1) (earlier ++ name ∷ []) names)
+      subst (λ at. IsFirst (unless (not (list_any (bytes_eq name) earlier)) (DoubleName at)
+      ++ doubles_from table key (i + 1) (earlier ++ name ∷ []) names)
       (apart_from table key i earlier (name ∷ names))) (own i)
-      (if_next (list_any (bytes_eq name) earlier) (DoubleName (name_place table i key)) (doubles_from table key (i + 1) (earlier ++ name ∷ []) names)
+      (if_next (list_any (bytes_eq name) earlier) (DoubleName (name_place table i key))
+      (doubles_from table key (i + 1) (earlier ++ name ∷ []) names)
       (apart_from table key (i + 1) (earlier ++ name ∷ []) names)
       (apart_from_first (i + 1) (earlier ++ name ∷ []) names))
 
@@ -256,13 +312,16 @@ module _ (table : Table) (key : Key) (own : (i : ℕ) → name_place table i key
   apart_first names = apart_from_first 0 [] names
 
 -- names of the order, all at one place
-if_one : {T : Type 0} (b c : Bool) (fault : ReadFault) (next : Reading T) → IsFirst (unless c fault) next → IsFirst (unless (not b && c) fault) (if b then Err fault else next)
+if_one : {T : Type 0} (b c : Bool) (fault : ReadFault) (next : Reading T) → IsFirst (unless c fault) next →
+    IsFirst (unless (not b && c) fault) (if b then Err fault else next)
 if_one true c fault next h = refl
 if_one false c fault next h = h
 
-order_apart_from : (i : ℕ) (earlier names : List (List ℕ)) → IsFirst (unless (differ_from earlier names) (DoubleName order_place)) (apart_from tables.Top Order i earlier names)
+order_apart_from : (i : ℕ) (earlier names : List (List ℕ)) →
+    IsFirst (unless (differ_from earlier names) (DoubleName order_place)) (apart_from tables.Top Order i earlier names)
 order_apart_from i earlier [] = (tt, refl)
-order_apart_from i earlier (name ∷ names) = if_one (list_any (bytes_eq name) earlier) (differ_from (earlier ++ name ∷ []) names) (DoubleName order_place)
+order_apart_from i earlier (name ∷ names) =
+    if_one (list_any (bytes_eq name) earlier) (differ_from (earlier ++ name ∷ []) names) (DoubleName order_place)
     (apart_from tables.Top Order (i + 1) (earlier ++ name ∷ []) names)
     (order_apart_from (i + 1) (earlier ++ name ∷ []) names)
 
@@ -275,34 +334,43 @@ known_first : (at : Place) (o : Option ℕ) → IsFirst (unless (is_some o) (Unk
 known_first at None = refl
 known_first at (Some number) = (number, refl)
 
-number_first : (names : List (List ℕ)) (name : List ℕ) (table : Table) (i : ℕ) (key : Key) → IsFirst (unknown names name table i key) (number_of names (place table i key) name)
+number_first : (names : List (List ℕ)) (name : List ℕ) (table : Table) (i : ℕ) (key : Key) →
+    IsFirst (unknown names name table i key) (number_of names (place table i key) name)
 unfolding number_of
 number_first names name table i key = known_first (place table i key) (position (bytes_eq name) names)
 
-slot_number_first : (nodes : List (List ℕ)) (i : ℕ) (s : RawSlot) → IsFirst (unknown nodes s.node tables.Slot i Node) (slot_of nodes i s)
+slot_number_first : (nodes : List (List ℕ)) (i : ℕ) (s : RawSlot) →
+    IsFirst (unknown nodes s.node tables.Slot i Node) (slot_of nodes i s)
 unfolding slot_of
 slot_number_first nodes i s = bind_last _ _ _ (number_first nodes s.node tables.Slot i Node)
 
-process_number_first : (nodes : List (List ℕ)) (i : ℕ) (p : RawProcess) → IsFirst (unknown nodes p.node tables.Process i Node) (process_of nodes i p)
+process_number_first : (nodes : List (List ℕ)) (i : ℕ) (p : RawProcess) →
+    IsFirst (unknown nodes p.node tables.Process i Node) (process_of nodes i p)
 unfolding process_of
 process_number_first nodes i p = bind_last _ _ _ (number_first nodes p.node tables.Process i Node)
 
 ends_first : (names : List (List ℕ)) (i : ℕ) (e : RawEdge) → IsFirst (unknown_ends names i e) (edge_of names i e)
 unfolding edge_of
-ends_first names i e = bind _ _ _ _ (number_first names e.from tables.Edge i From) (λ from e1. bind_last _ _ _ (number_first names e.to tables.Edge i To))
+ends_first names i e = bind _ _ _ _ (number_first names e.from tables.Edge i From)
+    (λ from e1. bind_last _ _ _ (number_first names e.to tables.Edge i To))
 
-known_next : {T : Type 0} (at : Place) (o : Option ℕ) (c : Bool) (next : ℕ → Reading T) → ((n : ℕ) → IsFirst (unless c (UnknownName at)) (next n)) →
+known_next : {T : Type 0} (at : Place) (o : Option ℕ) (c : Bool) (next : ℕ → Reading T) →
+    ((n : ℕ) → IsFirst (unless c (UnknownName at)) (next n)) →
     IsFirst (unless (is_some o && c) (UnknownName at)) (known at o >>= next)
 known_next at None c next h = refl
 known_next at (Some n) c next h = h n
 
-order_numbers : (names : List (List ℕ)) (i : ℕ) (order : List (List ℕ)) → IsFirst (order_unknowns names order) (each (ordered names) i order)
+order_numbers : (names : List (List ℕ)) (i : ℕ) (order : List (List ℕ)) →
+    IsFirst (order_unknowns names order) (each (ordered names) i order)
 unfolding number_of
 order_numbers names i [] = ([], refl)
-order_numbers names i (name ∷ order) = known_next order_place (position (bytes_eq name) names) (list_all (is_known names) order) (λ y. each (ordered names) (i + 1) order >>= (λ ys. pure (y ∷ ys)))
-    (λ n. bind_last (order_unknowns names order) (each (ordered names) (i + 1) order) (λ ys. n ∷ ys) (order_numbers names (i + 1) order))
+order_numbers names i (name ∷ order) = known_next order_place (position (bytes_eq name) names)
+    (list_all (is_known names) order) (λ y. each (ordered names) (i + 1) order >>= (λ ys. pure (y ∷ ys)))
+    (λ n. bind_last (order_unknowns names order) (each (ordered names) (i + 1) order) (λ ys. n ∷ ys)
+    (order_numbers names (i + 1) order))
 
-order_first : (names : List (List ℕ)) (order : Option (List (List ℕ))) → IsFirst (order_unknowns names (unwrap_or order [])) (order_of names order)
+order_first : (names : List (List ℕ)) (order : Option (List (List ℕ))) →
+    IsFirst (order_unknowns names (unwrap_or order [])) (order_of names order)
 unfolding order_of
 order_first names None = (None, refl)
 order_first names (Some order) = bind_last _ _ (λ numbers. Some numbers) (order_numbers names 0 order)
@@ -310,9 +378,12 @@ order_first names (Some order) = bind_last _ _ (λ numbers. Some numbers) (order
 resolved_first : (g : RawGraph) → IsFirst (unknown_faults g) (resolved g)
 unfolding resolved
 resolved_first g =
-    bind _ _ _ _ (each_first (λ i s. unknown g.nodes s.node tables.Slot i Node) (slot_of g.nodes) (slot_number_first g.nodes) 0 g.slots) (λ slots e1.
-    bind _ _ _ _ (each_first (λ i p. unknown g.nodes p.node tables.Process i Node) (process_of g.nodes) (process_number_first g.nodes) 0 g.processes) (λ processes e2.
-    bind _ _ _ _ (each_first (unknown_ends (process_names g.processes)) (edge_of (process_names g.processes)) (ends_first (process_names g.processes)) 0 g.edges) (λ edges e3.
+    bind _ _ _ _ (each_first (λ i s. unknown g.nodes s.node tables.Slot i Node) (slot_of g.nodes)
+    (slot_number_first g.nodes) 0 g.slots) (λ slots e1.
+    bind _ _ _ _ (each_first (λ i p. unknown g.nodes p.node tables.Process i Node) (process_of g.nodes)
+    (process_number_first g.nodes) 0 g.processes) (λ processes e2.
+    bind _ _ _ _ (each_first (unknown_ends (process_names g.processes)) (edge_of (process_names g.processes))
+    (ends_first (process_names g.processes)) 0 g.edges) (λ edges e3.
     bind_last _ _ _ (order_first (process_names g.processes) g.order))))
 
 names_first : (g : RawGraph) → IsFirst (double_faults g ++ unknown_faults g) (graph_of g)
@@ -327,9 +398,11 @@ names_first g =
 
 problem_first : (ms : Members) → IsFirst (field_faults ms ++ graph_faults (read_raw ms)) (read_members ms)
 unfolding read_members
-problem_first ms = bind (field_faults ms) (graph_faults (read_raw ms)) (read_raw ms) (λ g. limits g >> graph_of g) (fields_first ms)
+problem_first ms =
+    bind (field_faults ms) (graph_faults (read_raw ms)) (read_raw ms) (λ g. limits g >> graph_of g) (fields_first ms)
     (λ g e. subst (λ z. IsFirst (graph_faults z) (limits g >> graph_of g)) (sym e)
-    (seq (limit_faults g) (double_faults g ++ unknown_faults g) (limits g) (graph_of g) (limits_first g) (names_first g)))
+    (seq (limit_faults g) (double_faults g ++ unknown_faults g) (limits g) (graph_of g) (limits_first g)
+    (names_first g)))
 
 document_first : (r : Reading Members) → IsFirst (document_faults r) (r >>= read_members)
 document_first (Err fault) = refl

@@ -1,5 +1,6 @@
 -- A graph that is refused for anything but a cycle has a topological order, and so no cycle.
-use Rattle.std.proofs.Common.{◌≡◌, ◌≢◌, ℕ, ◌<◌, ◌≤◌, Bool, true, false, List, Ok, Err, length, filter, refl, sym, ap, ◌∙◌, subst, arith, inl, inr, ltb-true, true≢false}
+use Rattle.std.proofs.Common.{◌≡◌, ◌≢◌, ℕ, ◌<◌, ◌≤◌, Bool, true, false, List, Ok, Err, length, filter, refl, sym, ap}
+use Rattle.std.proofs.Common.{◌∙◌, subst, arith, inl, inr, ltb-true, true≢false}
 use Rattle.std.proofs.lemmas.Bool.{cases_lt, both_ways}
 use Rattle.std.specs.Prelude.{Result}
 use Rattle.cpg_base.specs.Graph.{Graph, inputs}
@@ -18,11 +19,15 @@ use Rattle.cpg_rules.specs.Rules.{is_too_big, lacks_slot, AllFit}
 use Rattle.cpg_rules.proofs.Exact.{no_lack}
 use Rattle.cpg_rules.proofs.GivenOrders.{one_bad}
 use Rattle.cpg_rules.specs.declared.admission.RuleFault.{RuleFault}
-use Rattle.cpg_rules.specs.declared.admission.RuleFault.TheVariants.{Cycle, TooManyTracks, TwoAlternatives, NoSlot, TooBig, BadOrder, OutOfMemory}
-use Rattle.cpg_laws.specs.Graphs.{RefusesCycles, CyclesAreRefusedFirst, HasTwoInputs, rank_of_fault, IsFirstCause, GraphsShowFirstCauses}
+use Rattle.cpg_rules.specs.declared.admission.RuleFault.TheVariants.{Cycle, TooManyTracks, TwoAlternatives, NoSlot}
+use Rattle.cpg_rules.specs.declared.admission.RuleFault.TheVariants.{TooBig, BadOrder, OutOfMemory}
+use Rattle.cpg_laws.specs.Graphs.{RefusesCycles, CyclesAreRefusedFirst, HasTwoInputs, rank_of_fault, IsFirstCause}
+use Rattle.cpg_laws.specs.Graphs.{GraphsShowFirstCauses}
 
 -- a graph in order is refused for no cycle
-none : (g : Graph) (answer : Result Admission RuleFault) → ((walk : List ℕ) → answer ≢ Err (Cycle walk)) → (HasCycle g → ⊥) → RefusesCycles g answer
+none : (g : Graph) (answer : Result Admission RuleFault) → ((walk : List ℕ) → answer ≢ Err (Cycle walk)) →
+    (HasCycle g → ⊥) →
+    RefusesCycles g answer
 none g answer other acyclic = record {
   exact = (λ h. absurd (other h.0 h.1), λ h. absurd (acyclic h));
   shown = λ walk e. absurd (other walk e);
@@ -32,16 +37,22 @@ acyclic : (g : Graph) (order : List ℕ) → IsOrdered g order → HasCycle g �
 acyclic g order is = no_cycle g order is.topological
 
 pub cycles_are_refused_first : CyclesAreRefusedFirst
-cycles_are_refused_first g (Ok a) may kept = none g (Ok a) (λ walk e. cc) (subst (λ g. HasCycle g → ⊥) may.0 (no_cycle a.graph a.order may.1.topological))
+cycles_are_refused_first g (Ok a) may kept =
+    none g (Ok a) (λ walk e. cc) (subst (λ g. HasCycle g → ⊥) may.0 (no_cycle a.graph a.order may.1.topological))
 cycles_are_refused_first g (Err (Cycle walk)) may kept = record {
   exact = (λ h. (walk, may), λ h. (walk, refl));
   shown = λ other e. subst (IsCycle g) (let same : walk ≡ other = cc in same) may;
 }
-cycles_are_refused_first g (Err TooManyTracks) may kept = none g (Err TooManyTracks) (λ walk e. cc) (acyclic g may.0 may.1)
-cycles_are_refused_first g (Err (TwoAlternatives p least)) may kept = none g (Err (TwoAlternatives p least)) (λ walk e. cc) (acyclic g may.0 may.1.ordered)
-cycles_are_refused_first g (Err (NoSlot node)) may kept = none g (Err (NoSlot node)) (λ walk e. cc) (acyclic g may.0 may.1.tracks.ordered)
-cycles_are_refused_first g (Err (TooBig e)) may kept = none g (Err (TooBig e)) (λ walk e. cc) (acyclic g may.0 may.1.inputs.tracks.ordered)
-cycles_are_refused_first g (Err (BadOrder p)) may kept = none g (Err (BadOrder p)) (λ walk e. cc) (acyclic g may.0 may.1.slots.inputs.tracks.ordered)
+cycles_are_refused_first g (Err TooManyTracks) may kept =
+    none g (Err TooManyTracks) (λ walk e. cc) (acyclic g may.0 may.1)
+cycles_are_refused_first g (Err (TwoAlternatives p least)) may kept =
+    none g (Err (TwoAlternatives p least)) (λ walk e. cc) (acyclic g may.0 may.1.ordered)
+cycles_are_refused_first g (Err (NoSlot node)) may kept =
+    none g (Err (NoSlot node)) (λ walk e. cc) (acyclic g may.0 may.1.tracks.ordered)
+cycles_are_refused_first g (Err (TooBig e)) may kept =
+    none g (Err (TooBig e)) (λ walk e. cc) (acyclic g may.0 may.1.inputs.tracks.ordered)
+cycles_are_refused_first g (Err (BadOrder p)) may kept =
+    none g (Err (BadOrder p)) (λ walk e. cc) (acyclic g may.0 may.1.slots.inputs.tracks.ordered)
 cycles_are_refused_first g (Err OutOfMemory) may kept = absurd (kept refl)
 
 -- A refusal tells the first cause.
@@ -49,17 +60,26 @@ cycles_are_refused_first g (Err OutOfMemory) may kept = absurd (kept refl)
 first : (g : Graph) (fault : RuleFault) → ShowsFault g fault → IsFirstCause g fault
 first g (Cycle walk) h = h
 first g TooManyTracks h = (acyclic g h.0 h.1, h.2)
-first g (TwoAlternatives p least) h = (acyclic g h.0 h.1.ordered, h.1.few, record { order = h.0; urgency = h.1.ordered.urgency; two = h.2 })
+first g (TwoAlternatives p least) h =
+    (acyclic g h.0 h.1.ordered, h.1.few, record { order = h.0; urgency = h.1.ordered.urgency; two = h.2 })
 first g (NoSlot node) h = (acyclic g h.0 h.1.tracks.ordered, h.1.tracks.few, h.1.joins, h.2)
-first g (TooBig e) h = (acyclic g h.0 h.1.inputs.tracks.ordered, h.1.inputs.tracks.few, h.1.inputs.joins, h.1.slots, h.2)
-first g (BadOrder p) h =
-    (acyclic g h.0 h.1.slots.inputs.tracks.ordered, h.1.slots.inputs.tracks.few, h.1.slots.inputs.joins, h.1.slots.slots, h.1.sizes, h.2)
+first g (TooBig e) h =
+    (acyclic g h.0 h.1.inputs.tracks.ordered, h.1.inputs.tracks.few, h.1.inputs.joins, h.1.slots, h.2)
+first g (BadOrder p) h = (
+  acyclic g h.0 h.1.slots.inputs.tracks.ordered,
+  h.1.slots.inputs.tracks.few,
+  h.1.slots.inputs.joins,
+  h.1.slots.slots,
+  h.1.sizes,
+  h.2,
+)
 first g OutOfMemory h = tt
 
 -- What a later cause says of the earlier ones.
 
 module _ (g : Graph) where
-  no_cycle_then : (fault : RuleFault) → 0 < rank_of_fault fault → rank_of_fault fault < 6 → IsFirstCause g fault → HasCycle g → ⊥
+  no_cycle_then : (fault : RuleFault) → 0 < rank_of_fault fault → rank_of_fault fault < 6 →
+      IsFirstCause g fault → HasCycle g → ⊥
   no_cycle_then (Cycle walk) l m h = absurd (omega (arith, l))
   no_cycle_then TooManyTracks l m h = h.0
   no_cycle_then (TwoAlternatives p least) l m h = h.0
@@ -68,7 +88,8 @@ module _ (g : Graph) where
   no_cycle_then (BadOrder p) l m h = h.0
   no_cycle_then OutOfMemory l m h = absurd (omega (arith, m))
 
-  few_then : (fault : RuleFault) → 1 < rank_of_fault fault → rank_of_fault fault < 6 → IsFirstCause g fault → track_count g ≤ most_tracks
+  few_then : (fault : RuleFault) → 1 < rank_of_fault fault → rank_of_fault fault < 6 → IsFirstCause g fault →
+      track_count g ≤ most_tracks
   few_then (Cycle walk) l m h = absurd (omega (arith, l))
   few_then TooManyTracks l m h = absurd (omega (arith, l))
   few_then (TwoAlternatives p least) l m h = h.1
@@ -77,7 +98,8 @@ module _ (g : Graph) where
   few_then (BadOrder p) l m h = h.1
   few_then OutOfMemory l m h = absurd (omega (arith, m))
 
-  joins_then : (fault : RuleFault) → 2 < rank_of_fault fault → rank_of_fault fault < 6 → IsFirstCause g fault → HasSingleJoins g
+  joins_then : (fault : RuleFault) → 2 < rank_of_fault fault → rank_of_fault fault < 6 → IsFirstCause g fault →
+      HasSingleJoins g
   joins_then (Cycle walk) l m h = absurd (omega (arith, l))
   joins_then TooManyTracks l m h = absurd (omega (arith, l))
   joins_then (TwoAlternatives p least) l m h = absurd (omega (arith, l))
@@ -86,7 +108,8 @@ module _ (g : Graph) where
   joins_then (BadOrder p) l m h = h.2
   joins_then OutOfMemory l m h = absurd (omega (arith, m))
 
-  slots_then : (fault : RuleFault) → 3 < rank_of_fault fault → rank_of_fault fault < 6 → IsFirstCause g fault → HasSenderSlots g
+  slots_then : (fault : RuleFault) → 3 < rank_of_fault fault → rank_of_fault fault < 6 → IsFirstCause g fault →
+      HasSenderSlots g
   slots_then (Cycle walk) l m h = absurd (omega (arith, l))
   slots_then TooManyTracks l m h = absurd (omega (arith, l))
   slots_then (TwoAlternatives p least) l m h = absurd (omega (arith, l))
@@ -104,7 +127,8 @@ module _ (g : Graph) where
   sizes_then (BadOrder p) l m h = h.4
   sizes_then OutOfMemory l m h = absurd (omega (arith, m))
 
-  apart : (fault other : RuleFault) → rank_of_fault fault < rank_of_fault other → rank_of_fault other < 6 → IsFirstCause g fault → IsFirstCause g other → ⊥
+  apart : (fault other : RuleFault) → rank_of_fault fault < rank_of_fault other → rank_of_fault other < 6 →
+      IsFirstCause g fault → IsFirstCause g other → ⊥
   apart (Cycle walk) other l m h k = no_cycle_then other l m k (walk, h)
   apart TooManyTracks other l m h k = let f = few_then other l m k in let n = h.1 in omega (arith, f, n)
   apart (TwoAlternatives p least) other l m h k =
@@ -126,7 +150,9 @@ module _ (g : Graph) where
   below (BadOrder p) kept = omega arith
   below OutOfMemory kept = absurd (kept refl)
 
-  one : (fault other : RuleFault) → fault ≢ OutOfMemory → other ≢ OutOfMemory → IsFirstCause g fault → IsFirstCause g other → rank_of_fault fault ≡ rank_of_fault other
+  one : (fault other : RuleFault) → fault ≢ OutOfMemory → other ≢ OutOfMemory → IsFirstCause g fault →
+      IsFirstCause g other →
+      rank_of_fault fault ≡ rank_of_fault other
   one fault other kept kept' h k = elim (cases_lt (rank_of_fault fault) (rank_of_fault other)) [
     | inl l ↦ absurd (apart fault other l (below other kept') h k)
     | inr m ↦ elim (cases_lt (rank_of_fault other) (rank_of_fault fault)) [
@@ -138,7 +164,8 @@ module _ (g : Graph) where
 -- Two first causes of one kind are the same.
 
 -- the first number of a kind is one
-one_first : (holds : ℕ → Bool) (m n : ℕ) → holds m ≡ true → ((k : ℕ) → k < m → holds k ≡ false) → holds n ≡ true → ((k : ℕ) → k < n → holds k ≡ false) → m ≡ n
+one_first : (holds : ℕ → Bool) (m n : ℕ) → holds m ≡ true → ((k : ℕ) → k < m → holds k ≡ false) → holds n ≡ true →
+    ((k : ℕ) → k < n → holds k ≡ false) → m ≡ n
 one_first holds m n h before k earlier = elim (cases_lt m n) [
   | inl l ↦ absurd (true≢false (sym h ∙ earlier m l))
   | inr a ↦ elim (cases_lt n m) [
@@ -160,7 +187,8 @@ module _ (g : Graph) where
     ]
   ]
 
-  same_two : (p q : ℕ) (s t : Scenario) → HasTwoInputs g p s → HasTwoInputs g q t → TwoAlternatives p s ≡ TwoAlternatives q t
+  same_two : (p q : ℕ) (s t : Scenario) → HasTwoInputs g p s → HasTwoInputs g q t →
+      TwoAlternatives p s ≡ TwoAlternatives q t
   same_two p q s t h k =
       let join = one_join h.order k.order p q s t h.two k.two in
       let order = one_urgency_order g k.order h.order k.urgency h.urgency in
@@ -168,7 +196,8 @@ module _ (g : Graph) where
       λ i. TwoAlternatives (join i) (one_least g h.order h.urgency.all (λ u. has_two_live g u.values q ≡ true) s t
       (subst (λ r. IsLeast g h.order (λ u. has_two_live g u.values r ≡ true) s) join h.two.least) least i)
 
-  alike : (fault other : RuleFault) → rank_of_fault fault ≡ rank_of_fault other → 0 < rank_of_fault fault → rank_of_fault fault < 6 → IsFirstCause g fault → IsFirstCause g other → fault ≡ other
+  alike : (fault other : RuleFault) → rank_of_fault fault ≡ rank_of_fault other → 0 < rank_of_fault fault →
+      rank_of_fault fault < 6 → IsFirstCause g fault → IsFirstCause g other → fault ≡ other
   alike (Cycle walk) other e l m h k = absurd (omega (arith, l))
   alike OutOfMemory other e l m h k = absurd (omega (arith, m))
   alike TooManyTracks TooManyTracks e l m h k = refl
@@ -185,14 +214,16 @@ module _ (g : Graph) where
   alike (TwoAlternatives p s) (TooBig b) e l m h k = absurd (omega (arith, e))
   alike (TwoAlternatives p s) (BadOrder r) e l m h k = absurd (omega (arith, e))
   alike (TwoAlternatives p s) OutOfMemory e l m h k = absurd (omega (arith, e))
-  alike (NoSlot node) (NoSlot other) e l m h k = ap NoSlot (one_first (lacks_slot g) node other h.3.lacks h.3.before k.3.lacks k.3.before)
+  alike (NoSlot node) (NoSlot other) e l m h k =
+      ap NoSlot (one_first (lacks_slot g) node other h.3.lacks h.3.before k.3.lacks k.3.before)
   alike (NoSlot node) (Cycle walk) e l m h k = absurd (omega (arith, e))
   alike (NoSlot node) TooManyTracks e l m h k = absurd (omega (arith, e))
   alike (NoSlot node) (TwoAlternatives q t) e l m h k = absurd (omega (arith, e))
   alike (NoSlot node) (TooBig b) e l m h k = absurd (omega (arith, e))
   alike (NoSlot node) (BadOrder r) e l m h k = absurd (omega (arith, e))
   alike (NoSlot node) OutOfMemory e l m h k = absurd (omega (arith, e))
-  alike (TooBig a) (TooBig b) e l m h k = ap TooBig (one_first (is_too_big g) a b h.4.above h.4.before k.4.above k.4.before)
+  alike (TooBig a) (TooBig b) e l m h k =
+      ap TooBig (one_first (is_too_big g) a b h.4.above h.4.before k.4.above k.4.before)
   alike (TooBig a) (Cycle walk) e l m h k = absurd (omega (arith, e))
   alike (TooBig a) TooManyTracks e l m h k = absurd (omega (arith, e))
   alike (TooBig a) (TwoAlternatives q t) e l m h k = absurd (omega (arith, e))
@@ -211,5 +242,6 @@ pub graphs_show_first_causes : GraphsShowFirstCauses
 graphs_show_first_causes g = record {
   first = first g;
   one = one g;
-  same = λ fault other kept kept' later h k. alike g fault other (one g fault other kept kept' h k) later (below g fault kept) h k;
+  same = λ fault other kept kept' later h k.
+      alike g fault other (one g fault other kept kept' h k) later (below g fault kept) h k;
 }

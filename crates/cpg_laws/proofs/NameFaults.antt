@@ -1,6 +1,8 @@
 -- Names that stand twice, or name nothing, do so in the document.
-use Rattle.std.proofs.Common.{◌≡◌, ◌≢◌, ℕ, zero, suc, ◌+◌, ◌<◌, ◌⊎◌, Bool, true, false, not, ◌&&◌, ◌||◌, List, [], ◌∷◌, ◌++◌, Option, Some, None, is_some, unwrap_or, option_and_then, option_map}
-use Rattle.std.proofs.Common.{Contains, length, map, position, append_assoc, cond, slice_get, refl, sym, ap, ◌∙◌, subst, inl, inr, true≢false, arith, add-zero, zero-add}
+use Rattle.std.proofs.Common.{◌≡◌, ◌≢◌, ℕ, zero, suc, ◌+◌, ◌<◌, ◌⊎◌, Bool, true, false, not, ◌&&◌, ◌||◌, List, [], ◌∷◌}
+use Rattle.std.proofs.Common.{◌++◌, Option, Some, None, is_some, unwrap_or, option_and_then, option_map}
+use Rattle.std.proofs.Common.{Contains, length, map, position, append_assoc, cond, slice_get, refl, sym, ap, ◌∙◌, subst}
+use Rattle.std.proofs.Common.{inl, inr, true≢false, arith, add-zero, zero-add}
 use Rattle.std.specs.Prelude.{bytes_eq}
 use Rattle.std.specs.List.{list_any, list_all}
 use Rattle.std.proofs.Math.Bool.{or-false}
@@ -10,7 +12,8 @@ use Rattle.std.proofs.lemmas.List.Folds.{list_any-append}
 use Rattle.std.proofs.lemmas.List.Elements.{Contains-append_left, Contains-append_right}
 use Rattle.std.proofs.lemmas.Slice.Eq.{bytes_eq-Decides}
 use Rattle.toml.specs.Data.{Data, string, integer, float, boolean, datetime, array, table, Members, get_member}
-use Rattle.cpg_base.proofs.Lists.{Contains-first, Contains-rest, Contains-cases, Contains-nil, Contains-slice_get, slice_get-Contains, list_any_true, list_any_parts}
+use Rattle.cpg_base.proofs.Lists.{Contains-first, Contains-rest, Contains-cases, Contains-nil, Contains-slice_get}
+use Rattle.cpg_base.proofs.Lists.{slice_get-Contains, list_any_true, list_any_parts}
 use Rattle.cpg_reader.specs.declared.place.Table.{Table}
 use Rattle.cpg_reader.specs.declared.place.Table.TheVariants as tables
 use Rattle.cpg_reader.specs.declared.place.Key.{Key}
@@ -20,11 +23,14 @@ use Rattle.cpg_reader.specs.declared.place.ReadFault.{ReadFault}
 use Rattle.cpg_reader.specs.declared.place.ReadFault.TheVariants.{DoubleName, UnknownName}
 use Rattle.cpg_reader.specs.Rows.{text_of, as_name, is_name}
 use Rattle.cpg_reader.specs.Names.{place, slot_names, process_names}
-use Rattle.cpg_laws.specs.GraphFiles.{unless, of_each, is_good_value, needed_name, elements, doubles_from, differ_from, order_place, order_doubles, double_faults, is_known, order_unknowns, unknown}
+use Rattle.cpg_laws.specs.GraphFiles.{unless, of_each, is_good_value, needed_name, elements, doubles_from, differ_from}
+use Rattle.cpg_laws.specs.GraphFiles.{order_place, order_doubles, double_faults, is_known, order_unknowns, unknown}
 use Rattle.cpg_laws.specs.GraphFiles.{unknown_ends, unknown_faults}
-use Rattle.cpg_laws.specs.DocumentFaults.{table_at, found_at, fields_of, HasGoodFields, is_own_name, order_names, HasTwice, IsDouble, named_in, IsUnknown}
+use Rattle.cpg_laws.specs.DocumentFaults.{table_at, found_at, fields_of, HasGoodFields, is_own_name, order_names}
+use Rattle.cpg_laws.specs.DocumentFaults.{HasTwice, IsDouble, named_in, IsUnknown}
 use Rattle.cpg_laws.proofs.DocumentValues.{name_in, slot_in, process_in, edge_in, graph_in}
-use Rattle.cpg_laws.proofs.FaultLists.{Each, Stand, each_joined, each_unless, each_of_each, unless_contains, stand_all, of_each_contains, of_each_mapped, some_position}
+use Rattle.cpg_laws.proofs.FaultLists.{Each, Stand, each_joined, each_unless, each_of_each, unless_contains, stand_all}
+use Rattle.cpg_laws.proofs.FaultLists.{of_each_contains, of_each_mapped, some_position}
 use Rattle.cpg_laws.proofs.LimitFaults.{good_value, found_in, found_parts}
 
 -- ---- names that are good
@@ -33,7 +39,8 @@ name_by : (s : List ℕ) (b : Bool) → is_some (cond b (Some s) None) ≡ true 
 name_by s true e = refl
 name_by s false e = absurd (true≢false (sym e))
 
-said : (o : Option Data) → is_good_value (needed_name Name) o ≡ true → o ≡ Some (string (unwrap_or (option_and_then as_name o) []))
+said : (o : Option Data) → is_good_value (needed_name Name) o ≡ true →
+    o ≡ Some (string (unwrap_or (option_and_then as_name o) []))
 said None e = absurd (true≢false (sym e))
 said (Some (string s)) e = ap (λ n. Some (string n)) (sym (name_by s (is_name s) e))
 said (Some (integer z)) e = absurd (true≢false (sym e))
@@ -43,7 +50,8 @@ said (Some (datetime t)) e = absurd (true≢false (sym e))
 said (Some (array ds)) e = absurd (true≢false (sym e))
 said (Some (table m)) e = absurd (true≢false (sym e))
 
-mapped_parts : {S T : Type 0} (f : S → T) (o : Option S) (y : T) → option_map f o ≡ Some y → (x : S) × (o ≡ Some x) × (f x ≡ y)
+mapped_parts : {S T : Type 0} (f : S → T) (o : Option S) (y : T) → option_map f o ≡ Some y →
+    (x : S) × (o ≡ Some x) × (f x ≡ y)
 mapped_parts f None y e = cc
 mapped_parts f (Some x) y e = (x, refl, cc)
 
@@ -59,39 +67,50 @@ same_bytes a b e = (bytes_eq-Decides a b).0 e
 
 module _ (ms : Members) (good : HasGoodFields ms) where
   -- a name of a table: what is read there is what the document says
-  name_stands : (t : Table) (i : ℕ) (row : Members) (key : Key) → table_at ms t i ≡ Some row → Contains (fields_of t) (needed_name key) → found_at ms t i key ≡ Some (string (name_in row key))
-  name_stands t i row key at field = found_in ms t i row key at ∙ said (get_member (text_of key) row) (good_value ms good t i row at (needed_name key) field)
+  name_stands : (t : Table) (i : ℕ) (row : Members) (key : Key) → table_at ms t i ≡ Some row →
+      Contains (fields_of t) (needed_name key) →
+      found_at ms t i key ≡ Some (string (name_in row key))
+  name_stands t i row key at field = found_in ms t i row key at
+      ∙ said (get_member (text_of key) row) (good_value ms good t i row at (needed_name key) field)
 
-  name_is : (t : Table) (i : ℕ) (key : Key) (name : List ℕ) → Contains (fields_of t) (needed_name key) → found_at ms t i key ≡ Some (string name) → (row : Members) × (table_at ms t i ≡ Some row) ×
+  name_is : (t : Table) (i : ℕ) (key : Key) (name : List ℕ) → Contains (fields_of t) (needed_name key) →
+      found_at ms t i key ≡ Some (string name) →
+      (row : Members) × (table_at ms t i ≡ Some row) ×
       (name_in row key ≡ name)
   name_is t i key name field found =
       let (row, at, value) = found_parts (table_at ms t i) (text_of key) (string name) found in
       let stands = name_stands t i row key at field in
       (row, at, let same : name_in row key ≡ name = cc in same)
 
-  module _ (t : Table) (key : Key) (rows : List Members) (are : (i : ℕ) → table_at ms t i ≡ slice_get rows i) (field : Contains (fields_of t) (needed_name key)) where
+  module _ (t : Table) (key : Key) (rows : List Members) (are : (i : ℕ) → table_at ms t i ≡ slice_get rows i)
+      (field : Contains (fields_of t) (needed_name key)) where
     abbrev names : List (List ℕ)
     names = map (λ row. name_in row key) rows
 
     name_found : (i : ℕ) (name : List ℕ) → slice_get names i ≡ Some name → found_at ms t i key ≡ Some (string name)
     name_found i name e =
-        let (row, at, same) = mapped_parts (λ row. name_in row key) (slice_get rows i) name (sym (slice_get-map (λ row. name_in row key) rows i) ∙ e) in
+        let (row, at, same) = mapped_parts (λ row. name_in row key) (slice_get rows i) name
+        (sym (slice_get-map (λ row. name_in row key) rows i) ∙ e) in
         name_stands t i row key (are i ∙ at) field ∙ ap (λ n. Some (string n)) same
 
     found_name : (i : ℕ) (name : List ℕ) → found_at ms t i key ≡ Some (string name) → slice_get names i ≡ Some name
     found_name i name e =
         let (row, at, same) = name_is t i key name field e in
-        slice_get-map (λ row. name_in row key) rows i ∙ ap (option_map (λ row. name_in row key)) (sym (are i) ∙ at) ∙ ap Some same
+        slice_get-map (λ row. name_in row key) rows i
+        ∙ ap (option_map (λ row. name_in row key)) (sym (are i) ∙ at) ∙ ap Some same
 
     names_stand : Stand (λ i name. found_at ms t i key ≡ Some (string name)) 0 names
     names_stand = stand_all (λ i name. found_at ms t i key ≡ Some (string name)) names name_found
 
     -- a name is none of these exactly if none of the tables has it
-    no_name : (name : List ℕ) → is_some (position (bytes_eq name) names) ≡ false → (j : ℕ) → found_at ms t j key ≢ Some (string name)
-    no_name name e j found = true≢false (sym (some_position (bytes_eq name) names ∙ list_any_true (bytes_eq name) names name (Contains-slice_get names j name (found_name j name found))
+    no_name : (name : List ℕ) → is_some (position (bytes_eq name) names) ≡ false → (j : ℕ) →
+        found_at ms t j key ≢ Some (string name)
+    no_name name e j found = true≢false (sym (some_position (bytes_eq name) names
+        ∙ list_any_true (bytes_eq name) names name (Contains-slice_get names j name (found_name j name found))
         ((bytes_eq-Decides name name).1 refl)) ∙ e)
 
-    name_missing : (name : List ℕ) → ((j : ℕ) → found_at ms t j key ≢ Some (string name)) → is_some (position (bytes_eq name) names) ≡ false
+    name_missing : (name : List ℕ) → ((j : ℕ) → found_at ms t j key ≢ Some (string name)) →
+        is_some (position (bytes_eq name) names) ≡ false
     name_missing name none = false_from_ne_true (is_some (position (bytes_eq name) names)) (λ e.
         let (other, c, same) = list_any_parts (bytes_eq name) names (sym (some_position (bytes_eq name) names) ∙ e) in
         let (j, at) = slice_get-Contains names other c in
@@ -103,17 +122,21 @@ abbrev pub IsTwice : Members → ReadFault → Type 0
 IsTwice ms fault = (at : Place) × (fault ≡ DoubleName at) × IsDouble ms at
 
 module _ (name : List ℕ) (before : List (List ℕ)) (last : List ℕ) where
-  among_more : list_any (bytes_eq name) (before ++ last ∷ []) ≡ true → (list_any (bytes_eq name) before ≡ true) ⊎ (name ≡ last)
-  among_more e = elim (or_cases (list_any (bytes_eq name) before) (bytes_eq name last || false) (sym (list_any-append (bytes_eq name) before (last ∷ [])) ∙ e)) [
-    | inl h ↦ inl h
-    | inr h ↦ inr (same_bytes name last (sym (or-false (bytes_eq name last)) ∙ h))
-  ]
+  among_more : list_any (bytes_eq name) (before ++ last ∷ []) ≡ true →
+      (list_any (bytes_eq name) before ≡ true) ⊎ (name ≡ last)
+  among_more e = elim (or_cases (list_any (bytes_eq name) before) (bytes_eq name last || false)
+      (sym (list_any-append (bytes_eq name) before (last ∷ [])) ∙ e)) [
+        | inl h ↦ inl h
+        | inr h ↦ inr (same_bytes name last (sym (or-false (bytes_eq name last)) ∙ h))
+      ]
 
   still_among : list_any (bytes_eq name) before ≡ true → list_any (bytes_eq name) (before ++ last ∷ []) ≡ true
-  still_among e = list_any-append (bytes_eq name) before (last ∷ []) ∙ or_left (list_any (bytes_eq name) before) (bytes_eq name last || false) e
+  still_among e = list_any-append (bytes_eq name) before (last ∷ [])
+      ∙ or_left (list_any (bytes_eq name) before) (bytes_eq name last || false) e
 
   now_among : last ≡ name → list_any (bytes_eq name) (before ++ last ∷ []) ≡ true
-  now_among same = list_any-append (bytes_eq name) before (last ∷ []) ∙ or_right (list_any (bytes_eq name) before) (bytes_eq name last || false)
+  now_among same = list_any-append (bytes_eq name) before (last ∷ [])
+      ∙ or_right (list_any (bytes_eq name) before) (bytes_eq name last || false)
       (or_left (bytes_eq name last) false ((bytes_eq-Decides name last).1 (sym same)))
 
 onward : (i k : ℕ) → (i + 1) + k ≡ i + suc k
@@ -123,41 +146,58 @@ module _ (ms : Members) (t : Table) (key : Key) (own : is_own_name t key ≡ tru
   abbrev StandsBefore : ℕ → List ℕ → Type 0
   StandsBefore i name = (j : ℕ) × (j < i) × (found_at ms t j key ≡ Some (string name))
 
-  doubles_are_twice : (i : ℕ) (before names : List (List ℕ)) → ((name : List ℕ) → list_any (bytes_eq name) before ≡ true → StandsBefore i name) →
-      Stand (λ i name. found_at ms t i key ≡ Some (string name)) i names → Each (IsTwice ms) (doubles_from t key i before names)
+  doubles_are_twice : (i : ℕ) (before names : List (List ℕ)) →
+      ((name : List ℕ) → list_any (bytes_eq name) before ≡ true → StandsBefore i name) →
+      Stand (λ i name. found_at ms t i key ≡ Some (string name)) i names →
+      Each (IsTwice ms) (doubles_from t key i before names)
   doubles_are_twice i before [] seen stand = tt
-  doubles_are_twice i before (name ∷ names) seen stand = each_joined (IsTwice ms) (unless (not (list_any (bytes_eq name) before)) (DoubleName (place t i key)))
+  doubles_are_twice i before (name ∷ names) seen stand =
+      each_joined (IsTwice ms) (unless (not (list_any (bytes_eq name) before)) (DoubleName (place t i key)))
       (doubles_from t key (i + 1) (before ++ name ∷ []) names)
       (each_unless (IsTwice ms) (not (list_any (bytes_eq name) before)) (DoubleName (place t i key))
-      (λ e. let (j, l, found) = seen name (not-false (list_any (bytes_eq name) before) e) in (place t i key, refl, inl (own, name, stand.0, j, l, found))))
-      (doubles_are_twice (i + 1) (before ++ name ∷ []) names (λ other e. more other (among_more other before name e)) stand.1)
+      (λ e. let (j, l, found) = seen name (not-false (list_any (bytes_eq name) before) e) in
+      (place t i key, refl, inl (own, name, stand.0, j, l, found))))
+      (doubles_are_twice (i + 1) (before ++ name ∷ []) names
+      (λ other e. more other (among_more other before name e)) stand.1)
     where
       more : (other : List ℕ) → (list_any (bytes_eq other) before ≡ true) ⊎ (other ≡ name) → StandsBefore (i + 1) other
       more other (inl h) = let (j, l, found) = seen other h in (j, omega (arith, l), found)
       more other (inr same) = (i, omega arith, stand.0 ∙ ap (λ n. Some (string n)) (sym same))
 
 module _ (t : Table) (key : Key) where
-  double_from : (i k : ℕ) (before names : List (List ℕ)) (name : List ℕ) → slice_get names k ≡ Some name → (list_any (bytes_eq name) before ≡ true) ⊎
-      ((j : ℕ) × (j < k) × (slice_get names j ≡ Some name)) → Contains (doubles_from t key i before names) (DoubleName (place t (i + k) key))
+  double_from : (i k : ℕ) (before names : List (List ℕ)) (name : List ℕ) → slice_get names k ≡ Some name →
+      (list_any (bytes_eq name) before ≡ true) ⊎
+      ((j : ℕ) × (j < k) × (slice_get names j ≡ Some name)) →
+      Contains (doubles_from t key i before names) (DoubleName (place t (i + k) key))
   double_from i k before [] name e seen = cc
-  double_from i zero before (n ∷ names) name e (inl seen) = Contains-append_left (unless (not (list_any (bytes_eq n) before)) (DoubleName (place t i key)))
+  double_from i zero before (n ∷ names) name e (inl seen) =
+      Contains-append_left (unless (not (list_any (bytes_eq n) before)) (DoubleName (place t i key)))
       (doubles_from t key (i + 1) (before ++ n ∷ []) names) (DoubleName (place t (i + 0) key))
-      (subst (λ at. Contains (unless (not (list_any (bytes_eq n) before)) (DoubleName (place t i key))) (DoubleName (place t at key))) (sym (add-zero i))
-      (unless_contains (not (list_any (bytes_eq n) before)) (DoubleName (place t i key)) (ap not (ap (λ z. list_any (bytes_eq z) before) (let same : n ≡ name = cc in same) ∙ seen))))
+      (subst (λ at. Contains (unless (not (list_any (bytes_eq n) before)) (DoubleName (place t i key)))
+      (DoubleName (place t at key))) (sym (add-zero i))
+      (unless_contains (not (list_any (bytes_eq n) before)) (DoubleName (place t i key))
+      (ap not (ap (λ z. list_any (bytes_eq z) before) (let same : n ≡ name = cc in same) ∙ seen))))
   double_from i zero before (n ∷ names) name e (inr seen) = absurd (let l = seen.1 in omega (arith, l))
-  double_from i (suc k) before (n ∷ names) name e seen = Contains-append_right (unless (not (list_any (bytes_eq n) before)) (DoubleName (place t i key)))
+  double_from i (suc k) before (n ∷ names) name e seen =
+      Contains-append_right (unless (not (list_any (bytes_eq n) before)) (DoubleName (place t i key)))
       (doubles_from t key (i + 1) (before ++ n ∷ []) names) (DoubleName (place t (i + suc k) key))
-      (subst (λ at. Contains (doubles_from t key (i + 1) (before ++ n ∷ []) names) (DoubleName (place t at key))) (onward i k) (double_from (i + 1) k (before ++ n ∷ []) names name e (more seen)))
+      (subst (λ at. Contains (doubles_from t key (i + 1) (before ++ n ∷ []) names) (DoubleName (place t at key)))
+      (onward i k) (double_from (i + 1) k (before ++ n ∷ []) names name e (more seen)))
     where
-      more : (list_any (bytes_eq name) before ≡ true) ⊎ ((j : ℕ) × (j < suc k) × (slice_get (n ∷ names) j ≡ Some name)) → (list_any (bytes_eq name) (before ++ n ∷ []) ≡ true) ⊎
+      more : (list_any (bytes_eq name) before ≡ true) ⊎
+          ((j : ℕ) × (j < suc k) × (slice_get (n ∷ names) j ≡ Some name)) →
+          (list_any (bytes_eq name) (before ++ n ∷ []) ≡ true) ⊎
           ((j : ℕ) × (j < k) × (slice_get names j ≡ Some name))
       more (inl h) = inl (still_among name before n h)
       more (inr (zero, l, is)) = inl (now_among name before n (let same : n ≡ name = cc in same))
       more (inr (suc j, l, is)) = inr (j, omega (arith, l), is)
 
-  double_at : (i j : ℕ) (names : List (List ℕ)) (name : List ℕ) → slice_get names i ≡ Some name → j < i → slice_get names j ≡ Some name →
+  double_at : (i j : ℕ) (names : List (List ℕ)) (name : List ℕ) → slice_get names i ≡ Some name → j < i →
+      slice_get names j ≡ Some name →
       Contains (doubles_from t key 0 [] names) (DoubleName (place t i key))
-  double_at i j names name here l there = subst (λ at. Contains (doubles_from t key 0 [] names) (DoubleName (place t at key))) (zero-add i) (double_from 0 i [] names name here (inr (j, l, there)))
+  double_at i j names name here l there =
+      subst (λ at. Contains (doubles_from t key 0 [] names) (DoubleName (place t at key))) (zero-add i)
+      (double_from 0 i [] names name here (inr (j, l, there)))
 
 -- ---- names of a list
 
@@ -179,7 +219,8 @@ two_from : (before names : List (List ℕ)) → differ_from before names ≡ fal
 two_from before [] e = absurd (true≢false e)
 two_from before (name ∷ names) e = by (list_any (bytes_eq name) before) refl (two_from (before ++ name ∷ []) names) e
   where
-    by : (b : Bool) → list_any (bytes_eq name) before ≡ b → (differ_from (before ++ name ∷ []) names ≡ false → HasTwice ((before ++ name ∷ []) ++ names)) →
+    by : (b : Bool) → list_any (bytes_eq name) before ≡ b →
+        (differ_from (before ++ name ∷ []) names ≡ false → HasTwice ((before ++ name ∷ []) ++ names)) →
         (not b && differ_from (before ++ name ∷ []) names) ≡ false → HasTwice (before ++ name ∷ names)
     by true is later h =
         let (other, c, same) = list_any_parts (bytes_eq name) before is in
@@ -196,21 +237,27 @@ two_from before (name ∷ names) e = by (list_any (bytes_eq name) before) refl (
 stand_in_two : (names : List (List ℕ)) → differ_from [] names ≡ false → HasTwice names
 stand_in_two names e = two_from [] names e
 
-none_double : (t : Table) (key : Key) (i : ℕ) (before names : List (List ℕ)) → differ_from before names ≡ true → doubles_from t key i before names ≡ []
+none_double : (t : Table) (key : Key) (i : ℕ) (before names : List (List ℕ)) → differ_from before names ≡ true →
+    doubles_from t key i before names ≡ []
 none_double t key i before [] e = refl
-none_double t key i before (name ∷ names) e = by (list_any (bytes_eq name) before) (none_double t key (i + 1) (before ++ name ∷ []) names) e
+none_double t key i before (name ∷ names) e =
+    by (list_any (bytes_eq name) before) (none_double t key (i + 1) (before ++ name ∷ []) names) e
   where
-    by : (b : Bool) → (differ_from (before ++ name ∷ []) names ≡ true → doubles_from t key (i + 1) (before ++ name ∷ []) names ≡ []) →
-        (not b && differ_from (before ++ name ∷ []) names) ≡ true → (unless (not b) (DoubleName (place t i key)) ++ doubles_from t key (i + 1) (before ++ name ∷ []) names) ≡ []
+    by : (b : Bool) →
+        (differ_from (before ++ name ∷ []) names ≡ true → doubles_from t key (i + 1) (before ++ name ∷ []) names ≡ []) →
+        (not b && differ_from (before ++ name ∷ []) names) ≡ true →
+        (unless (not b) (DoubleName (place t i key)) ++ doubles_from t key (i + 1) (before ++ name ∷ []) names) ≡ []
     by true later h = absurd (true≢false (sym h))
     by false later h = later h
 
 two_differ_not : (names : List (List ℕ)) → HasTwice names → differ_from [] names ≡ false
 two_differ_not names (name, i, here, j, l, there) = false_from_ne_true (differ_from [] names)
     (λ e. Contains-nil (DoubleName (place tables.Node i Name))
-    (subst (λ faults. Contains faults (DoubleName (place tables.Node i Name))) (none_double tables.Node Name 0 [] names e) (double_at tables.Node Name i j names name here l there)))
+    (subst (λ faults. Contains faults (DoubleName (place tables.Node i Name)))
+    (none_double tables.Node Name 0 [] names e) (double_at tables.Node Name i j names name here l there)))
 
-some_fails : (test : List ℕ → Bool) (xs : List (List ℕ)) → list_all test xs ≡ false → (x : List ℕ) × Contains xs x × (test x ≡ false)
+some_fails : (test : List ℕ → Bool) (xs : List (List ℕ)) → list_all test xs ≡ false →
+    (x : List ℕ) × Contains xs x × (test x ≡ false)
 some_fails test [] e = absurd (true≢false e)
 some_fails test (x ∷ xs) e = by (test x) refl (some_fails test xs) e
   where
@@ -223,7 +270,8 @@ and_fails : (b c : Bool) → c ≡ false → (b && c) ≡ false
 and_fails true c e = e
 and_fails false c e = refl
 
-one_fails : (test : List ℕ → Bool) (xs : List (List ℕ)) (x : List ℕ) → Contains xs x → test x ≡ false → list_all test xs ≡ false
+one_fails : (test : List ℕ → Bool) (xs : List (List ℕ)) (x : List ℕ) → Contains xs x → test x ≡ false →
+    list_all test xs ≡ false
 one_fails test [] x c fails = absurd (Contains-nil x c)
 one_fails test (z ∷ xs) x c fails = elim (Contains-cases z xs x c) [
   | inl same ↦ ap (λ b. b && list_all test xs) (ap test same ∙ fails)
@@ -246,45 +294,76 @@ module _ (ms : Members) (good : HasGoodFields ms) where
   processes_named : process_names (map process_in (elements ms Process)) ≡ all_processes
   processes_named = mapped_twice process_in (λ p. p.name) (elements ms Process)
 
-  stand_twice : (t : Table) (key : Key) (rows : List Members) → ((i : ℕ) → table_at ms t i ≡ slice_get rows i) → Contains (fields_of t) (needed_name key) → is_own_name t key ≡ true →
-      (texts : List (List ℕ)) → texts ≡ map (λ row. name_in row key) rows → Each (IsTwice ms) (doubles_from t key 0 [] texts)
-  stand_twice t key rows are field own texts same = subst (λ names. Each (IsTwice ms) (doubles_from t key 0 [] names)) (sym same)
-      (doubles_are_twice ms t key own 0 [] (map (λ row. name_in row key) rows) (λ name e. absurd (true≢false (sym e))) (names_stand ms good t key rows are field))
+  stand_twice : (t : Table) (key : Key) (rows : List Members) → ((i : ℕ) → table_at ms t i ≡ slice_get rows i) →
+      Contains (fields_of t) (needed_name key) →
+      is_own_name t key ≡ true →
+      (texts : List (List ℕ)) → texts ≡ map (λ row. name_in row key) rows →
+      Each (IsTwice ms) (doubles_from t key 0 [] texts)
+  stand_twice t key rows are field own texts same =
+      subst (λ names. Each (IsTwice ms) (doubles_from t key 0 [] names)) (sym same)
+      (doubles_are_twice ms t key own 0 [] (map (λ row. name_in row key) rows) (λ name e. absurd (true≢false (sym e)))
+      (names_stand ms good t key rows are field))
 
   pub doubles_stand : Each (IsTwice ms) (double_faults (graph_in ms))
   doubles_stand =
-      each_joined (IsTwice ms) _ _ (stand_twice tables.Node Name (elements ms Node) (λ i. refl) (0, omega arith, refl) refl node_names refl)
-      (each_joined (IsTwice ms) _ _ (stand_twice tables.Slot Node (elements ms Slot) (λ i. refl) (0, omega arith, refl) refl (slot_names (map slot_in (elements ms Slot))) slots_named)
-      (each_joined (IsTwice ms) _ _ (stand_twice tables.Process Name (elements ms Process) (λ i. refl) (0, omega arith, refl) refl
+      each_joined (IsTwice ms) _ _
+      (stand_twice tables.Node Name (elements ms Node) (λ i. refl) (0, omega arith, refl) refl node_names refl)
+      (each_joined (IsTwice ms) _ _ (stand_twice tables.Slot Node (elements ms Slot) (λ i. refl)
+      (0, omega arith, refl) refl (slot_names (map slot_in (elements ms Slot))) slots_named)
+      (each_joined (IsTwice ms) _ _
+      (stand_twice tables.Process Name (elements ms Process) (λ i. refl) (0, omega arith, refl) refl
       (process_names (map process_in (elements ms Process))) processes_named)
-      (each_unless (IsTwice ms) (differ_from [] (order_names ms)) (DoubleName order_place) (λ e. (order_place, refl, inr (refl, stand_in_two (order_names ms) e))))))
+      (each_unless (IsTwice ms) (differ_from [] (order_names ms)) (DoubleName order_place)
+      (λ e. (order_place, refl, inr (refl, stand_in_two (order_names ms) e))))))
 
-  double_of : (t : Table) (key : Key) (rows : List Members) → ((i : ℕ) → table_at ms t i ≡ slice_get rows i) → Contains (fields_of t) (needed_name key) → (texts : List (List ℕ)) →
+  double_of : (t : Table) (key : Key) (rows : List Members) → ((i : ℕ) → table_at ms t i ≡ slice_get rows i) →
+      Contains (fields_of t) (needed_name key) →
+      (texts : List (List ℕ)) →
       texts ≡ map (λ row. name_in row key) rows →
-      (i j : ℕ) (name : List ℕ) → found_at ms t i key ≡ Some (string name) → j < i → found_at ms t j key ≡ Some (string name) → Contains (doubles_from t key 0 [] texts) (DoubleName (place t i key))
-  double_of t key rows are field texts same i j name here l there = subst (λ names. Contains (doubles_from t key 0 [] names) (DoubleName (place t i key))) (sym same)
-      (double_at t key i j (map (λ row. name_in row key) rows) name (found_name ms good t key rows are field i name here) l (found_name ms good t key rows are field j name there))
+      (i j : ℕ) (name : List ℕ) → found_at ms t i key ≡ Some (string name) → j < i → found_at ms t j key
+      ≡ Some (string name) → Contains (doubles_from t key 0 [] texts) (DoubleName (place t i key))
+  double_of t key rows are field texts same i j name here l there =
+      subst (λ names. Contains (doubles_from t key 0 [] names) (DoubleName (place t i key))) (sym same)
+      (double_at t key i j (map (λ row. name_in row key) rows) name
+      (found_name ms good t key rows are field i name here) l
+      (found_name ms good t key rows are field j name there))
 
-  double_in : (t : Table) (key : Key) → is_own_name t key ≡ true → (i j : ℕ) (name : List ℕ) → found_at ms t i key ≡ Some (string name) → j < i → found_at ms t j key ≡ Some (string name) →
+  double_in : (t : Table) (key : Key) → is_own_name t key ≡ true → (i j : ℕ) (name : List ℕ) →
+      found_at ms t i key ≡ Some (string name) → j < i →
+      found_at ms t j key ≡ Some (string name) →
       Contains (double_faults (graph_in ms)) (DoubleName (place t i key))
-  double_in tables.Node Name own i j name here l there = Contains-append_left (doubles_from tables.Node Name 0 [] node_names) _ (DoubleName (place tables.Node i Name))
-      (double_of tables.Node Name (elements ms Node) (λ i. refl) (0, omega arith, refl) node_names refl i j name here l there)
-  double_in tables.Slot Node own i j name here l there = Contains-append_right (doubles_from tables.Node Name 0 [] node_names) _ (DoubleName (place tables.Slot i Node))
-      (Contains-append_left (doubles_from tables.Slot Node 0 [] (slot_names (map slot_in (elements ms Slot)))) _ (DoubleName (place tables.Slot i Node))
-      (double_of tables.Slot Node (elements ms Slot) (λ i. refl) (0, omega arith, refl) (slot_names (map slot_in (elements ms Slot))) slots_named i j name here l there))
-  double_in tables.Process Name own i j name here l there = Contains-append_right (doubles_from tables.Node Name 0 [] node_names) _ (DoubleName (place tables.Process i Name))
-      (Contains-append_right (doubles_from tables.Slot Node 0 [] (slot_names (map slot_in (elements ms Slot)))) _ (DoubleName (place tables.Process i Name))
-      (Contains-append_left (doubles_from tables.Process Name 0 [] (process_names (map process_in (elements ms Process)))) (order_doubles (order_names ms)) (DoubleName (place tables.Process i Name))
-      (double_of tables.Process Name (elements ms Process) (λ i. refl) (0, omega arith, refl) (process_names (map process_in (elements ms Process))) processes_named i j name here l there)))
+  double_in tables.Node Name own i j name here l there =
+      Contains-append_left (doubles_from tables.Node Name 0 [] node_names) _ (DoubleName (place tables.Node i Name))
+      (double_of tables.Node Name (elements ms Node) (λ i. refl)
+      (0, omega arith, refl) node_names refl i j name here l there)
+  double_in tables.Slot Node own i j name here l there =
+      Contains-append_right (doubles_from tables.Node Name 0 [] node_names) _ (DoubleName (place tables.Slot i Node))
+      (Contains-append_left (doubles_from tables.Slot Node 0 [] (slot_names (map slot_in (elements ms Slot)))) _
+      (DoubleName (place tables.Slot i Node))
+      (double_of tables.Slot Node (elements ms Slot) (λ i. refl) (0, omega arith, refl)
+      (slot_names (map slot_in (elements ms Slot))) slots_named i j name here l there))
+  double_in tables.Process Name own i j name here l there =
+      Contains-append_right (doubles_from tables.Node Name 0 [] node_names) _ (DoubleName (place tables.Process i Name))
+      (Contains-append_right (doubles_from tables.Slot Node 0 [] (slot_names (map slot_in (elements ms Slot)))) _
+      (DoubleName (place tables.Process i Name))
+      (Contains-append_left
+      (doubles_from tables.Process Name 0 [] (process_names (map process_in (elements ms Process))))
+      (order_doubles (order_names ms)) (DoubleName (place tables.Process i Name))
+      (double_of tables.Process Name (elements ms Process) (λ i. refl) (0, omega arith, refl)
+      (process_names (map process_in (elements ms Process))) processes_named i j name here l there)))
   double_in t key own i j name here l there = absurd (true≢false (sym own))
 
   pub double_there : (at : Place) → IsDouble ms at → Contains (double_faults (graph_in ms)) (DoubleName at)
   double_there at (inl (own, name, here, j, l, there)) = double_in at.table at.key own at.index j name here l there
   double_there at (inr (same, twice)) = subst (λ p. Contains (double_faults (graph_in ms)) (DoubleName p)) (sym same)
       (Contains-append_right (doubles_from tables.Node Name 0 [] node_names) _ (DoubleName order_place)
-      (Contains-append_right (doubles_from tables.Slot Node 0 [] (slot_names (map slot_in (elements ms Slot)))) _ (DoubleName order_place)
-      (Contains-append_right (doubles_from tables.Process Name 0 [] (process_names (map process_in (elements ms Process)))) (order_doubles (order_names ms)) (DoubleName order_place)
-      (unless_contains (differ_from [] (order_names ms)) (DoubleName order_place) (two_differ_not (order_names ms) twice)))))
+      (Contains-append_right (doubles_from tables.Slot Node 0 [] (slot_names (map slot_in (elements ms Slot)))) _
+      (DoubleName order_place)
+      (Contains-append_right
+      (doubles_from tables.Process Name 0 [] (process_names (map process_in (elements ms Process))))
+      (order_doubles (order_names ms)) (DoubleName order_place)
+      (unless_contains (differ_from [] (order_names ms)) (DoubleName order_place)
+      (two_differ_not (order_names ms) twice)))))
 
 -- ---- names that name nothing
 
@@ -295,55 +374,79 @@ module _ (ms : Members) (good : HasGoodFields ms) where
   abbrev process_texts : List (List ℕ)
   process_texts = process_names (map process_in (elements ms Process))
 
-  no_node : (name : List ℕ) → is_some (position (bytes_eq name) (node_names ms good)) ≡ false → (j : ℕ) → found_at ms tables.Node j Name ≢ Some (string name)
+  no_node : (name : List ℕ) → is_some (position (bytes_eq name) (node_names ms good)) ≡ false → (j : ℕ) →
+      found_at ms tables.Node j Name ≢ Some (string name)
   no_node name e = no_name ms good tables.Node Name (elements ms Node) (λ i. refl) (0, omega arith, refl) name e
 
-  no_process : (name : List ℕ) → is_some (position (bytes_eq name) process_texts) ≡ false → (j : ℕ) → found_at ms tables.Process j Name ≢ Some (string name)
+  no_process : (name : List ℕ) → is_some (position (bytes_eq name) process_texts) ≡ false → (j : ℕ) →
+      found_at ms tables.Process j Name ≢ Some (string name)
   no_process name e = no_name ms good tables.Process Name (elements ms Process) (λ i. refl) (0, omega arith, refl) name
       (ap (λ names. is_some (position (bytes_eq name) names)) (sym (processes_named ms good)) ∙ e)
 
-  node_missing : (name : List ℕ) → ((j : ℕ) → found_at ms tables.Node j Name ≢ Some (string name)) → is_some (position (bytes_eq name) (node_names ms good)) ≡ false
-  node_missing name none = name_missing ms good tables.Node Name (elements ms Node) (λ i. refl) (0, omega arith, refl) name none
+  node_missing : (name : List ℕ) → ((j : ℕ) → found_at ms tables.Node j Name ≢ Some (string name)) →
+      is_some (position (bytes_eq name) (node_names ms good)) ≡ false
+  node_missing name none =
+      name_missing ms good tables.Node Name (elements ms Node) (λ i. refl) (0, omega arith, refl) name none
 
-  process_missing : (name : List ℕ) → ((j : ℕ) → found_at ms tables.Process j Name ≢ Some (string name)) → is_some (position (bytes_eq name) process_texts) ≡ false
+  process_missing : (name : List ℕ) → ((j : ℕ) → found_at ms tables.Process j Name ≢ Some (string name)) →
+      is_some (position (bytes_eq name) process_texts) ≡ false
   process_missing name none = ap (λ names. is_some (position (bytes_eq name) names)) (processes_named ms good) ∙
       name_missing ms good tables.Process Name (elements ms Process) (λ i. refl) (0, omega arith, refl) name none
 
   -- one name of a table
-  nameless : (t : Table) (key : Key) (others : Table) (names : List (List ℕ)) (i : ℕ) (row : Members) → table_at ms t i ≡ Some row → Contains (fields_of t) (needed_name key) →
+  nameless : (t : Table) (key : Key) (others : Table) (names : List (List ℕ)) (i : ℕ) (row : Members) →
+      table_at ms t i ≡ Some row →
+      Contains (fields_of t) (needed_name key) →
       named_in t key ≡ Some others →
-      ((name : List ℕ) → is_some (position (bytes_eq name) names) ≡ false → (j : ℕ) → found_at ms others j Name ≢ Some (string name)) → Each (IsNameless ms) (unknown names (name_in row key) t i key)
-  nameless t key others names i row at field named missing = each_unless (IsNameless ms) (is_some (position (bytes_eq (name_in row key)) names)) (UnknownName (place t i key))
-      (λ e. (place t i key, refl, inl (others, named, name_in row key, name_stands ms good t i row key at field, missing (name_in row key) e)))
+      ((name : List ℕ) → is_some (position (bytes_eq name) names) ≡ false → (j : ℕ) → found_at ms others j Name
+      ≢ Some (string name)) → Each (IsNameless ms) (unknown names (name_in row key) t i key)
+  nameless t key others names i row at field named missing =
+      each_unless (IsNameless ms) (is_some (position (bytes_eq (name_in row key)) names)) (UnknownName (place t i key))
+      (λ e. (
+        place t i key,
+        refl,
+        inl (others, named, name_in row key, name_stands ms good t i row key at field, missing (name_in row key) e),
+      ))
 
   abbrev stands_in : Key → ℕ → Members → Type 0
   stands_in key i row = slice_get (elements ms key) i ≡ Some row
 
   pub unknowns_stand : Each (IsNameless ms) (unknown_faults (graph_in ms))
   unknowns_stand =
-      each_joined (IsNameless ms) _ _ (subst (Each (IsNameless ms)) (sym (of_each_mapped (λ i s. unknown (node_names ms good) s.node tables.Slot i Node) slot_in 0 (elements ms Slot)))
-      (each_of_each (IsNameless ms) (stands_in Slot) (λ i row. unknown (node_names ms good) (name_in row Node) tables.Slot i Node)
-      (λ i row at. nameless tables.Slot Node tables.Node (node_names ms good) i row at (0, omega arith, refl) refl no_node) 0 (elements ms Slot)
+      each_joined (IsNameless ms) _ _ (subst (Each (IsNameless ms)) (sym
+      (of_each_mapped (λ i s. unknown (node_names ms good) s.node tables.Slot i Node) slot_in 0 (elements ms Slot)))
+      (each_of_each (IsNameless ms) (stands_in Slot)
+      (λ i row. unknown (node_names ms good) (name_in row Node) tables.Slot i Node)
+      (λ i row at. nameless tables.Slot Node tables.Node (node_names ms good) i row at
+      (0, omega arith, refl) refl no_node) 0 (elements ms Slot)
       (stand_all (stands_in Slot) (elements ms Slot) (λ k row e. e))))
-      (each_joined (IsNameless ms) _ _ (subst (Each (IsNameless ms)) (sym (of_each_mapped (λ i p. unknown (node_names ms good) p.node tables.Process i Node) process_in 0 (elements ms Process)))
-      (each_of_each (IsNameless ms) (stands_in Process) (λ i row. unknown (node_names ms good) (name_in row Node) tables.Process i Node)
-      (λ i row at. nameless tables.Process Node tables.Node (node_names ms good) i row at (1, omega arith, refl) refl no_node) 0 (elements ms Process)
+      (each_joined (IsNameless ms) _ _ (subst (Each (IsNameless ms)) (sym (of_each_mapped
+      (λ i p. unknown (node_names ms good) p.node tables.Process i Node) process_in 0 (elements ms Process)))
+      (each_of_each (IsNameless ms) (stands_in Process)
+      (λ i row. unknown (node_names ms good) (name_in row Node) tables.Process i Node)
+      (λ i row at. nameless tables.Process Node tables.Node (node_names ms good) i row at
+      (1, omega arith, refl) refl no_node) 0 (elements ms Process)
       (stand_all (stands_in Process) (elements ms Process) (λ k row e. e))))
-      (each_joined (IsNameless ms) _ _ (subst (Each (IsNameless ms)) (sym (of_each_mapped (unknown_ends process_texts) edge_in 0 (elements ms Edge)))
+      (each_joined (IsNameless ms) _ _
+      (subst (Each (IsNameless ms)) (sym (of_each_mapped (unknown_ends process_texts) edge_in 0 (elements ms Edge)))
       (each_of_each (IsNameless ms) (stands_in Edge) (λ i row. unknown_ends process_texts i (edge_in row))
-      (λ i row at. each_joined (IsNameless ms) (unknown process_texts (name_in row From) tables.Edge i From) (unknown process_texts (name_in row To) tables.Edge i To)
+      (λ i row at. each_joined (IsNameless ms) (unknown process_texts (name_in row From) tables.Edge i From)
+      (unknown process_texts (name_in row To) tables.Edge i To)
       (nameless tables.Edge From tables.Process process_texts i row at (0, omega arith, refl) refl no_process)
       (nameless tables.Edge To tables.Process process_texts i row at (1, omega arith, refl) refl no_process))
       0 (elements ms Edge) (stand_all (stands_in Edge) (elements ms Edge) (λ k row e. e))))
       (each_unless (IsNameless ms) (list_all (is_known process_texts) (order_names ms)) (UnknownName order_place)
-      (λ e. let (name, c, not_known) = some_fails (is_known process_texts) (order_names ms) e in (order_place, refl, inr (refl, (name, c, no_process name not_known)))))))
+      (λ e. let (name, c, not_known) = some_fails (is_known process_texts) (order_names ms) e in
+      (order_place, refl, inr (refl, (name, c, no_process name not_known)))))))
 
   -- the parts of the unknown names
   abbrev slots_part : List ReadFault
-  slots_part = of_each (λ i s. unknown (node_names ms good) s.node tables.Slot i Node) 0 (map slot_in (elements ms Slot))
+  slots_part =
+      of_each (λ i s. unknown (node_names ms good) s.node tables.Slot i Node) 0 (map slot_in (elements ms Slot))
 
   abbrev processes_part : List ReadFault
-  processes_part = of_each (λ i p. unknown (node_names ms good) p.node tables.Process i Node) 0 (map process_in (elements ms Process))
+  processes_part = of_each (λ i p. unknown (node_names ms good) p.node tables.Process i Node) 0
+      (map process_in (elements ms Process))
 
   abbrev edges_part : List ReadFault
   edges_part = of_each (unknown_ends process_texts) 0 (map edge_in (elements ms Edge))
@@ -352,50 +455,74 @@ module _ (ms : Members) (good : HasGoodFields ms) where
   order_part = order_unknowns process_texts (order_names ms)
 
   -- a name that names nothing is told of its place
-  name_told : (names : List (List ℕ)) (name other : List ℕ) (t : Table) (i : ℕ) (key : Key) → other ≡ name → is_some (position (bytes_eq name) names) ≡ false →
+  name_told : (names : List (List ℕ)) (name other : List ℕ) (t : Table) (i : ℕ) (key : Key) → other ≡ name →
+      is_some (position (bytes_eq name) names) ≡ false →
       Contains (unknown names other t i key) (UnknownName (place t i key))
-  name_told names name other t i key same e = unless_contains (is_some (position (bytes_eq other) names)) (UnknownName (place t i key)) (ap (λ n. is_some (position (bytes_eq n) names)) same ∙ e)
+  name_told names name other t i key same e = unless_contains (is_some (position (bytes_eq other) names))
+      (UnknownName (place t i key)) (ap (λ n. is_some (position (bytes_eq n) names)) same ∙ e)
 
-  unknown_in : (t : Table) (key : Key) (others : Table) → named_in t key ≡ Some others → (i : ℕ) (name : List ℕ) → found_at ms t i key ≡ Some (string name) →
-      ((j : ℕ) → found_at ms others j Name ≢ Some (string name)) → Contains (unknown_faults (graph_in ms)) (UnknownName (place t i key))
+  unknown_in : (t : Table) (key : Key) (others : Table) → named_in t key ≡ Some others → (i : ℕ) (name : List ℕ) →
+      found_at ms t i key ≡ Some (string name) →
+      ((j : ℕ) → found_at ms others j Name ≢ Some (string name)) →
+      Contains (unknown_faults (graph_in ms)) (UnknownName (place t i key))
   unknown_in tables.Slot Node others named i name found none =
       let (row, at, same) = name_is ms good tables.Slot i Node name (0, omega arith, refl) found in
       let is : others ≡ tables.Node = cc in
-      Contains-append_left slots_part (processes_part ++ (edges_part ++ order_part)) (UnknownName (place tables.Slot i Node))
-      (of_each_contains (λ i s. unknown (node_names ms good) s.node tables.Slot i Node) (UnknownName (place tables.Slot i Node)) i (map slot_in (elements ms Slot)) (slot_in row)
+      Contains-append_left slots_part (processes_part ++ (edges_part ++ order_part))
+      (UnknownName (place tables.Slot i Node))
+      (of_each_contains (λ i s. unknown (node_names ms good) s.node tables.Slot i Node)
+      (UnknownName (place tables.Slot i Node)) i (map slot_in (elements ms Slot)) (slot_in row)
       (slice_get-map slot_in (elements ms Slot) i ∙ ap (option_map slot_in) at)
-      (name_told (node_names ms good) name (name_in row Node) tables.Slot i Node same (node_missing name (subst (λ t. (j : ℕ) → found_at ms t j Name ≢ Some (string name)) is none))))
+      (name_told (node_names ms good) name (name_in row Node) tables.Slot i Node same
+      (node_missing name (subst (λ t. (j : ℕ) → found_at ms t j Name ≢ Some (string name)) is none))))
   unknown_in tables.Process Node others named i name found none =
       let (row, at, same) = name_is ms good tables.Process i Node name (1, omega arith, refl) found in
       let is : others ≡ tables.Node = cc in
-      Contains-append_right slots_part (processes_part ++ (edges_part ++ order_part)) (UnknownName (place tables.Process i Node))
+      Contains-append_right slots_part (processes_part ++ (edges_part ++ order_part))
+      (UnknownName (place tables.Process i Node))
       (Contains-append_left processes_part (edges_part ++ order_part) (UnknownName (place tables.Process i Node))
-      (of_each_contains (λ i p. unknown (node_names ms good) p.node tables.Process i Node) (UnknownName (place tables.Process i Node)) i (map process_in (elements ms Process)) (process_in row)
+      (of_each_contains (λ i p. unknown (node_names ms good) p.node tables.Process i Node)
+      (UnknownName (place tables.Process i Node)) i (map process_in (elements ms Process)) (process_in row)
       (slice_get-map process_in (elements ms Process) i ∙ ap (option_map process_in) at)
-      (name_told (node_names ms good) name (name_in row Node) tables.Process i Node same (node_missing name (subst (λ t. (j : ℕ) → found_at ms t j Name ≢ Some (string name)) is none)))))
+      (name_told (node_names ms good) name (name_in row Node) tables.Process i Node same
+      (node_missing name (subst (λ t. (j : ℕ) → found_at ms t j Name ≢ Some (string name)) is none)))))
   unknown_in tables.Edge From others named i name found none =
       let (row, at, same) = name_is ms good tables.Edge i From name (0, omega arith, refl) found in
       let is : others ≡ tables.Process = cc in
-      Contains-append_right slots_part (processes_part ++ (edges_part ++ order_part)) (UnknownName (place tables.Edge i From))
-      (Contains-append_right processes_part (edges_part ++ order_part) (UnknownName (place tables.Edge i From)) (Contains-append_left edges_part order_part (UnknownName (place tables.Edge i From))
-      (of_each_contains (unknown_ends process_texts) (UnknownName (place tables.Edge i From)) i (map edge_in (elements ms Edge)) (edge_in row)
+      Contains-append_right slots_part (processes_part ++ (edges_part ++ order_part))
+      (UnknownName (place tables.Edge i From))
+      (Contains-append_right processes_part (edges_part ++ order_part) (UnknownName (place tables.Edge i From))
+      (Contains-append_left edges_part order_part (UnknownName (place tables.Edge i From))
+      (of_each_contains (unknown_ends process_texts) (UnknownName (place tables.Edge i From)) i
+      (map edge_in (elements ms Edge)) (edge_in row)
       (slice_get-map edge_in (elements ms Edge) i ∙ ap (option_map edge_in) at)
-      (Contains-append_left (unknown process_texts (name_in row From) tables.Edge i From) (unknown process_texts (name_in row To) tables.Edge i To) (UnknownName (place tables.Edge i From))
-      (name_told process_texts name (name_in row From) tables.Edge i From same (process_missing name (subst (λ t. (j : ℕ) → found_at ms t j Name ≢ Some (string name)) is none)))))))
+      (Contains-append_left (unknown process_texts (name_in row From) tables.Edge i From)
+      (unknown process_texts (name_in row To) tables.Edge i To) (UnknownName (place tables.Edge i From))
+      (name_told process_texts name (name_in row From) tables.Edge i From same
+      (process_missing name (subst (λ t. (j : ℕ) → found_at ms t j Name ≢ Some (string name)) is none)))))))
   unknown_in tables.Edge To others named i name found none =
       let (row, at, same) = name_is ms good tables.Edge i To name (1, omega arith, refl) found in
       let is : others ≡ tables.Process = cc in
-      Contains-append_right slots_part (processes_part ++ (edges_part ++ order_part)) (UnknownName (place tables.Edge i To))
-      (Contains-append_right processes_part (edges_part ++ order_part) (UnknownName (place tables.Edge i To)) (Contains-append_left edges_part order_part (UnknownName (place tables.Edge i To))
-      (of_each_contains (unknown_ends process_texts) (UnknownName (place tables.Edge i To)) i (map edge_in (elements ms Edge)) (edge_in row)
+      Contains-append_right slots_part (processes_part ++ (edges_part ++ order_part))
+      (UnknownName (place tables.Edge i To))
+      (Contains-append_right processes_part (edges_part ++ order_part) (UnknownName (place tables.Edge i To))
+      (Contains-append_left edges_part order_part (UnknownName (place tables.Edge i To))
+      (of_each_contains (unknown_ends process_texts) (UnknownName (place tables.Edge i To)) i
+      (map edge_in (elements ms Edge)) (edge_in row)
       (slice_get-map edge_in (elements ms Edge) i ∙ ap (option_map edge_in) at)
-      (Contains-append_right (unknown process_texts (name_in row From) tables.Edge i From) (unknown process_texts (name_in row To) tables.Edge i To) (UnknownName (place tables.Edge i To))
-      (name_told process_texts name (name_in row To) tables.Edge i To same (process_missing name (subst (λ t. (j : ℕ) → found_at ms t j Name ≢ Some (string name)) is none)))))))
+      (Contains-append_right (unknown process_texts (name_in row From) tables.Edge i From)
+      (unknown process_texts (name_in row To) tables.Edge i To) (UnknownName (place tables.Edge i To))
+      (name_told process_texts name (name_in row To) tables.Edge i To same
+      (process_missing name (subst (λ t. (j : ℕ) → found_at ms t j Name ≢ Some (string name)) is none)))))))
   unknown_in t key others named i name found none = absurd (nothing others named)
 
   pub unknown_there : (at : Place) → IsUnknown ms at → Contains (unknown_faults (graph_in ms)) (UnknownName at)
-  unknown_there at (inl (others, named, name, found, none)) = unknown_in at.table at.key others named at.index name found none
-  unknown_there at (inr (same, other)) = let (name, c, none) = other in subst (λ p. Contains (unknown_faults (graph_in ms)) (UnknownName p)) (sym same)
+  unknown_there at (inl (others, named, name, found, none)) =
+      unknown_in at.table at.key others named at.index name found none
+  unknown_there at (inr (same, other)) = let (name, c, none) = other in
+      subst (λ p. Contains (unknown_faults (graph_in ms)) (UnknownName p)) (sym same)
       (Contains-append_right slots_part (processes_part ++ (edges_part ++ order_part)) (UnknownName order_place)
-      (Contains-append_right processes_part (edges_part ++ order_part) (UnknownName order_place) (Contains-append_right edges_part order_part (UnknownName order_place)
-      (unless_contains (list_all (is_known process_texts) (order_names ms)) (UnknownName order_place) (one_fails (is_known process_texts) (order_names ms) name c (process_missing name none))))))
+      (Contains-append_right processes_part (edges_part ++ order_part) (UnknownName order_place)
+      (Contains-append_right edges_part order_part (UnknownName order_place)
+      (unless_contains (list_all (is_known process_texts) (order_names ms)) (UnknownName order_place)
+      (one_fails (is_known process_texts) (order_names ms) name c (process_missing name none))))))

@@ -8,7 +8,8 @@ use Rattle.cpg_codec.specs.Spelling.{spelling}
 use Rattle.cpg_codec.proofs.Theorems.{read_is_spelled, refused_is_bad}
 use Rattle.cpg_laws.specs.Packs.{PacksAreRefusedAtOnePlace}
 
-answered : (bytes : List ℕ) (answer : Result Tables ℕ) → read bytes ≡ answer → ((t : Tables) × AreLawful t × (bytes ≡ spelling t)) ⊎ ((n : ℕ) × IsBadPack bytes n)
+answered : (bytes : List ℕ) (answer : Result Tables ℕ) → read bytes ≡ answer →
+    ((t : Tables) × AreLawful t × (bytes ≡ spelling t)) ⊎ ((n : ℕ) × IsBadPack bytes n)
 answered bytes (Ok t) e = let r = read_is_spelled bytes t e in inl (t, r.0, r.1)
 answered bytes (Err n) e = inr (n, refused_is_bad bytes n e)
 
@@ -18,5 +19,6 @@ at_most bytes n m bad other = other.longest n bad.place bad.goes_on
 pub packs_are_refused_at_one_place : PacksAreRefusedAtOnePlace
 packs_are_refused_at_one_place bytes = record {
   some = answered bytes (read bytes) refl;
-  one = λ n m bad other. let below = at_most bytes n m bad other in let above = at_most bytes m n other bad in omega (arith, below, above);
+  one = λ n m bad other. let below = at_most bytes n m bad other in let above = at_most bytes m n other bad in
+      omega (arith, below, above);
 }

@@ -1,5 +1,6 @@
 -- The faults of a graph file rise: each stands before those that come after it in the list.
-use Rattle.std.proofs.Common.{◌≡◌, ℕ, zero, suc, ◌+◌, ◌<◌, ◌≤◌, ◌⊎◌, Bool, true, false, not, List, [], ◌∷◌, ◌++◌, ◌&&◌, Ok, Err, Contains, AllPairs, length, get_or, map, position, is_some, unwrap_or}
+use Rattle.std.proofs.Common.{◌≡◌, ℕ, zero, suc, ◌+◌, ◌<◌, ◌≤◌, ◌⊎◌, Bool, true, false, not, List, [], ◌∷◌, ◌++◌, ◌&&◌}
+use Rattle.std.proofs.Common.{Ok, Err, Contains, AllPairs, length, get_or, map, position, is_some, unwrap_or}
 use Rattle.std.proofs.Common.{refl, ◌∙◌, subst, inl, inr, arith}
 use Rattle.std.specs.Prelude.{bytes_eq, nat_le}
 use Rattle.std.specs.List.{list_any, list_all}
@@ -12,19 +13,24 @@ use Rattle.cpg_reader.specs.declared.place.Key.{Key}
 use Rattle.cpg_reader.specs.declared.place.Key.TheVariants.{Node, Slot, Process, Edge, Name, From, To, Unknown}
 use Rattle.cpg_reader.specs.declared.place.What.TheVariants.{Nodes, Slots, Processes, Edges, Number, Conditions}
 use Rattle.cpg_reader.specs.declared.place.ReadFault.{ReadFault}
-use Rattle.cpg_reader.specs.declared.place.ReadFault.TheVariants.{NotToml, BadField, DoubleName, UnknownName, OverLimit, OutOfMemory}
+use Rattle.cpg_reader.specs.declared.place.ReadFault.TheVariants.{NotToml, BadField, DoubleName, UnknownName, OverLimit}
+use Rattle.cpg_reader.specs.declared.place.ReadFault.TheVariants.{OutOfMemory}
 use Rattle.cpg_reader.specs.declared.ranges.BoundedField.{BoundedField}
 use Rattle.cpg_reader.specs.declared.shape.RawEdge.{RawEdge}
 use Rattle.cpg_reader.specs.Reading.{Reading}
 use Rattle.cpg_reader.specs.Rows.{DocumentRow, place_in, value_at, are_listed}
 use Rattle.cpg_reader.specs.Shape.{RawGraph, read_raw}
-use Rattle.cpg_reader.specs.Ranges.{top_numbers, slot_numbers, process_numbers, edge_numbers, is_within, sources, different}
+use Rattle.cpg_reader.specs.Ranges.{top_numbers, slot_numbers, process_numbers, edge_numbers, is_within, sources}
+use Rattle.cpg_reader.specs.Ranges.{different}
 use Rattle.cpg_reader.specs.Names.{place, slot_names, process_names}
 use Rattle.cpg_reader.specs.Document.{document_of, problem_of}
-use Rattle.cpg_laws.specs.GraphFiles.{unless, of_each, Field, is_good_value, top_fields, node_fields, slot_fields, process_fields, edge_fields, bad_fields, bad_in, top_of, elements, bad_elements}
-use Rattle.cpg_laws.specs.GraphFiles.{field_faults, out_of_range, all_out_of_range, limit_faults, doubles_from, differ_from, order_place, double_faults, is_known, unknown, unknown_ends}
+use Rattle.cpg_laws.specs.GraphFiles.{unless, of_each, Field, is_good_value, top_fields, node_fields, slot_fields}
+use Rattle.cpg_laws.specs.GraphFiles.{process_fields, edge_fields, bad_fields, bad_in, top_of, elements, bad_elements}
+use Rattle.cpg_laws.specs.GraphFiles.{field_faults, out_of_range, all_out_of_range, limit_faults, doubles_from}
+use Rattle.cpg_laws.specs.GraphFiles.{differ_from, order_place, double_faults, is_known, unknown, unknown_ends}
 use Rattle.cpg_laws.specs.GraphFiles.{unknown_faults, graph_faults, document_faults, faults_of, IsFirst}
-use Rattle.cpg_laws.specs.Refusals.{kind_of, table_number, name_table, position_of, place_of_fault, IsEarlier, ComesBefore, IsFirstOf, RefusalsAreFirst}
+use Rattle.cpg_laws.specs.Refusals.{kind_of, table_number, name_table, position_of, place_of_fault, IsEarlier}
+use Rattle.cpg_laws.specs.Refusals.{ComesBefore, IsFirstOf, RefusalsAreFirst}
 use Rattle.cpg_laws.proofs.GraphFiles.{graph_files_show_first_faults}
 
 -- ---- the order
@@ -52,164 +58,228 @@ abbrev Rise : List ℕ → List ReadFault → List ℕ → Type 0
 Rise low [] high = IsEarlier low high
 Rise low (fault ∷ faults) high = IsEarlier low (rank_of fault) × Rise (rank_of fault) faults high
 
-from_below : (lower low high : List ℕ) (faults : List ReadFault) → IsEarlier lower low → Rise low faults high → Rise lower faults high
+from_below : (lower low high : List ℕ) (faults : List ReadFault) → IsEarlier lower low → Rise low faults high →
+    Rise lower faults high
 from_below lower low high [] l h = earlier_than_both lower low high l h
 from_below lower low high (fault ∷ faults) l h = (earlier_than_both lower low (rank_of fault) l h.0, h.1)
 
-to_above : (low high higher : List ℕ) (faults : List ReadFault) → Rise low faults high → IsEarlier high higher → Rise low faults higher
+to_above : (low high higher : List ℕ) (faults : List ReadFault) → Rise low faults high → IsEarlier high higher →
+    Rise low faults higher
 to_above low high higher [] h l = earlier_than_both low high higher h l
 to_above low high higher (fault ∷ faults) h l = (h.0, to_above (rank_of fault) high higher faults h.1 l)
 
-joined : (low middle high : List ℕ) (faults others : List ReadFault) → Rise low faults middle → Rise middle others high → Rise low (faults ++ others) high
+joined : (low middle high : List ℕ) (faults others : List ReadFault) → Rise low faults middle →
+    Rise middle others high →
+    Rise low (faults ++ others) high
 joined low middle high [] others h k = from_below low middle high others h k
 joined low middle high (fault ∷ faults) others h k = (h.0, joined (rank_of fault) middle high faults others h.1 k)
 
-one_more : (b : Bool) (fault : ReadFault) (faults : List ReadFault) (low high : List ℕ) → IsEarlier low (rank_of fault) → Rise (rank_of fault) faults high → Rise low (unless b fault ++ faults) high
+one_more : (b : Bool) (fault : ReadFault) (faults : List ReadFault) (low high : List ℕ) →
+    IsEarlier low (rank_of fault) → Rise (rank_of fault) faults high →
+    Rise low (unless b fault ++ faults) high
 one_more true fault faults low high l h = from_below low (rank_of fault) high faults l h
 one_more false fault faults low high l h = (l, h)
 
-one : (b : Bool) (fault : ReadFault) (low high : List ℕ) → IsEarlier low (rank_of fault) → IsEarlier (rank_of fault) high → Rise low (unless b fault) high
+one : (b : Bool) (fault : ReadFault) (low high : List ℕ) → IsEarlier low (rank_of fault) →
+    IsEarlier (rank_of fault) high →
+    Rise low (unless b fault) high
 one true fault low high l h = earlier_than_both low (rank_of fault) high l h
 one false fault low high l h = (l, h)
 
-each_rises : {T : Type 0} (at : ℕ → List ℕ) (high : List ℕ) (faults : ℕ → T → List ReadFault) → ((i : ℕ) (x : T) → Rise (at i) (faults i x) (at (i + 1))) → ((i : ℕ) → IsEarlier (at i) high) →
+each_rises : {T : Type 0} (at : ℕ → List ℕ) (high : List ℕ) (faults : ℕ → T → List ReadFault) →
+    ((i : ℕ) (x : T) → Rise (at i) (faults i x) (at (i + 1))) →
+    ((i : ℕ) → IsEarlier (at i) high) →
     (i : ℕ) (xs : List T) → Rise (at i) (of_each faults i xs) high
 each_rises at high faults each last i [] = last i
-each_rises at high faults each last i (x ∷ xs) = joined (at i) (at (i + 1)) high (faults i x) (of_each faults (i + 1) xs) (each i x) (each_rises at high faults each last (i + 1) xs)
+each_rises at high faults each last i (x ∷ xs) = joined (at i) (at (i + 1)) high (faults i x)
+    (of_each faults (i + 1) xs) (each i x) (each_rises at high faults each last (i + 1) xs)
 
 -- ---- the keys of one table
 
 -- the positions of these keys rise from one on, and no key stands at or after that of an unknown one
 abbrev are_in_order : Table → ℕ → List Key → Bool
 are_in_order table p [] = nat_le p (position_of table Unknown)
-are_in_order table p (key ∷ keys) = nat_le p (position_of table key) && are_in_order table (position_of table key + 1) keys
+are_in_order table p (key ∷ keys) =
+    nat_le p (position_of table key) && are_in_order table (position_of table key + 1) keys
 
 after : (p q : ℕ) → p + 1 ≤ q → p < q
 after p q l = omega (arith, l)
 
 -- the faults of one row, from a bound before its keys from position p on
-fields_rise : (row : DocumentRow) (keys : List Key) (low : List ℕ) (p : ℕ) (fields : List Field) → ((q : ℕ) → p ≤ q → IsEarlier low (1 ∷ table_number row.table ∷ row.index ∷ q ∷ [])) →
+fields_rise : (row : DocumentRow) (keys : List Key) (low : List ℕ) (p : ℕ) (fields : List Field) →
+    ((q : ℕ) → p ≤ q → IsEarlier low (1 ∷ table_number row.table ∷ row.index ∷ q ∷ [])) →
     are_in_order row.table p (map (λ f. f.key) fields) ≡ true →
     Rise low (bad_fields row keys fields) (1 ∷ table_number row.table ∷ (row.index + 1) ∷ [])
-fields_rise row keys low p [] next order = one (are_listed keys row.members) (BadField (place_in row Unknown)) low (1 ∷ table_number row.table ∷ (row.index + 1) ∷ [])
-    (next (position_of row.table Unknown) (leb-true p (position_of row.table Unknown) order)) (inr (refl, inr (refl, inl (omega arith))))
+fields_rise row keys low p [] next order = one (are_listed keys row.members) (BadField (place_in row Unknown)) low
+    (1 ∷ table_number row.table ∷ (row.index + 1) ∷ [])
+    (next (position_of row.table Unknown) (leb-true p (position_of row.table Unknown) order))
+    (inr (refl, inr (refl, inl (omega arith))))
 fields_rise row keys low p (f ∷ fields) next order =
-    let (here, rest) = and_parts (nat_le p (position_of row.table f.key)) (are_in_order row.table (position_of row.table f.key + 1) (map (λ f. f.key) fields)) order in
-    one_more (is_good_value f (value_at row f.key)) (BadField (place_in row f.key)) (bad_fields row keys fields) low (1 ∷ table_number row.table ∷ (row.index + 1) ∷ [])
+    let (here, rest) = and_parts (nat_le p (position_of row.table f.key))
+    (are_in_order row.table (position_of row.table f.key + 1) (map (λ f. f.key) fields)) order in
+    one_more (is_good_value f (value_at row f.key)) (BadField (place_in row f.key)) (bad_fields row keys fields) low
+    (1 ∷ table_number row.table ∷ (row.index + 1) ∷ [])
     (next (position_of row.table f.key) (leb-true p (position_of row.table f.key) here))
-    (fields_rise row keys (1 ∷ table_number row.table ∷ row.index ∷ position_of row.table f.key ∷ []) (position_of row.table f.key + 1) fields
+    (fields_rise row keys (1 ∷ table_number row.table ∷ row.index ∷ position_of row.table f.key ∷ [])
+    (position_of row.table f.key + 1) fields
     (λ q l. inr (refl, inr (refl, inr (refl, inl (after (position_of row.table f.key) q l))))) rest)
 
 row_rises : (row : DocumentRow) (fields : List Field) → are_in_order row.table 0 (map (λ f. f.key) fields) ≡ true →
-    Rise (1 ∷ table_number row.table ∷ row.index ∷ []) (bad_in fields row) (1 ∷ table_number row.table ∷ (row.index + 1) ∷ [])
-row_rises row fields order = fields_rise row (map (λ f. f.key) fields) (1 ∷ table_number row.table ∷ row.index ∷ []) 0 fields (λ q l. inr (refl, inr (refl, inr (refl, tt)))) order
+    Rise (1 ∷ table_number row.table ∷ row.index ∷ []) (bad_in fields row)
+    (1 ∷ table_number row.table ∷ (row.index + 1) ∷ [])
+row_rises row fields order = fields_rise row (map (λ f. f.key) fields)
+    (1 ∷ table_number row.table ∷ row.index ∷ []) 0 fields (λ q l. inr (refl, inr (refl, inr (refl, tt)))) order
 
 -- the faults of the numbers of a row rise, from a bound before its keys from position p on
-numbers_rise : (table : Table) (i : ℕ) (low : List ℕ) (p : ℕ) (numbers : List BoundedField) → ((q : ℕ) → p ≤ q → IsEarlier low (2 ∷ 4 ∷ table_number table ∷ i ∷ q ∷ [])) →
+numbers_rise : (table : Table) (i : ℕ) (low : List ℕ) (p : ℕ) (numbers : List BoundedField) →
+    ((q : ℕ) → p ≤ q → IsEarlier low (2 ∷ 4 ∷ table_number table ∷ i ∷ q ∷ [])) →
     are_in_order table p (map (λ n. n.key) numbers) ≡ true →
     Rise low (out_of_range table i numbers) (2 ∷ 4 ∷ table_number table ∷ (i + 1) ∷ [])
-numbers_rise table i low p [] next order = earlier_than_both low (2 ∷ 4 ∷ table_number table ∷ i ∷ p ∷ []) (2 ∷ 4 ∷ table_number table ∷ (i + 1) ∷ []) (next p (omega arith))
+numbers_rise table i low p [] next order = earlier_than_both low (2 ∷ 4 ∷ table_number table ∷ i ∷ p ∷ [])
+    (2 ∷ 4 ∷ table_number table ∷ (i + 1) ∷ []) (next p (omega arith))
     (inr (refl, inr (refl, inr (refl, inl (omega arith)))))
 numbers_rise table i low p (n ∷ numbers) next order =
-    let (here, rest) = and_parts (nat_le p (position_of table n.key)) (are_in_order table (position_of table n.key + 1) (map (λ n. n.key) numbers)) order in
-    one_more (is_within n.low n.high n.value) (OverLimit (Number (record { table = table; index = i; key = n.key }))) (out_of_range table i numbers) low (2 ∷ 4 ∷ table_number table ∷ (i + 1) ∷ [])
+    let (here, rest) = and_parts (nat_le p (position_of table n.key))
+    (are_in_order table (position_of table n.key + 1) (map (λ n. n.key) numbers)) order in
+    one_more (is_within n.low n.high n.value) (OverLimit (Number (record { table = table; index = i; key = n.key })))
+    (out_of_range table i numbers) low (2 ∷ 4 ∷ table_number table ∷ (i + 1) ∷ [])
     (next (position_of table n.key) (leb-true p (position_of table n.key) here))
-    (numbers_rise table i (2 ∷ 4 ∷ table_number table ∷ i ∷ position_of table n.key ∷ []) (position_of table n.key + 1) numbers
+    (numbers_rise table i (2 ∷ 4 ∷ table_number table ∷ i ∷ position_of table n.key ∷ [])
+    (position_of table n.key + 1) numbers
     (λ q l. inr (refl, inr (refl, inr (refl, inr (refl, inl (after (position_of table n.key) q l)))))) rest)
 
-number_row_rises : (table : Table) (i : ℕ) (numbers : List BoundedField) → are_in_order table 0 (map (λ n. n.key) numbers) ≡ true →
-    Rise (2 ∷ 4 ∷ table_number table ∷ i ∷ []) (out_of_range table i numbers) (2 ∷ 4 ∷ table_number table ∷ (i + 1) ∷ [])
-number_row_rises table i numbers order = numbers_rise table i (2 ∷ 4 ∷ table_number table ∷ i ∷ []) 0 numbers (λ q l. inr (refl, inr (refl, inr (refl, inr (refl, tt))))) order
+number_row_rises : (table : Table) (i : ℕ) (numbers : List BoundedField) →
+    are_in_order table 0 (map (λ n. n.key) numbers) ≡ true →
+    Rise (2 ∷ 4 ∷ table_number table ∷ i ∷ []) (out_of_range table i numbers)
+    (2 ∷ 4 ∷ table_number table ∷ (i + 1) ∷ [])
+number_row_rises table i numbers order = numbers_rise table i (2 ∷ 4 ∷ table_number table ∷ i ∷ []) 0 numbers
+    (λ q l. inr (refl, inr (refl, inr (refl, inr (refl, tt))))) order
 
 -- ---- the kinds
 
-elements_rise : (table : Table) (fields : List Field) (members : List Members) → are_in_order table 0 (map (λ f. f.key) fields) ≡ true →
+elements_rise : (table : Table) (fields : List Field) (members : List Members) →
+    are_in_order table 0 (map (λ f. f.key) fields) ≡ true →
     Rise (1 ∷ table_number table ∷ []) (bad_elements table fields members) (1 ∷ (table_number table + 1) ∷ [])
-elements_rise table fields members order = from_below (1 ∷ table_number table ∷ []) (1 ∷ table_number table ∷ 0 ∷ []) (1 ∷ (table_number table + 1) ∷ []) (bad_elements table fields members)
+elements_rise table fields members order = from_below (1 ∷ table_number table ∷ []) (1 ∷ table_number table ∷ 0 ∷ [])
+    (1 ∷ (table_number table + 1) ∷ []) (bad_elements table fields members)
     (inr (refl, inr (refl, tt)))
-    (each_rises (λ i. 1 ∷ table_number table ∷ i ∷ []) (1 ∷ (table_number table + 1) ∷ []) (λ i ms. bad_in fields (record { table = table; index = i; members = ms }))
-    (λ i ms. row_rises (record { table = table; index = i; members = ms }) fields order) (λ i. inr (refl, inl (omega arith))) 0 members)
+    (each_rises (λ i. 1 ∷ table_number table ∷ i ∷ []) (1 ∷ (table_number table + 1) ∷ [])
+    (λ i ms. bad_in fields (record { table = table; index = i; members = ms }))
+    (λ i ms. row_rises (record { table = table; index = i; members = ms }) fields order)
+    (λ i. inr (refl, inl (omega arith))) 0 members)
 
 field_faults_rise : (ms : Members) → Rise (1 ∷ []) (field_faults ms) (2 ∷ [])
 field_faults_rise ms =
     joined (1 ∷ []) (1 ∷ 1 ∷ []) (2 ∷ []) _ _
     (from_below (1 ∷ []) (1 ∷ 0 ∷ 0 ∷ []) (1 ∷ 1 ∷ []) (bad_in top_fields (top_of ms)) (inr (refl, tt))
-    (to_above (1 ∷ 0 ∷ 0 ∷ []) (1 ∷ 0 ∷ 1 ∷ []) (1 ∷ 1 ∷ []) (bad_in top_fields (top_of ms)) (row_rises (top_of ms) top_fields refl) (inr (refl, inl (omega arith)))))
+    (to_above (1 ∷ 0 ∷ 0 ∷ []) (1 ∷ 0 ∷ 1 ∷ []) (1 ∷ 1 ∷ []) (bad_in top_fields (top_of ms))
+    (row_rises (top_of ms) top_fields refl) (inr (refl, inl (omega arith)))))
     (joined (1 ∷ 1 ∷ []) (1 ∷ 2 ∷ []) (2 ∷ []) _ _ (elements_rise tables.Node node_fields (elements ms Node) refl)
     (joined (1 ∷ 2 ∷ []) (1 ∷ 3 ∷ []) (2 ∷ []) _ _ (elements_rise tables.Slot slot_fields (elements ms Slot) refl)
-    (joined (1 ∷ 3 ∷ []) (1 ∷ 4 ∷ []) (2 ∷ []) _ _ (elements_rise tables.Process process_fields (elements ms Process) refl)
-    (to_above (1 ∷ 4 ∷ []) (1 ∷ 5 ∷ []) (2 ∷ []) _ (elements_rise tables.Edge edge_fields (elements ms Edge) refl) (inl (omega arith))))))
+    (joined (1 ∷ 3 ∷ []) (1 ∷ 4 ∷ []) (2 ∷ []) _ _
+    (elements_rise tables.Process process_fields (elements ms Process) refl)
+    (to_above (1 ∷ 4 ∷ []) (1 ∷ 5 ∷ []) (2 ∷ []) _ (elements_rise tables.Edge edge_fields (elements ms Edge) refl)
+    (inl (omega arith))))))
 
-number_rows_rise : {T : Type 0} (table : Table) (numbers : T → List BoundedField) (xs : List T) → ((x : T) → are_in_order table 0 (map (λ n. n.key) (numbers x)) ≡ true) →
+number_rows_rise : {T : Type 0} (table : Table) (numbers : T → List BoundedField) (xs : List T) →
+    ((x : T) → are_in_order table 0 (map (λ n. n.key) (numbers x)) ≡ true) →
     Rise (2 ∷ 4 ∷ table_number table ∷ []) (all_out_of_range table numbers xs) (2 ∷ 4 ∷ (table_number table + 1) ∷ [])
-number_rows_rise table numbers xs order = from_below (2 ∷ 4 ∷ table_number table ∷ []) (2 ∷ 4 ∷ table_number table ∷ 0 ∷ []) (2 ∷ 4 ∷ (table_number table + 1) ∷ [])
+number_rows_rise table numbers xs order = from_below (2 ∷ 4 ∷ table_number table ∷ [])
+    (2 ∷ 4 ∷ table_number table ∷ 0 ∷ []) (2 ∷ 4 ∷ (table_number table + 1) ∷ [])
     (all_out_of_range table numbers xs) (inr (refl, inr (refl, inr (refl, tt))))
-    (each_rises (λ i. 2 ∷ 4 ∷ table_number table ∷ i ∷ []) (2 ∷ 4 ∷ (table_number table + 1) ∷ []) (λ i x. out_of_range table i (numbers x)) (λ i x. number_row_rises table i (numbers x) (order x))
+    (each_rises (λ i. 2 ∷ 4 ∷ table_number table ∷ i ∷ []) (2 ∷ 4 ∷ (table_number table + 1) ∷ [])
+    (λ i x. out_of_range table i (numbers x)) (λ i x. number_row_rises table i (numbers x) (order x))
     (λ i. inr (refl, inr (refl, inl (omega arith)))) 0 xs)
 
 limit_faults_rise : (g : RawGraph) → Rise (2 ∷ []) (limit_faults g) (3 ∷ [])
 limit_faults_rise g =
     one_more (nat_le (length g.nodes) MOST_NODES) (OverLimit Nodes) _ (2 ∷ []) (3 ∷ []) (inr (refl, tt))
-    (one_more (nat_le (length g.slots) MOST_NODES) (OverLimit Slots) _ (2 ∷ 0 ∷ []) (3 ∷ []) (inr (refl, inl (omega arith)))
-    (one_more (nat_le (length g.processes) MOST_PROCESSES) (OverLimit Processes) _ (2 ∷ 1 ∷ []) (3 ∷ []) (inr (refl, inl (omega arith)))
-    (one_more (nat_le (length g.edges) MOST_EDGES) (OverLimit Edges) _ (2 ∷ 2 ∷ []) (3 ∷ []) (inr (refl, inl (omega arith)))
+    (one_more (nat_le (length g.slots) MOST_NODES) (OverLimit Slots) _ (2 ∷ 0 ∷ []) (3 ∷ [])
+    (inr (refl, inl (omega arith)))
+    (one_more (nat_le (length g.processes) MOST_PROCESSES) (OverLimit Processes) _ (2 ∷ 1 ∷ []) (3 ∷ [])
+    (inr (refl, inl (omega arith)))
+    (one_more (nat_le (length g.edges) MOST_EDGES) (OverLimit Edges) _ (2 ∷ 2 ∷ []) (3 ∷ [])
+    (inr (refl, inl (omega arith)))
     (joined (2 ∷ 3 ∷ []) (2 ∷ 4 ∷ 2 ∷ []) (3 ∷ []) _ _
-    (from_below (2 ∷ 3 ∷ []) (2 ∷ 4 ∷ 0 ∷ 0 ∷ []) (2 ∷ 4 ∷ 2 ∷ []) (out_of_range tables.Top 0 (top_numbers g)) (inr (refl, inl (omega arith)))
-    (to_above (2 ∷ 4 ∷ 0 ∷ 0 ∷ []) (2 ∷ 4 ∷ 0 ∷ 1 ∷ []) (2 ∷ 4 ∷ 2 ∷ []) (out_of_range tables.Top 0 (top_numbers g)) (number_row_rises tables.Top 0 (top_numbers g) refl)
+    (from_below (2 ∷ 3 ∷ []) (2 ∷ 4 ∷ 0 ∷ 0 ∷ []) (2 ∷ 4 ∷ 2 ∷ []) (out_of_range tables.Top 0 (top_numbers g))
+    (inr (refl, inl (omega arith)))
+    (to_above (2 ∷ 4 ∷ 0 ∷ 0 ∷ []) (2 ∷ 4 ∷ 0 ∷ 1 ∷ []) (2 ∷ 4 ∷ 2 ∷ []) (out_of_range tables.Top 0 (top_numbers g))
+    (number_row_rises tables.Top 0 (top_numbers g) refl)
     (inr (refl, inr (refl, inl (omega arith))))))
-    (joined (2 ∷ 4 ∷ 2 ∷ []) (2 ∷ 4 ∷ 3 ∷ []) (3 ∷ []) _ _ (number_rows_rise tables.Slot slot_numbers g.slots (λ s. refl))
-    (joined (2 ∷ 4 ∷ 3 ∷ []) (2 ∷ 4 ∷ 4 ∷ []) (3 ∷ []) _ _ (number_rows_rise tables.Process process_numbers g.processes (λ p. refl))
-    (joined (2 ∷ 4 ∷ 4 ∷ []) (2 ∷ 4 ∷ 5 ∷ []) (3 ∷ []) _ _ (number_rows_rise tables.Edge edge_numbers g.edges (λ e. refl))
-    (one (nat_le (length (different [] (sources g.edges))) MOST_CONDITIONS) (OverLimit Conditions) (2 ∷ 4 ∷ 5 ∷ []) (3 ∷ []) (inr (refl, inl (omega arith))) (inl (omega arith))))))))))
+    (joined (2 ∷ 4 ∷ 2 ∷ []) (2 ∷ 4 ∷ 3 ∷ []) (3 ∷ []) _ _
+    (number_rows_rise tables.Slot slot_numbers g.slots (λ s. refl))
+    (joined (2 ∷ 4 ∷ 3 ∷ []) (2 ∷ 4 ∷ 4 ∷ []) (3 ∷ []) _ _
+    (number_rows_rise tables.Process process_numbers g.processes (λ p. refl))
+    (joined (2 ∷ 4 ∷ 4 ∷ []) (2 ∷ 4 ∷ 5 ∷ []) (3 ∷ []) _ _
+    (number_rows_rise tables.Edge edge_numbers g.edges (λ e. refl))
+    (one (nat_le (length (different [] (sources g.edges))) MOST_CONDITIONS) (OverLimit Conditions) (2 ∷ 4 ∷ 5 ∷ [])
+    (3 ∷ []) (inr (refl, inl (omega arith))) (inl (omega arith))))))))))
 
-doubles_rise : (table : Table) (key : Key) (i : ℕ) (before names : List (List ℕ)) → Rise (3 ∷ name_table table ∷ i ∷ []) (doubles_from table key i before names) (3 ∷ (name_table table + 1) ∷ [])
+doubles_rise : (table : Table) (key : Key) (i : ℕ) (before names : List (List ℕ)) →
+    Rise (3 ∷ name_table table ∷ i ∷ []) (doubles_from table key i before names) (3 ∷ (name_table table + 1) ∷ [])
 doubles_rise table key i before [] = inr (refl, inl (omega arith))
-doubles_rise table key i before (name ∷ names) = one_more (not (list_any (bytes_eq name) before)) (DoubleName (place table i key)) (doubles_from table key (i + 1) (before ++ name ∷ []) names)
+doubles_rise table key i before (name ∷ names) = one_more (not (list_any (bytes_eq name) before))
+    (DoubleName (place table i key)) (doubles_from table key (i + 1) (before ++ name ∷ []) names)
     (3 ∷ name_table table ∷ i ∷ []) (3 ∷ (name_table table + 1) ∷ []) (inr (refl, inr (refl, inr (refl, tt))))
-    (from_below (3 ∷ name_table table ∷ i ∷ position_of table key ∷ []) (3 ∷ name_table table ∷ (i + 1) ∷ []) (3 ∷ (name_table table + 1) ∷ [])
-    (doubles_from table key (i + 1) (before ++ name ∷ []) names) (inr (refl, inr (refl, inl (omega arith)))) (doubles_rise table key (i + 1) (before ++ name ∷ []) names))
+    (from_below (3 ∷ name_table table ∷ i ∷ position_of table key ∷ []) (3 ∷ name_table table ∷ (i + 1) ∷ [])
+    (3 ∷ (name_table table + 1) ∷ [])
+    (doubles_from table key (i + 1) (before ++ name ∷ []) names) (inr (refl, inr (refl, inl (omega arith))))
+    (doubles_rise table key (i + 1) (before ++ name ∷ []) names))
 
 double_faults_rise : (g : RawGraph) → Rise (3 ∷ []) (double_faults g) (4 ∷ [])
 double_faults_rise g =
     joined (3 ∷ []) (3 ∷ 2 ∷ 0 ∷ []) (4 ∷ []) _ _
     (from_below (3 ∷ []) (3 ∷ 1 ∷ 0 ∷ []) (3 ∷ 2 ∷ 0 ∷ []) (doubles_from tables.Node Name 0 [] g.nodes) (inr (refl, tt))
-    (to_above (3 ∷ 1 ∷ 0 ∷ []) (3 ∷ 2 ∷ []) (3 ∷ 2 ∷ 0 ∷ []) (doubles_from tables.Node Name 0 [] g.nodes) (doubles_rise tables.Node Name 0 [] g.nodes) (inr (refl, inr (refl, tt)))))
+    (to_above (3 ∷ 1 ∷ 0 ∷ []) (3 ∷ 2 ∷ []) (3 ∷ 2 ∷ 0 ∷ []) (doubles_from tables.Node Name 0 [] g.nodes)
+    (doubles_rise tables.Node Name 0 [] g.nodes) (inr (refl, inr (refl, tt)))))
     (joined (3 ∷ 2 ∷ 0 ∷ []) (3 ∷ 3 ∷ 0 ∷ []) (4 ∷ []) _ _
-    (to_above (3 ∷ 2 ∷ 0 ∷ []) (3 ∷ 3 ∷ []) (3 ∷ 3 ∷ 0 ∷ []) (doubles_from tables.Slot Node 0 [] (slot_names g.slots)) (doubles_rise tables.Slot Node 0 [] (slot_names g.slots))
+    (to_above (3 ∷ 2 ∷ 0 ∷ []) (3 ∷ 3 ∷ []) (3 ∷ 3 ∷ 0 ∷ []) (doubles_from tables.Slot Node 0 [] (slot_names g.slots))
+    (doubles_rise tables.Slot Node 0 [] (slot_names g.slots))
     (inr (refl, inr (refl, tt))))
-    (joined (3 ∷ 3 ∷ 0 ∷ []) (3 ∷ 4 ∷ []) (4 ∷ []) _ _ (doubles_rise tables.Process Name 0 [] (process_names g.processes))
-    (one (differ_from [] (unwrap_or g.order [])) (DoubleName order_place) (3 ∷ 4 ∷ []) (4 ∷ []) (inr (refl, inl (omega arith))) (inl (omega arith)))))
+    (joined (3 ∷ 3 ∷ 0 ∷ []) (3 ∷ 4 ∷ []) (4 ∷ []) _ _
+    (doubles_rise tables.Process Name 0 [] (process_names g.processes))
+    (one (differ_from [] (unwrap_or g.order [])) (DoubleName order_place) (3 ∷ 4 ∷ []) (4 ∷ [])
+    (inr (refl, inl (omega arith))) (inl (omega arith)))))
 
 unknown_rises : (names : List (List ℕ)) (name : List ℕ) (table : Table) (key : Key) (i : ℕ) →
     Rise (4 ∷ name_table table ∷ i ∷ []) (unknown names name table i key) (4 ∷ name_table table ∷ (i + 1) ∷ [])
-unknown_rises names name table key i = one (is_some (position (bytes_eq name) names)) (UnknownName (place table i key)) (4 ∷ name_table table ∷ i ∷ []) (4 ∷ name_table table ∷ (i + 1) ∷ [])
+unknown_rises names name table key i = one (is_some (position (bytes_eq name) names)) (UnknownName (place table i key))
+    (4 ∷ name_table table ∷ i ∷ []) (4 ∷ name_table table ∷ (i + 1) ∷ [])
     (inr (refl, inr (refl, inr (refl, tt)))) (inr (refl, inr (refl, inl (omega arith))))
 
-ends_rise : (names : List (List ℕ)) (i : ℕ) (e : RawEdge) → Rise (4 ∷ 4 ∷ i ∷ []) (unknown_ends names i e) (4 ∷ 4 ∷ (i + 1) ∷ [])
-ends_rise names i e = one_more (is_some (position (bytes_eq e.from) names)) (UnknownName (place tables.Edge i From)) (unknown names e.to tables.Edge i To) (4 ∷ 4 ∷ i ∷ []) (4 ∷ 4 ∷ (i + 1) ∷ [])
+ends_rise : (names : List (List ℕ)) (i : ℕ) (e : RawEdge) →
+    Rise (4 ∷ 4 ∷ i ∷ []) (unknown_ends names i e) (4 ∷ 4 ∷ (i + 1) ∷ [])
+ends_rise names i e = one_more (is_some (position (bytes_eq e.from) names)) (UnknownName (place tables.Edge i From))
+    (unknown names e.to tables.Edge i To) (4 ∷ 4 ∷ i ∷ []) (4 ∷ 4 ∷ (i + 1) ∷ [])
     (inr (refl, inr (refl, inr (refl, tt))))
-    (one (is_some (position (bytes_eq e.to) names)) (UnknownName (place tables.Edge i To)) (4 ∷ 4 ∷ i ∷ 0 ∷ []) (4 ∷ 4 ∷ (i + 1) ∷ []) (inr (refl, inr (refl, inr (refl, inl (omega arith)))))
+    (one (is_some (position (bytes_eq e.to) names)) (UnknownName (place tables.Edge i To)) (4 ∷ 4 ∷ i ∷ 0 ∷ [])
+    (4 ∷ 4 ∷ (i + 1) ∷ []) (inr (refl, inr (refl, inr (refl, inl (omega arith)))))
     (inr (refl, inr (refl, inl (omega arith)))))
 
 unknown_faults_rise : (g : RawGraph) → Rise (4 ∷ []) (unknown_faults g) (5 ∷ [])
 unknown_faults_rise g =
     joined (4 ∷ []) (4 ∷ 3 ∷ 0 ∷ []) (5 ∷ []) _ _
     (from_below (4 ∷ []) (4 ∷ 2 ∷ 0 ∷ []) (4 ∷ 3 ∷ 0 ∷ []) _ (inr (refl, tt))
-    (each_rises (λ i. 4 ∷ 2 ∷ i ∷ []) (4 ∷ 3 ∷ 0 ∷ []) (λ i s. unknown g.nodes s.node tables.Slot i Node) (λ i s. unknown_rises g.nodes s.node tables.Slot Node i)
+    (each_rises (λ i. 4 ∷ 2 ∷ i ∷ []) (4 ∷ 3 ∷ 0 ∷ []) (λ i s. unknown g.nodes s.node tables.Slot i Node)
+    (λ i s. unknown_rises g.nodes s.node tables.Slot Node i)
     (λ i. inr (refl, inl (omega arith))) 0 g.slots))
     (joined (4 ∷ 3 ∷ 0 ∷ []) (4 ∷ 4 ∷ 0 ∷ []) (5 ∷ []) _ _
-    (each_rises (λ i. 4 ∷ 3 ∷ i ∷ []) (4 ∷ 4 ∷ 0 ∷ []) (λ i p. unknown g.nodes p.node tables.Process i Node) (λ i p. unknown_rises g.nodes p.node tables.Process Node i)
+    (each_rises (λ i. 4 ∷ 3 ∷ i ∷ []) (4 ∷ 4 ∷ 0 ∷ []) (λ i p. unknown g.nodes p.node tables.Process i Node)
+    (λ i p. unknown_rises g.nodes p.node tables.Process Node i)
     (λ i. inr (refl, inl (omega arith))) 0 g.processes)
     (joined (4 ∷ 4 ∷ 0 ∷ []) (4 ∷ 5 ∷ []) (5 ∷ []) _ _
-    (each_rises (λ i. 4 ∷ 4 ∷ i ∷ []) (4 ∷ 5 ∷ []) (unknown_ends (process_names g.processes)) (ends_rise (process_names g.processes)) (λ i. inr (refl, inl (omega arith))) 0 g.edges)
-    (one (list_all (is_known (process_names g.processes)) (unwrap_or g.order [])) (UnknownName order_place) (4 ∷ 5 ∷ []) (5 ∷ []) (inr (refl, inr (refl, tt))) (inl (omega arith)))))
+    (each_rises (λ i. 4 ∷ 4 ∷ i ∷ []) (4 ∷ 5 ∷ []) (unknown_ends (process_names g.processes))
+    (ends_rise (process_names g.processes)) (λ i. inr (refl, inl (omega arith))) 0 g.edges)
+    (one (list_all (is_known (process_names g.processes)) (unwrap_or g.order [])) (UnknownName order_place) (4 ∷ 5 ∷ [])
+    (5 ∷ []) (inr (refl, inr (refl, tt))) (inl (omega arith)))))
 
 -- ---- all faults
 
 graph_faults_rise : (r : Reading RawGraph) → Rise (2 ∷ []) (graph_faults r) (6 ∷ [])
 graph_faults_rise (Err fault) = inl (omega arith)
 graph_faults_rise (Ok g) = joined (2 ∷ []) (3 ∷ []) (6 ∷ []) _ _ (limit_faults_rise g)
-    (joined (3 ∷ []) (4 ∷ []) (6 ∷ []) _ _ (double_faults_rise g) (to_above (4 ∷ []) (5 ∷ []) (6 ∷ []) _ (unknown_faults_rise g) (inl (omega arith))))
+    (joined (3 ∷ []) (4 ∷ []) (6 ∷ []) _ _ (double_faults_rise g)
+    (to_above (4 ∷ []) (5 ∷ []) (6 ∷ []) _ (unknown_faults_rise g) (inl (omega arith))))
 
 is_some_kind : (fault : ReadFault) → IsEarlier (rank_of fault) (6 ∷ [])
 is_some_kind NotToml = inl (omega arith)
@@ -221,34 +291,45 @@ is_some_kind OutOfMemory = inl (omega arith)
 
 document_faults_rise : (r : Reading Members) → Rise [] (document_faults r) (6 ∷ [])
 document_faults_rise (Err fault) = (tt, is_some_kind fault)
-document_faults_rise (Ok ms) = joined [] (2 ∷ []) (6 ∷ []) (field_faults ms) (graph_faults (read_raw ms)) (from_below [] (1 ∷ []) (2 ∷ []) (field_faults ms) tt (field_faults_rise ms))
+document_faults_rise (Ok ms) = joined [] (2 ∷ []) (6 ∷ []) (field_faults ms) (graph_faults (read_raw ms))
+    (from_below [] (1 ∷ []) (2 ∷ []) (field_faults ms) tt (field_faults_rise ms))
     (graph_faults_rise (read_raw ms))
 
 -- ---- what stands in a list that rises
 
 module _ (high : List ℕ) where
-  all_later : (low : List ℕ) (faults : List ReadFault) → Rise low faults high → (fault : ReadFault) → Contains faults fault → IsEarlier low (rank_of fault)
+  all_later : (low : List ℕ) (faults : List ReadFault) → Rise low faults high → (fault : ReadFault) →
+      Contains faults fault →
+      IsEarlier low (rank_of fault)
   all_later low [] h fault c = absurd (let l = c.1 in omega (arith, l))
   all_later low (f ∷ faults) h fault (zero, l, e) = subst (λ z. IsEarlier low (rank_of z)) e h.0
-  all_later low (f ∷ faults) h fault (suc k, l, e) = earlier_than_both low (rank_of f) (rank_of fault) h.0 (all_later (rank_of f) faults h.1 fault (k, omega (arith, l), e))
+  all_later low (f ∷ faults) h fault (suc k, l, e) = earlier_than_both low (rank_of f) (rank_of fault) h.0
+      (all_later (rank_of f) faults h.1 fault (k, omega (arith, l), e))
 
-  later_at : (low : List ℕ) (faults : List ReadFault) → Rise low faults high → (j : ℕ) (d : ReadFault) → j < length faults → IsEarlier low (rank_of (get_or faults j d))
+  later_at : (low : List ℕ) (faults : List ReadFault) → Rise low faults high → (j : ℕ) (d : ReadFault) →
+      j < length faults →
+      IsEarlier low (rank_of (get_or faults j d))
   later_at low [] h j d l = absurd (omega (arith, l))
   later_at low (f ∷ faults) h zero d l = h.0
-  later_at low (f ∷ faults) h (suc j) d l = earlier_than_both low (rank_of f) (rank_of (get_or faults j d)) h.0 (later_at (rank_of f) faults h.1 j d (omega (arith, l)))
+  later_at low (f ∷ faults) h (suc j) d l = earlier_than_both low (rank_of f) (rank_of (get_or faults j d)) h.0
+      (later_at (rank_of f) faults h.1 j d (omega (arith, l)))
 
   pairs_rise : (low : List ℕ) (faults : List ReadFault) → Rise low faults high → AllPairs ComesBefore faults
   pairs_rise low [] h i j d l m = absurd (omega (arith, m))
   pairs_rise low (f ∷ faults) h zero zero d l m = absurd (omega (arith, l))
   pairs_rise low (f ∷ faults) h zero (suc j) d l m = later_at (rank_of f) faults h.1 j d (omega (arith, m))
   pairs_rise low (f ∷ faults) h (suc i) zero d l m = absurd (omega (arith, l))
-  pairs_rise low (f ∷ faults) h (suc i) (suc j) d l m = pairs_rise (rank_of f) faults h.1 i j d (omega (arith, l)) (omega (arith, m))
+  pairs_rise low (f ∷ faults) h (suc i) (suc j) d l m =
+      pairs_rise (rank_of f) faults h.1 i j d (omega (arith, l)) (omega (arith, m))
 
 -- ---- the first fault
 
-first_or_same : (low high : List ℕ) (f : ReadFault) (faults : List ReadFault) → Rise low (f ∷ faults) high → (fault : ReadFault) → Contains (f ∷ faults) fault → (f ≡ fault) ⊎ ComesBefore f fault
+first_or_same : (low high : List ℕ) (f : ReadFault) (faults : List ReadFault) → Rise low (f ∷ faults) high →
+    (fault : ReadFault) → Contains (f ∷ faults) fault →
+    (f ≡ fault) ⊎ ComesBefore f fault
 first_or_same low high f faults h fault (zero, l, e) = inl e
-first_or_same low high f faults h fault (suc k, l, e) = inr (all_later high (rank_of f) faults h.1 fault (k, omega (arith, l), e))
+first_or_same low high f faults h fault (suc k, l, e) =
+    inr (all_later high (rank_of f) faults h.1 fault (k, omega (arith, l), e))
 
 no_earlier_kind : (f fault : ReadFault) → (f ≡ fault) ⊎ ComesBefore f fault → kind_of f ≤ kind_of fault
 no_earlier_kind f fault (inl same) = subst (λ z. kind_of f ≤ kind_of z) same (omega arith)
@@ -257,24 +338,30 @@ no_earlier_kind f fault (inr (inr h)) = let same = h.0 in omega (arith, same)
 
 no_earlier_place : (f fault : ReadFault) → (f ≡ fault) ⊎ ComesBefore f fault → ComesBefore fault f → ⊥
 no_earlier_place f fault (inl same) l = not_itself (rank_of fault) (subst (λ z. ComesBefore fault z) same l)
-no_earlier_place f fault (inr h) l = not_itself (rank_of f) (earlier_than_both (rank_of f) (rank_of fault) (rank_of f) h l)
+no_earlier_place f fault (inr h) l =
+    not_itself (rank_of f) (earlier_than_both (rank_of f) (rank_of fault) (rank_of f) h l)
 
 here : (f : ReadFault) (faults : List ReadFault) → Contains (f ∷ faults) f
 here f faults = (0, omega arith, refl)
 
-head_is_first : (low high : List ℕ) (f : ReadFault) (faults : List ReadFault) → Rise low (f ∷ faults) high → IsFirstOf (Contains (f ∷ faults)) f
+head_is_first : (low high : List ℕ) (f : ReadFault) (faults : List ReadFault) → Rise low (f ∷ faults) high →
+    IsFirstOf (Contains (f ∷ faults)) f
 head_is_first low high f faults h = record {
   stands = here f faults;
   kinds = λ other c. no_earlier_kind f other (first_or_same low high f faults h other c);
   places = λ other c same l. no_earlier_place f other (first_or_same low high f faults h other c) (inr (same, l));
 }
 
-told_is_first : {T : Type 0} (low high : List ℕ) (faults : List ReadFault) (r : Reading T) → Rise low faults high → IsFirst faults r → (fault : ReadFault) → r ≡ Err fault →
+told_is_first : {T : Type 0} (low high : List ℕ) (faults : List ReadFault) (r : Reading T) → Rise low faults high →
+    IsFirst faults r → (fault : ReadFault) → r ≡ Err fault →
     IsFirstOf (Contains faults) fault
 told_is_first low high [] r h told fault e = absurd (let ok = told.1 in cc)
-told_is_first low high (f ∷ faults) r h told fault e = subst (IsFirstOf (Contains (f ∷ faults))) (let same : f ≡ fault = cc in same) (head_is_first low high f faults h)
+told_is_first low high (f ∷ faults) r h told fault e =
+    subst (IsFirstOf (Contains (f ∷ faults))) (let same : f ≡ fault = cc in same) (head_is_first low high f faults h)
 
-first_is_told : {T : Type 0} (low high : List ℕ) (faults : List ReadFault) (r : Reading T) → Rise low faults high → IsFirst faults r → (fault : ReadFault) → IsFirstOf (Contains faults) fault →
+first_is_told : {T : Type 0} (low high : List ℕ) (faults : List ReadFault) (r : Reading T) → Rise low faults high →
+    IsFirst faults r → (fault : ReadFault) →
+    IsFirstOf (Contains faults) fault →
     r ≡ Err fault
 first_is_told low high [] r h told fault first = absurd (let l = first.stands.1 in omega (arith, l))
 first_is_told low high (f ∷ faults) r h told fault first = by (first_or_same low high f faults h fault first.stands)
@@ -289,6 +376,9 @@ refusals_are_first bytes =
     let rise = document_faults_rise (document_of bytes) in
     let told = graph_files_show_first_faults bytes in
     record {
-      first = λ fault. (told_is_first [] (6 ∷ []) (faults_of bytes) (problem_of bytes) rise told fault, first_is_told [] (6 ∷ []) (faults_of bytes) (problem_of bytes) rise told fault);
+      first = λ fault. (
+        told_is_first [] (6 ∷ []) (faults_of bytes) (problem_of bytes) rise told fault,
+        first_is_told [] (6 ∷ []) (faults_of bytes) (problem_of bytes) rise told fault,
+      );
       rise = pairs_rise (6 ∷ []) [] (faults_of bytes) rise;
     }

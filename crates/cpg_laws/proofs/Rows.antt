@@ -7,4 +7,5 @@ use Rattle.cpg_laws.specs.Tables.{FormedRowsHaveFewColumns}
 
 pub formed_rows_have_few_columns : FormedRowsHaveFewColumns
 formed_rows_have_few_columns g tables urgency reached x few activity single l formed =
-    columns_within_views g few reached urgency (columns_of tables x) formed (row_keeps g tables x (λ s i law. (activity s law x l (Some i), single s law x l (Some i))))
+    columns_within_views g few reached urgency (columns_of tables x) formed
+    (row_keeps g tables x (λ s i law. (activity s law x l (Some i), single s law x l (Some i))))

@@ -1,23 +1,30 @@
 -- What is faulty in a graph file, kind by kind: said of the document alone, by what stands at its places.
-use Rattle.std.specs.Prelude.{ℕ, zero, suc, ◌≡◌, ◌≢◌, ◌<◌, ◌⊎◌, ◌↔◌, ℤ, Bool, true, false, List, [], ◌∷◌, Option, Some, None, is_some, unwrap_or, option_and_then, Ok, Err, Contains, length, map, filter, slice_get, if◌then◌else◌}
+use Rattle.std.specs.Prelude.{ℕ, zero, suc, ◌≡◌, ◌≢◌, ◌<◌, ◌⊎◌, ◌↔◌, ℤ, Bool, true, false, List, [], ◌∷◌, Option, Some}
+use Rattle.std.specs.Prelude.{None, is_some, unwrap_or, option_and_then, Ok, Err, Contains, length, map, filter}
+use Rattle.std.specs.Prelude.{slice_get, if◌then◌else◌}
 use Rattle.std.specs.Str.{is_utf8}
 use Rattle.toml.specs.Data.{Data, string, integer, Members, get_member}
 use Rattle.toml.specs.Parse.{parse_document}
 use Rattle.cpg_base.specs.Graph.{Graph}
-use Rattle.cpg_base.specs.declared.limits.TheConstants.{MOST_FAULTS, MOST_NODES, MOST_PROCESSES, MOST_EDGES, MOST_CONDITIONS, MOST_PARTS, LONGEST, LARGEST}
+use Rattle.cpg_base.specs.declared.limits.TheConstants.{MOST_FAULTS, MOST_NODES, MOST_PROCESSES, MOST_EDGES}
+use Rattle.cpg_base.specs.declared.limits.TheConstants.{MOST_CONDITIONS, MOST_PARTS, LONGEST, LARGEST}
 use Rattle.cpg_reader.specs.declared.place.Table.{Table}
 use Rattle.cpg_reader.specs.declared.place.Table.TheVariants as tables
 use Rattle.cpg_reader.specs.declared.place.Key.{Key}
-use Rattle.cpg_reader.specs.declared.place.Key.TheVariants.{Faults, Deadline, Node, Slot, Process, Edge, Order, Name, Length, Bytes, Wcet, Parts, Alpha, Chi, Mu, Release, From, To, When, Unknown}
+use Rattle.cpg_reader.specs.declared.place.Key.TheVariants.{Faults, Deadline, Node, Slot, Process, Edge, Order, Name}
+use Rattle.cpg_reader.specs.declared.place.Key.TheVariants.{Length, Bytes, Wcet, Parts, Alpha, Chi, Mu, Release, From}
+use Rattle.cpg_reader.specs.declared.place.Key.TheVariants.{To, When, Unknown}
 use Rattle.cpg_reader.specs.declared.place.Place.{Place}
 use Rattle.cpg_reader.specs.declared.place.What.{What}
 use Rattle.cpg_reader.specs.declared.place.What.TheVariants.{Nodes, Slots, Processes, Edges, Number, Conditions}
 use Rattle.cpg_reader.specs.declared.place.ReadFault.{ReadFault}
-use Rattle.cpg_reader.specs.declared.place.ReadFault.TheVariants.{NotToml, BadField, DoubleName, UnknownName, OverLimit, OutOfMemory}
+use Rattle.cpg_reader.specs.declared.place.ReadFault.TheVariants.{NotToml, BadField, DoubleName, UnknownName, OverLimit}
+use Rattle.cpg_reader.specs.declared.place.ReadFault.TheVariants.{OutOfMemory}
 use Rattle.cpg_reader.specs.Rows.{text_of, as_name, as_names}
 use Rattle.cpg_reader.specs.Ranges.{is_within, different}
 use Rattle.cpg_reader.specs.Document.{problem_of}
-use Rattle.cpg_laws.specs.GraphFiles.{Field, is_good_value, top_fields, node_fields, slot_fields, process_fields, edge_fields, elements, order_place, faults_of}
+use Rattle.cpg_laws.specs.GraphFiles.{Field, is_good_value, top_fields, node_fields, slot_fields, process_fields}
+use Rattle.cpg_laws.specs.GraphFiles.{edge_fields, elements, order_place, faults_of}
 use Rattle.cpg_laws.specs.Refusals.{IsFirstOf}
 
 -- the document that the bytes are, if they are one
@@ -48,15 +55,18 @@ fields_of tables.Edge = edge_fields
 
 -- the table has this key, and its value doesn't fit, or is needed and missing
 abbrev pub HasBadValue : Members → List Field → Key → Type 0
-HasBadValue members fields key = (f : Field) × Contains fields f × (f.key ≡ key) × (is_good_value f (get_member (text_of key) members) ≡ false)
+HasBadValue members fields key =
+    (f : Field) × Contains fields f × (f.key ≡ key) × (is_good_value f (get_member (text_of key) members) ≡ false)
 
 -- something stands at a key that the table doesn't have
 abbrev pub HasOtherKey : Members → List Field → Type 0
-HasOtherKey members fields = (text : List ℕ) × (d : Data) × (get_member text members ≡ Some d) × ((f : Field) → Contains fields f → text_of f.key ≢ text)
+HasOtherKey members fields = (text : List ℕ) × (d : Data) × (get_member text members ≡ Some d) ×
+    ((f : Field) → Contains fields f → text_of f.key ≢ text)
 
 abbrev pub IsBadField : Members → Place → Type 0
 IsBadField ms place = (members : Members) × (table_at ms place.table place.index ≡ Some members)
-    × (HasBadValue members (fields_of place.table) place.key ⊎ ((place.key ≡ Unknown) × HasOtherKey members (fields_of place.table)))
+    × (HasBadValue members (fields_of place.table) place.key ⊎
+    ((place.key ≡ Unknown) × HasOtherKey members (fields_of place.table)))
 
 abbrev pub HasGoodFields : Members → Type 0
 HasGoodFields ms = (place : Place) → IsBadField ms place → ⊥
@@ -76,7 +86,8 @@ abbrev pub ranges_of : Table → List Range
 ranges_of tables.Top = range Faults 0 MOST_FAULTS ∷ range Deadline 0 LONGEST ∷ []
 ranges_of tables.Node = []
 ranges_of tables.Slot = range Length 1 LONGEST ∷ range Bytes 1 LARGEST ∷ []
-ranges_of tables.Process = range Wcet 1 LONGEST ∷ range Parts 1 MOST_PARTS ∷ range Alpha 0 LONGEST ∷ range Chi 0 LONGEST ∷ range Mu 0 LONGEST
+ranges_of tables.Process =
+    range Wcet 1 LONGEST ∷ range Parts 1 MOST_PARTS ∷ range Alpha 0 LONGEST ∷ range Chi 0 LONGEST ∷ range Mu 0 LONGEST
     ∷ range Release 0 LONGEST ∷ range Deadline 0 LONGEST ∷ []
 ranges_of tables.Edge = range Bytes 1 LARGEST ∷ []
 
@@ -115,7 +126,8 @@ order_names ms = unwrap_or (option_and_then as_names (get_member (text_of Order)
 
 -- some name stands at two places
 abbrev pub HasTwice : List (List ℕ) → Type 0
-HasTwice names = (name : List ℕ) × (i : ℕ) × (slice_get names i ≡ Some name) × (j : ℕ) × (j < i) × (slice_get names j ≡ Some name)
+HasTwice names =
+    (name : List ℕ) × (i : ℕ) × (slice_get names i ≡ Some name) × (j : ℕ) × (j < i) × (slice_get names j ≡ Some name)
 
 -- the name stands earlier in its kind
 abbrev pub IsDoubleName : Members → Place → Type 0
@@ -138,11 +150,13 @@ named_in table key = None
 -- no element of the table that has what the name names has the name
 abbrev pub IsUnknownName : Members → Place → Type 0
 IsUnknownName ms place = (others : Table) × (named_in place.table place.key ≡ Some others) × (name : List ℕ) ×
-    (found_at ms place.table place.index place.key ≡ Some (string name)) × ((j : ℕ) → found_at ms others j Name ≢ Some (string name))
+    (found_at ms place.table place.index place.key ≡ Some (string name)) ×
+    ((j : ℕ) → found_at ms others j Name ≢ Some (string name))
 
 -- the order has a name that no process has
 abbrev pub HasUnknown : Members → Type 0
-HasUnknown ms = (name : List ℕ) × Contains (order_names ms) name × ((j : ℕ) → found_at ms tables.Process j Name ≢ Some (string name))
+HasUnknown ms = (name : List ℕ) × Contains (order_names ms) name ×
+    ((j : ℕ) → found_at ms tables.Process j Name ≢ Some (string name))
 
 abbrev pub IsUnknown : Members → Place → Type 0
 IsUnknown ms place = IsUnknownName ms place ⊎ ((place ≡ order_place) × HasUnknown ms)
@@ -166,12 +180,13 @@ IsFaultIn (Some ms) fault = IsFaultOf ms fault
 abbrev pub IsFaulty : List ℕ → ReadFault → Type 0
 IsFaulty bytes fault = IsFaultIn (document bytes) fault
 
--- The faults of a graph file are those of its document. It is refused with a fault exactly if that is the first of them, of which
--- there is one at most, and read as a graph exactly if nothing is faulty.
+-- The faults of a graph file are those of its document. It is refused with a fault exactly if that is the first of
+-- them, of which there is one at most, and read as a graph exactly if nothing is faulty.
 pub record IsRefusedByDocument (bytes : List ℕ) : Type 0 where
   pub faults : (fault : ReadFault) → Contains (faults_of bytes) fault ↔ IsFaulty bytes fault
   pub first : (fault : ReadFault) → (problem_of bytes ≡ Err fault) ↔ IsFirstOf (IsFaulty bytes) fault
-  pub one : (fault other : ReadFault) → IsFirstOf (IsFaulty bytes) fault → IsFirstOf (IsFaulty bytes) other → fault ≡ other
+  pub one : (fault other : ReadFault) → IsFirstOf (IsFaulty bytes) fault → IsFirstOf (IsFaulty bytes) other →
+      fault ≡ other
   pub read : ((g : Graph) × (problem_of bytes ≡ Ok g)) ↔ ((fault : ReadFault) → IsFaulty bytes fault → ⊥)
 
 abbrev pub FilesAreRefusedByDocument : Type 0

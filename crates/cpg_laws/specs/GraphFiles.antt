@@ -1,12 +1,16 @@
 -- All faults of a graph file, kind after kind, each kind in the order of tables, indexes and keys.
-use Rattle.std.specs.Prelude.{ℕ, ◌+◌, ◌≡◌, ◌&&◌, Bool, true, false, not, List, [], ◌∷◌, ◌++◌, Option, Some, None, is_some, unwrap_or, option_and_then, Ok, Err, length, map, position, nat_le, bytes_eq, if◌then◌else◌}
+use Rattle.std.specs.Prelude.{ℕ, ◌+◌, ◌≡◌, ◌&&◌, Bool, true, false, not, List, [], ◌∷◌, ◌++◌, Option, Some, None}
+use Rattle.std.specs.Prelude.{is_some, unwrap_or, option_and_then, Ok, Err, length, map, position, nat_le, bytes_eq}
+use Rattle.std.specs.Prelude.{if◌then◌else◌}
 use Rattle.std.specs.List.{list_any, list_all}
 use Rattle.toml.specs.Data.{Data, Members, as_integer, as_bool}
 use Rattle.cpg_base.specs.declared.limits.TheConstants.{MOST_NODES, MOST_PROCESSES, MOST_EDGES, MOST_CONDITIONS}
 use Rattle.cpg_reader.specs.declared.place.Table.{Table}
 use Rattle.cpg_reader.specs.declared.place.Table.TheVariants as tables
 use Rattle.cpg_reader.specs.declared.place.Key.{Key}
-use Rattle.cpg_reader.specs.declared.place.Key.TheVariants.{Faults, Deadline, Node, Slot, Process, Edge, Order, Name, Length, Bytes, Wcet, Parts, Alpha, Chi, Mu, Join, Frozen, Release, From, To, When, Unknown}
+use Rattle.cpg_reader.specs.declared.place.Key.TheVariants.{Faults, Deadline, Node, Slot, Process, Edge, Order, Name}
+use Rattle.cpg_reader.specs.declared.place.Key.TheVariants.{Length, Bytes, Wcet, Parts, Alpha, Chi, Mu, Join, Frozen}
+use Rattle.cpg_reader.specs.declared.place.Key.TheVariants.{Release, From, To, When, Unknown}
 use Rattle.cpg_reader.specs.declared.place.Place.{Place}
 use Rattle.cpg_reader.specs.declared.place.What.{What}
 use Rattle.cpg_reader.specs.declared.place.What.TheVariants.{Nodes, Slots, Processes, Edges, Number, Conditions}
@@ -17,7 +21,8 @@ use Rattle.cpg_reader.specs.declared.shape.RawEdge.{RawEdge}
 use Rattle.cpg_reader.specs.Reading.{Reading}
 use Rattle.cpg_reader.specs.Rows.{DocumentRow, place_in, value_at, as_name, as_names, as_tables, are_listed}
 use Rattle.cpg_reader.specs.Shape.{RawGraph, read_raw}
-use Rattle.cpg_reader.specs.Ranges.{top_numbers, slot_numbers, process_numbers, edge_numbers, is_within, sources, different}
+use Rattle.cpg_reader.specs.Ranges.{top_numbers, slot_numbers, process_numbers, edge_numbers, is_within, sources}
+use Rattle.cpg_reader.specs.Ranges.{different}
 use Rattle.cpg_reader.specs.Names.{place, slot_names, process_names}
 use Rattle.cpg_reader.specs.Document.{document_of, problem_of}
 
@@ -76,7 +81,8 @@ abbrev pub name_list : Key → Field
 name_list key = record { key = key; needed = false; fits = are_names }
 
 abbrev pub top_fields : List Field
-top_fields = needed_integer Faults ∷ needed_integer Deadline ∷ list Node ∷ list Slot ∷ list Process ∷ list Edge ∷ name_list Order ∷ []
+top_fields = needed_integer Faults ∷ needed_integer Deadline ∷ list Node ∷ list Slot ∷ list Process ∷ list Edge
+    ∷ name_list Order ∷ []
 
 abbrev pub node_fields : List Field
 node_fields = needed_name Name ∷ []
@@ -85,7 +91,8 @@ abbrev pub slot_fields : List Field
 slot_fields = needed_name Node ∷ needed_integer Length ∷ needed_integer Bytes ∷ []
 
 abbrev pub process_fields : List Field
-process_fields = needed_name Name ∷ needed_name Node ∷ needed_integer Wcet ∷ integer Parts ∷ integer Alpha ∷ integer Chi ∷ integer Mu
+process_fields =
+    needed_name Name ∷ needed_name Node ∷ needed_integer Wcet ∷ integer Parts ∷ integer Alpha ∷ integer Chi ∷ integer Mu
     ∷ flag Join ∷ flag Frozen ∷ integer Release ∷ integer Deadline ∷ []
 
 abbrev pub edge_fields : List Field
@@ -94,7 +101,8 @@ edge_fields = needed_name From ∷ needed_name To ∷ integer Bytes ∷ flag Whe
 -- the fields that aren't good, and then a key that is none of theirs
 abbrev pub bad_fields : DocumentRow → List Key → List Field → List ReadFault
 bad_fields row keys [] = unless (are_listed keys row.members) (BadField (place_in row Unknown))
-bad_fields row keys (f ∷ fs) = unless (is_good_value f (value_at row f.key)) (BadField (place_in row f.key)) ++ bad_fields row keys fs
+bad_fields row keys (f ∷ fs) =
+    unless (is_good_value f (value_at row f.key)) (BadField (place_in row f.key)) ++ bad_fields row keys fs
 
 abbrev pub bad_in : List Field → DocumentRow → List ReadFault
 bad_in fields row = bad_fields row (map (λ f. f.key) fields) fields
@@ -107,7 +115,8 @@ abbrev pub elements : Members → Key → List Members
 elements ms key = unwrap_or (option_and_then as_tables (value_at (top_of ms) key)) []
 
 abbrev pub bad_elements : Table → List Field → List Members → List ReadFault
-bad_elements table fields members = of_each (λ i ms. bad_in fields (record { table = table; index = i; members = ms })) 0 members
+bad_elements table fields members =
+    of_each (λ i ms. bad_in fields (record { table = table; index = i; members = ms })) 0 members
 
 -- the bad fields of the whole document: first those of the top, then those of each element of each list
 abbrev pub field_faults : Members → List ReadFault
@@ -146,7 +155,8 @@ limit_faults g = too_many MOST_NODES Nodes g.nodes
 -- a name that stands among those before it
 abbrev pub doubles_from : Table → Key → ℕ → List (List ℕ) → List (List ℕ) → List ReadFault
 doubles_from table key i earlier [] = []
-doubles_from table key i earlier (name ∷ names) = unless (not (list_any (bytes_eq name) earlier)) (DoubleName (place table i key))
+doubles_from table key i earlier (name ∷ names) =
+    unless (not (list_any (bytes_eq name) earlier)) (DoubleName (place table i key))
     ++ doubles_from table key (i + 1) (earlier ++ name ∷ []) names
 
 -- no name stands among those before it

@@ -12,7 +12,8 @@ use Rattle.cpg_rules.specs.Faults.{ShowsFault}
 use Rattle.cpg_rules.specs.Given.{IsBadOrder}
 use Rattle.cpg_rules.specs.Rules.{AllFit, LacksSlot, IsAboveSlot}
 use Rattle.cpg_rules.specs.declared.admission.RuleFault.{RuleFault}
-use Rattle.cpg_rules.specs.declared.admission.RuleFault.TheVariants.{Cycle, TooManyTracks, TwoAlternatives, NoSlot, TooBig, BadOrder, OutOfMemory}
+use Rattle.cpg_rules.specs.declared.admission.RuleFault.TheVariants.{Cycle, TooManyTracks, TwoAlternatives, NoSlot}
+use Rattle.cpg_rules.specs.declared.admission.RuleFault.TheVariants.{TooBig, BadOrder, OutOfMemory}
 
 -- what `admit` may answer of a graph, by its contract
 abbrev pub MayAnswer : Graph → Result Admission RuleFault → Type 0
@@ -31,7 +32,8 @@ pub record RefusesCycles (g : Graph) (answer : Result Admission RuleFault) : Typ
 
 -- each graph is refused for a cycle exactly if it has one, unless memory runs out
 abbrev pub CyclesAreRefusedFirst : Type 0
-CyclesAreRefusedFirst = (g : Graph) (answer : Result Admission RuleFault) → MayAnswer g answer → answer ≢ Err OutOfMemory → RefusesCycles g answer
+CyclesAreRefusedFirst = (g : Graph) (answer : Result Admission RuleFault) → MayAnswer g answer →
+    answer ≢ Err OutOfMemory → RefusesCycles g answer
 
 -- which cause a refusal tells, by its place among them
 abbrev pub rank_of_fault : RuleFault → ℕ
@@ -55,16 +57,20 @@ IsFirstCause g (Cycle walk) = IsCycle g walk
 IsFirstCause g TooManyTracks = (HasCycle g → ⊥) × (most_tracks < track_count g)
 IsFirstCause g (TwoAlternatives p least) = (HasCycle g → ⊥) × (track_count g ≤ most_tracks) × HasTwoInputs g p least
 IsFirstCause g (NoSlot node) = (HasCycle g → ⊥) × (track_count g ≤ most_tracks) × HasSingleJoins g × LacksSlot g node
-IsFirstCause g (TooBig e) = (HasCycle g → ⊥) × (track_count g ≤ most_tracks) × HasSingleJoins g × HasSenderSlots g × IsAboveSlot g e
-IsFirstCause g (BadOrder p) = (HasCycle g → ⊥) × (track_count g ≤ most_tracks) × HasSingleJoins g × HasSenderSlots g × AllFit g × IsBadOrder g p
+IsFirstCause g (TooBig e) =
+    (HasCycle g → ⊥) × (track_count g ≤ most_tracks) × HasSingleJoins g × HasSenderSlots g × IsAboveSlot g e
+IsFirstCause g (BadOrder p) =
+    (HasCycle g → ⊥) × (track_count g ≤ most_tracks) × HasSingleJoins g × HasSenderSlots g × AllFit g × IsBadOrder g p
 IsFirstCause g OutOfMemory = ⊤
 
 -- a refusal tells the first cause, of which a graph has one at most; of cycles it may have several
 pub record AreFirstCauses (g : Graph) : Type 0 where
   pub first : (fault : RuleFault) → ShowsFault g fault → IsFirstCause g fault
-  pub one : (fault other : RuleFault) → fault ≢ OutOfMemory → other ≢ OutOfMemory → IsFirstCause g fault → IsFirstCause g other →
+  pub one : (fault other : RuleFault) → fault ≢ OutOfMemory → other ≢ OutOfMemory → IsFirstCause g fault →
+      IsFirstCause g other →
       rank_of_fault fault ≡ rank_of_fault other
-  pub same : (fault other : RuleFault) → fault ≢ OutOfMemory → other ≢ OutOfMemory → 0 < rank_of_fault fault → IsFirstCause g fault →
+  pub same : (fault other : RuleFault) → fault ≢ OutOfMemory → other ≢ OutOfMemory → 0 < rank_of_fault fault →
+      IsFirstCause g fault →
       IsFirstCause g other → fault ≡ other
 
 -- the refusal of each graph tells the first cause

@@ -15,4 +15,5 @@ PacksAreRefusedAtOnePlace = (bytes : List ℕ) → ArePackOrRefused bytes
 
 -- A proper front of a pack is no pack, and it is refused where it ends.
 abbrev pub FrontsOfPacksAreRefused : Type 0
-FrontsOfPacksAreRefused = (t : Tables) (n : ℕ) → AreLawful t → n < length (spelling t) → IsBadPack (take n (spelling t)) n
+FrontsOfPacksAreRefused =
+    (t : Tables) (n : ℕ) → AreLawful t → n < length (spelling t) → IsBadPack (take n (spelling t)) n

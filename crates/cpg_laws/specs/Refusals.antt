@@ -3,12 +3,15 @@ use Rattle.std.specs.Prelude.{ℕ, ◌≡◌, ◌<◌, ◌≤◌, ◌⊎◌, ◌
 use Rattle.cpg_reader.specs.declared.place.Table.{Table}
 use Rattle.cpg_reader.specs.declared.place.Table.TheVariants as tables
 use Rattle.cpg_reader.specs.declared.place.Key.{Key}
-use Rattle.cpg_reader.specs.declared.place.Key.TheVariants.{Faults, Deadline, Node, Slot, Process, Edge, Order, Name, Length, Bytes, Wcet, Parts, Alpha, Chi, Mu, Join, Frozen, Release, From, To, When}
+use Rattle.cpg_reader.specs.declared.place.Key.TheVariants.{Faults, Deadline, Node, Slot, Process, Edge, Order, Name}
+use Rattle.cpg_reader.specs.declared.place.Key.TheVariants.{Length, Bytes, Wcet, Parts, Alpha, Chi, Mu, Join, Frozen}
+use Rattle.cpg_reader.specs.declared.place.Key.TheVariants.{Release, From, To, When}
 use Rattle.cpg_reader.specs.declared.place.Place.{Place}
 use Rattle.cpg_reader.specs.declared.place.What.{What}
 use Rattle.cpg_reader.specs.declared.place.What.TheVariants.{Nodes, Slots, Processes, Edges, Number, Conditions}
 use Rattle.cpg_reader.specs.declared.place.ReadFault.{ReadFault}
-use Rattle.cpg_reader.specs.declared.place.ReadFault.TheVariants.{NotToml, BadField, DoubleName, UnknownName, OverLimit, OutOfMemory}
+use Rattle.cpg_reader.specs.declared.place.ReadFault.TheVariants.{NotToml, BadField, DoubleName, UnknownName, OverLimit}
+use Rattle.cpg_reader.specs.declared.place.ReadFault.TheVariants.{OutOfMemory}
 use Rattle.cpg_reader.specs.Document.{problem_of}
 use Rattle.cpg_laws.specs.GraphFiles.{faults_of}
 
@@ -102,14 +105,16 @@ IsEarlier (n ∷ ns) (m ∷ ms) = (n < m) ⊎ ((n ≡ m) × IsEarlier ns ms)
 
 -- a fault is of an earlier kind than another, or at an earlier place in its kind
 abbrev pub ComesBefore : ReadFault → ReadFault → Type 0
-ComesBefore fault other = (kind_of fault < kind_of other) ⊎ ((kind_of fault ≡ kind_of other) × IsEarlier (place_of_fault fault) (place_of_fault other))
+ComesBefore fault other = (kind_of fault < kind_of other) ⊎
+    ((kind_of fault ≡ kind_of other) × IsEarlier (place_of_fault fault) (place_of_fault other))
 
 -- a fault is the first of those that stand: none of an earlier kind stands anywhere, and none of its kind at an
 -- earlier place
 pub record IsFirstOf (Stands : ReadFault → Type 0) (fault : ReadFault) : Type 0 where
   pub stands : Stands fault
   pub kinds : (other : ReadFault) → Stands other → kind_of fault ≤ kind_of other
-  pub places : (other : ReadFault) → Stands other → kind_of other ≡ kind_of fault → IsEarlier (place_of_fault other) (place_of_fault fault) → ⊥
+  pub places : (other : ReadFault) → Stands other → kind_of other ≡ kind_of fault →
+      IsEarlier (place_of_fault other) (place_of_fault fault) → ⊥
 
 abbrev pub IsFirstRefusal : List ℕ → ReadFault → Type 0
 IsFirstRefusal bytes fault = IsFirstOf (Contains (faults_of bytes)) fault

@@ -13,12 +13,14 @@ use Rattle.cpg_run.specs.Laws.{Keeps}
 
 -- what a node has heard by a time is true of the scenario
 abbrev pub HeardLiteralsAreTrue : Type 0
-HeardLiteralsAreTrue = (g : Graph) (tables : List NodeTable) (node time : ℕ) (s : Scenario) (l : Literal) → IsScenario g s →
+HeardLiteralsAreTrue =
+    (g : Graph) (tables : List NodeTable) (node time : ℕ) (s : Scenario) (l : Literal) → IsScenario g s →
     is_heard g.faults (facts g tables node s time) l ≡ true → holds s l ≡ true
 
--- if the literals of columns are on active processes and no two columns of a row match, a formed row has at most as many
--- columns as there are views of its variables
+-- if the literals of columns are on active processes and no two columns of a row match, a formed row has at most as
+-- many columns as there are views of its variables
 abbrev pub FormedRowsHaveFewColumns : Type 0
-FormedRowsHaveFewColumns = (g : Graph) (tables : List NodeTable) (urgency reached : List ℕ) (x : ℕ) → process_count g ≤ 128 →
+FormedRowsHaveFewColumns =
+    (g : Graph) (tables : List NodeTable) (urgency reached : List ℕ) (x : ℕ) → process_count g ≤ 128 →
     Keeps Rule.Activity g tables → Keeps Rule.Single g tables → x < item_count g →
     IsFormed g urgency reached (columns_of tables x) → length (columns_of tables x) ≤ views g reached

@@ -1,8 +1,10 @@
 -- Cubes that are narrowed by literals: they are cubes of what was known and of these, in whatever order.
-use Rattle.std.proofs.Common.{◌≡◌, ◌≢◌, ◌∙◌, ℕ, ◌<◌, ◌≤◌, max, min, List, [], ◌∷◌, ◌++◌, get_or, Contains, All, arith, refl, sym, ap, ap₂, inl, inr, subst, append_assoc}
+use Rattle.std.proofs.Common.{◌≡◌, ◌≢◌, ◌∙◌, ℕ, ◌<◌, ◌≤◌, max, min, List, [], ◌∷◌, ◌++◌, get_or, Contains, All, arith}
+use Rattle.std.proofs.Common.{refl, sym, ap, ap₂, inl, inr, subst, append_assoc}
 use Rattle.std.proofs.lemmas.Bool.{cases_eq}
 use Rattle.std.proofs.lemmas.List.{append-nil}
-use Rattle.std.proofs.lemmas.List.Elements.{Contains-append_left, Contains-append_right, Contains-append_cases, Contains-get_or}
+use Rattle.std.proofs.lemmas.List.Elements.{Contains-append_left, Contains-append_right, Contains-append_cases}
+use Rattle.std.proofs.lemmas.List.Elements.{Contains-get_or}
 use Rattle.cpg_base.proofs.Lists.{Contains-first, Contains-rest, Contains-cases, Contains-nil}
 use Rattle.cpg_base.proofs.Pairs.{AllPairs-nil}
 use Rattle.cpg_cube.specs.Cube.{IsRising, low_in, high_in}
@@ -10,7 +12,8 @@ use Rattle.cpg_base.specs.Variable.{top}
 use Rattle.cpg_cube.specs.Narrow.{meet_literal, narrowed_by}
 use Rattle.cpg_cube.specs.declared.literal.Literal.{Literal}
 use Rattle.cpg_cube.proofs.Narrowed.{low-other, low-same, high-other, high-same}
-use Rattle.cpg_cube.proofs.Narrow.{narrowed-before, narrowed-here, narrowed-after, rising-narrowed, variables_of_narrowed}
+use Rattle.cpg_cube.proofs.Narrow.{narrowed-before, narrowed-here, narrowed-after, rising-narrowed}
+use Rattle.cpg_cube.proofs.Narrow.{variables_of_narrowed}
 use Rattle.cpg_cube.proofs.Ranges.{rising_rest, rising_first}
 use Rattle.cpg_run.proofs.CubesOf.{cube_within}
 use Rattle.cpg_run.proofs.Hearing.{low_kept, high_kept, high_kept_top, kept_low_below, kept_high_above, kept_grows}
@@ -36,12 +39,15 @@ module _ (xs ys : List Literal) (v : ℕ) where
   kept_high-append : (k : ℕ) → kept_high k (xs ++ ys) v ≡ min (kept_high k xs v) (kept_high k ys v)
   kept_high-append k = omega (
     arith,
-    kept_high_above (xs ++ ys) v k (min (kept_high k xs v) (kept_high k ys v)) (omega (arith, high_kept_top xs v k)) (λ m j e. elim (Contains-append_cases xs ys m j) [
-      | inl i ↦ omega (arith, high_kept xs v k m i e)
-      | inr i ↦ omega (arith, high_kept ys v k m i e)
-    ]),
-    kept_high_above xs v k (kept_high k (xs ++ ys) v) (high_kept_top (xs ++ ys) v k) (λ m j e. high_kept (xs ++ ys) v k m (Contains-append_left xs ys m j) e),
-    kept_high_above ys v k (kept_high k (xs ++ ys) v) (high_kept_top (xs ++ ys) v k) (λ m j e. high_kept (xs ++ ys) v k m (Contains-append_right xs ys m j) e),
+    kept_high_above (xs ++ ys) v k (min (kept_high k xs v) (kept_high k ys v)) (omega (arith, high_kept_top xs v k))
+        (λ m j e. elim (Contains-append_cases xs ys m j) [
+          | inl i ↦ omega (arith, high_kept xs v k m i e)
+          | inr i ↦ omega (arith, high_kept ys v k m i e)
+        ]),
+    kept_high_above xs v k (kept_high k (xs ++ ys) v) (high_kept_top (xs ++ ys) v k)
+        (λ m j e. high_kept (xs ++ ys) v k m (Contains-append_left xs ys m j) e),
+    kept_high_above ys v k (kept_high k (xs ++ ys) v) (high_kept_top (xs ++ ys) v k)
+        (λ m j e. high_kept (xs ++ ys) v k m (Contains-append_right xs ys m j) e),
   )
 
 only : (l m : Literal) → Contains (l ∷ []) m → l ≡ m
@@ -63,17 +69,22 @@ module _ (k : ℕ) (l : Literal) where
   )
 
   none_low : (v : ℕ) → l.variable ≢ v → kept_low (l ∷ []) v ≡ 0
-  none_low v n = omega (arith, kept_low_below (l ∷ []) v 0 (λ m j e. absurd (n (ap (λ (x : Literal). x.variable) (only l m j) ∙ e))))
+  none_low v n = omega (
+    arith,
+    kept_low_below (l ∷ []) v 0 (λ m j e. absurd (n (ap (λ (x : Literal). x.variable) (only l m j) ∙ e))),
+  )
 
   none_high : (v : ℕ) → l.variable ≢ v → kept_high k (l ∷ []) v ≡ top k v
   none_high v n = omega (
     arith,
     high_kept_top (l ∷ []) v k,
-    kept_high_above (l ∷ []) v k (top k v) (omega arith) (λ m j e. absurd (n (ap (λ (x : Literal). x.variable) (only l m j) ∙ e))),
+    kept_high_above (l ∷ []) v k (top k v) (omega arith)
+        (λ m j e. absurd (n (ap (λ (x : Literal). x.variable) (only l m j) ∙ e))),
   )
 
 -- the variables of a narrowed cube are those of the cube and the literal's
-spoken_narrowed : (l : Literal) (cube : List Literal) (x : Literal) → Contains (narrowed_by l cube) x → (y : Literal) × Contains (cube ++ l ∷ []) y × (y.variable ≡ x.variable)
+spoken_narrowed : (l : Literal) (cube : List Literal) (x : Literal) → Contains (narrowed_by l cube) x →
+    (y : Literal) × Contains (cube ++ l ∷ []) y × (y.variable ≡ x.variable)
 spoken_narrowed l cube x j = elim (variables_of_narrowed l cube x j) [
   | inl e ↦ (l, Contains-append_right cube (l ∷ []) l (Contains-first l []), e)
   | inr r ↦ (r.0, Contains-append_left cube (l ∷ []) r.0 r.1, r.2)
@@ -90,7 +101,8 @@ module _ (k : ℕ) where
     high = λ v. refl;
   }
 
-  narrowed_cube : (known cube : List Literal) (l : Literal) → l.high ≤ top k l.variable → IsCubeOf k known cube → IsCubeOf k (known ++ l ∷ []) (narrowed_by l cube)
+  narrowed_cube : (known cube : List Literal) (l : Literal) → l.high ≤ top k l.variable → IsCubeOf k known cube →
+      IsCubeOf k (known ++ l ∷ []) (narrowed_by l cube)
   narrowed_cube known cube l w is = record {
     rising = rising-narrowed l cube is.rising;
     spoken = λ x j.
@@ -101,26 +113,52 @@ module _ (k : ℕ) where
         ];
     low = λ v. elim (cases_eq l.variable v) [
       | inl e ↦ subst (λ u. low_in (narrowed_by l cube) u ≡ kept_low (known ++ l ∷ []) u) e
-          (omega (arith, low-same k l cube is.rising, is.low l.variable, kept_low-append known (l ∷ []) l.variable, one_low k l))
+          (omega (
+            arith,
+            low-same k l cube is.rising,
+            is.low l.variable,
+            kept_low-append known (l ∷ []) l.variable,
+            one_low k l,
+          ))
       | inr n ↦ omega (arith, low-other k l cube v n, is.low v, kept_low-append known (l ∷ []) v, none_low k l v n)
     ];
     high = λ v. elim (cases_eq l.variable v) [
       | inl e ↦ subst (λ u. high_in k (narrowed_by l cube) u ≡ kept_high k (known ++ l ∷ []) u) e
-          (omega (arith, high-same k l cube is.rising w, is.high l.variable, kept_high-append known (l ∷ []) l.variable k, one_high k l w))
-      | inr n ↦ omega (arith, high-other k l cube v n, is.high v, kept_high-append known (l ∷ []) v k, none_high k l v n, high_kept_top known v k)
+          (omega (
+            arith,
+            high-same k l cube is.rising w,
+            is.high l.variable,
+            kept_high-append known (l ∷ []) l.variable k,
+            one_high k l w,
+          ))
+      | inr n ↦ omega (
+        arith,
+        high-other k l cube v n,
+        is.high v,
+        kept_high-append known (l ∷ []) v k,
+        none_high k l v n,
+        high_kept_top known v k,
+      )
     ];
   }
 
-  met_cube : (known cube literals : List Literal) → ((l : Literal) → Contains literals l → l.high ≤ top k l.variable) → IsCubeOf k known cube → IsCubeOf k (known ++ literals) (met cube literals)
+  met_cube : (known cube literals : List Literal) → ((l : Literal) → Contains literals l → l.high ≤ top k l.variable) →
+      IsCubeOf k known cube →
+      IsCubeOf k (known ++ literals) (met cube literals)
   met_cube known cube [] w is = subst (λ xs. IsCubeOf k xs cube) (sym (append-nil known)) is
-  met_cube known cube (l ∷ ls) w is = subst (λ xs. IsCubeOf k xs (met (narrowed_by l cube) ls)) (append_assoc known (l ∷ []) ls)
-      (met_cube (known ++ l ∷ []) (narrowed_by l cube) ls (λ m j. w m (Contains-rest l ls m j)) (narrowed_cube known cube l (w l (Contains-first l ls)) is))
+  met_cube known cube (l ∷ ls) w is =
+      subst (λ xs. IsCubeOf k xs (met (narrowed_by l cube) ls)) (append_assoc known (l ∷ []) ls)
+      (met_cube (known ++ l ∷ []) (narrowed_by l cube) ls (λ m j. w m (Contains-rest l ls m j))
+      (narrowed_cube known cube l (w l (Contains-first l ls)) is))
 
-  pub met_narrowed : (literals cube : List Literal) → ((l : Literal) → Contains literals l → l.high ≤ top k l.variable) → IsNarrowed k literals cube (met cube literals)
+  pub met_narrowed : (literals cube : List Literal) →
+      ((l : Literal) → Contains literals l → l.high ≤ top k l.variable) →
+      IsNarrowed k literals cube (met cube literals)
   met_narrowed literals cube w = record { by = λ known is. met_cube known cube literals w is }
 
   -- the order of the literals, and how often they come, makes no difference
-  pub same_literals : (xs ys cube : List Literal) → Within xs ys → Within ys xs → IsCubeOf k xs cube → IsCubeOf k ys cube
+  pub same_literals : (xs ys cube : List Literal) → Within xs ys → Within ys xs → IsCubeOf k xs cube →
+      IsCubeOf k ys cube
   same_literals xs ys cube to from is = record {
     rising = is.rising;
     spoken = λ l j. let r = is.spoken l j in (r.0, to r.0 r.1, r.2);
@@ -131,14 +169,25 @@ module _ (k : ℕ) where
   pub narrowed_none : (cube : List Literal) → IsNarrowed k [] cube cube
   narrowed_none cube = record { by = λ known is. met_cube known cube [] (λ l j. absurd (Contains-nil l j)) is }
 
-  pub narrowed_then : (xs ys a b c : List Literal) → IsNarrowed k xs a b → IsNarrowed k ys b c → IsNarrowed k (xs ++ ys) a c
-  narrowed_then xs ys a b c first second = record { by = λ known is. subst (λ ls. IsCubeOf k ls c) (append_assoc known xs ys) (second.by (known ++ xs) (first.by known is)) }
+  pub narrowed_then : (xs ys a b c : List Literal) → IsNarrowed k xs a b → IsNarrowed k ys b c →
+      IsNarrowed k (xs ++ ys) a c
+  narrowed_then xs ys a b c first second = record {
+    by = λ known is.
+        subst (λ ls. IsCubeOf k ls c) (append_assoc known xs ys) (second.by (known ++ xs) (first.by known is));
+  }
 
-  pub narrowed_same : (xs ys a b : List Literal) → Within xs ys → Within ys xs → IsNarrowed k xs a b → IsNarrowed k ys a b
+  pub narrowed_same : (xs ys a b : List Literal) → Within xs ys → Within ys xs → IsNarrowed k xs a b →
+      IsNarrowed k ys a b
   narrowed_same xs ys a b to from n = record {
     by = λ known is. same_literals (known ++ xs) (known ++ ys) b
-        (λ l j. elim (Contains-append_cases known xs l j) [ inl i ↦ Contains-append_left known ys l i | inr i ↦ Contains-append_right known ys l (to l i) ])
-        (λ l j. elim (Contains-append_cases known ys l j) [ inl i ↦ Contains-append_left known xs l i | inr i ↦ Contains-append_right known xs l (from l i) ])
+        (λ l j. elim (Contains-append_cases known xs l j) [
+          | inl i ↦ Contains-append_left known ys l i
+          | inr i ↦ Contains-append_right known ys l (to l i)
+        ])
+        (λ l j. elim (Contains-append_cases known ys l j) [
+          | inl i ↦ Contains-append_left known xs l i
+          | inr i ↦ Contains-append_right known xs l (from l i)
+        ])
         (n.by known is);
   }
 
@@ -148,13 +197,16 @@ pub rising_met : (a b : List Literal) → IsRising a → IsRising (met a b)
 rising_met a [] r = r
 rising_met a (m ∷ ms) r = rising_met (narrowed_by m a) ms (rising-narrowed m a r)
 
-met-first : (l : Literal) (ls b : List Literal) → ((m : Literal) → Contains b m → l.variable < m.variable) → met (l ∷ ls) b ≡ l ∷ met ls b
+met-first : (l : Literal) (ls b : List Literal) → ((m : Literal) → Contains b m → l.variable < m.variable) →
+    met (l ∷ ls) b ≡ l ∷ met ls b
 met-first l ls [] h = refl
-met-first l ls (m ∷ ms) h = ap (λ c. met c ms) (narrowed-after m l ls (h m (Contains-first m ms))) ∙ met-first l (narrowed_by m ls) ms (λ x j. h x (Contains-rest m ms x j))
+met-first l ls (m ∷ ms) h = ap (λ c. met c ms) (narrowed-after m l ls (h m (Contains-first m ms)))
+    ∙ met-first l (narrowed_by m ls) ms (λ x j. h x (Contains-rest m ms x j))
 
 pub met-nil : (b : List Literal) → IsRising b → met [] b ≡ b
 met-nil [] r = refl
-met-nil (m ∷ ms) r = met-first m [] ms (λ x j. rising_first m x ms r j) ∙ ap (λ c. m ∷ c) (met-nil ms (rising_rest m ms r))
+met-nil (m ∷ ms) r =
+    met-first m [] ms (λ x j. rising_first m x ms r j) ∙ ap (λ c. m ∷ c) (met-nil ms (rising_rest m ms r))
 
 module _ (l : Literal) (ls : List Literal) (m : Literal) (ms : List Literal) (r : IsRising (m ∷ ms)) where
   pub met-before : l.variable < m.variable → met (l ∷ ls) (m ∷ ms) ≡ l ∷ met ls (m ∷ ms)
@@ -164,17 +216,20 @@ module _ (l : Literal) (ls : List Literal) (m : Literal) (ms : List Literal) (r 
   ])
 
   pub met-here : l.variable ≡ m.variable → met (l ∷ ls) (m ∷ ms) ≡ meet_literal m l ∷ met ls ms
-  met-here e = ap (λ c. met c ms) (narrowed-here m l ls (sym e)) ∙ met-first (meet_literal m l) ls ms (λ x j. omega (arith, e, rising_first m x ms r j))
+  met-here e = ap (λ c. met c ms) (narrowed-here m l ls (sym e))
+      ∙ met-first (meet_literal m l) ls ms (λ x j. omega (arith, e, rising_first m x ms r j))
 
   pub met-after : m.variable < l.variable → met (l ∷ ls) (m ∷ ms) ≡ m ∷ met (l ∷ ls) ms
   met-after h = ap (λ c. met c ms) (narrowed-before m l ls h) ∙ met-first m (l ∷ ls) ms (λ x j. rising_first m x ms r j)
 
 -- ---- a cube met with one of some literals
 
-pub rising_cube : (k : ℕ) (b : List Literal) → IsRising b → ((l : Literal) → Contains b l → l.high ≤ top k l.variable) → IsCubeOf k b b
+pub rising_cube : (k : ℕ) (b : List Literal) → IsRising b → ((l : Literal) → Contains b l → l.high ≤ top k l.variable) →
+    IsCubeOf k b b
 rising_cube k b r w = subst (IsCubeOf k b) (met-nil b r) ((met_narrowed k b [] w).by [] (whole_cube k))
 
-pub cube_narrowed : (k : ℕ) (literals b cube : List Literal) → IsCubeOf k literals b → IsNarrowed k literals cube (met cube b)
+pub cube_narrowed : (k : ℕ) (literals b cube : List Literal) → IsCubeOf k literals b →
+    IsNarrowed k literals cube (met cube b)
 cube_narrowed k literals b cube is =
     let highs = cube_within k literals b is in
     let own = rising_cube k b is.rising highs in
@@ -189,27 +244,41 @@ cube_narrowed k literals b cube is =
                   | inl i ↦ (r.0, Contains-append_left known literals r.0 i, r.2)
                   | inr i ↦ let s = is.spoken r.0 i in (s.0, Contains-append_right known literals s.0 s.1, s.2 ∙ r.2)
                 ];
-            low = λ v. omega (arith, n.low v, kept_low-append known b v, own.low v, is.low v, kept_low-append known literals v);
-            high = λ v. omega (arith, n.high v, kept_high-append known b v k, own.high v, is.high v, kept_high-append known literals v k);
+            low = λ v. omega
+                (arith, n.low v, kept_low-append known b v, own.low v, is.low v, kept_low-append known literals v);
+            high = λ v. omega (
+              arith,
+              n.high v,
+              kept_high-append known b v k,
+              own.high v,
+              is.high v,
+              kept_high-append known literals v k,
+            );
           };
     }
 
 -- ---- a literal that can be pushed
 
-front_lower : (xs : List Literal) (l : Literal) (rest : List Literal) → IsRising (xs ++ l ∷ rest) → (m : Literal) → Contains xs m → m.variable < l.variable
+front_lower : (xs : List Literal) (l : Literal) (rest : List Literal) → IsRising (xs ++ l ∷ rest) → (m : Literal) →
+    Contains xs m →
+    m.variable < l.variable
 front_lower [] l rest r m j = absurd (Contains-nil m j)
 front_lower (x ∷ xs) l rest r m j = elim (Contains-cases x xs m j) [
-  | inl e ↦ subst (λ (y : Literal). y.variable < l.variable) e (rising_first x l (xs ++ l ∷ rest) r (Contains-append_right xs (l ∷ rest) l (Contains-first l rest)))
+  | inl e ↦ subst (λ (y : Literal). y.variable < l.variable) e
+      (rising_first x l (xs ++ l ∷ rest) r (Contains-append_right xs (l ∷ rest) l (Contains-first l rest)))
   | inr i ↦ front_lower xs l rest (rising_rest x (xs ++ l ∷ rest) r) m i
 ]
 
-pub all_lower : (xs : List Literal) (l : Literal) (rest : List Literal) → IsRising (xs ++ l ∷ rest) → All (λ m. m.variable < l.variable) xs
+pub all_lower : (xs : List Literal) (l : Literal) (rest : List Literal) → IsRising (xs ++ l ∷ rest) →
+    All (λ m. m.variable < l.variable) xs
 all_lower xs l rest r = λ k d h. front_lower xs l rest r (get_or xs k d) (Contains-get_or xs k d h)
 
 -- ---- on the way through two cubes, up to the literal l of the one and m of the other
 
-module _ (start cube first second ones others : List Literal) (l : Literal) (ls : List Literal) (m : Literal) (ms : List Literal)
-    (rises : IsRising (start ++ met first second)) (rest : IsRising others) (all : start ++ met first second ≡ cube ++ met ones others)
+module _ (start cube first second ones others : List Literal) (l : Literal) (ls : List Literal) (m : Literal)
+    (ms : List Literal)
+    (rises : IsRising (start ++ met first second)) (rest : IsRising others)
+    (all : start ++ met first second ≡ cube ++ met ones others)
     (one : ones ≡ l ∷ ls) (other : others ≡ m ∷ ms) where
   rest_rises : IsRising (m ∷ ms)
   rest_rises = subst IsRising other rest
@@ -217,10 +286,13 @@ module _ (start cube first second ones others : List Literal) (l : Literal) (ls 
   here : start ++ met first second ≡ cube ++ met (l ∷ ls) (m ∷ ms)
   here = all ∙ ap₂ (λ a b. cube ++ met a b) one other
 
-  push : (x : Literal) (new left : List Literal) → met (l ∷ ls) (m ∷ ms) ≡ x ∷ left → new ≡ cube ++ x ∷ [] → start ++ met first second ≡ new ++ left
-  push x new left e is = here ∙ ap (λ c. cube ++ c) e ∙ sym (append_assoc cube (x ∷ []) left) ∙ ap (λ c. c ++ left) (sym is)
+  push : (x : Literal) (new left : List Literal) → met (l ∷ ls) (m ∷ ms) ≡ x ∷ left → new ≡ cube ++ x ∷ [] →
+      start ++ met first second ≡ new ++ left
+  push x new left e is =
+      here ∙ ap (λ c. cube ++ c) e ∙ sym (append_assoc cube (x ∷ []) left) ∙ ap (λ c. c ++ left) (sym is)
 
-  lower : (x : Literal) (left : List Literal) → met (l ∷ ls) (m ∷ ms) ≡ x ∷ left → All (λ y. y.variable < x.variable) cube
+  lower : (x : Literal) (left : List Literal) → met (l ∷ ls) (m ∷ ms) ≡ x ∷ left →
+      All (λ y. y.variable < x.variable) cube
   lower x left e = all_lower cube x left (subst IsRising (here ∙ ap (λ c. cube ++ c) e) rises)
 
   pub lower_before : l.variable < m.variable → All (λ y. y.variable < l.variable) cube
@@ -232,13 +304,18 @@ module _ (start cube first second ones others : List Literal) (l : Literal) (ls 
   pub lower_here : l.variable ≡ m.variable → All (λ y. y.variable < l.variable) cube
   lower_here e = lower (meet_literal m l) (met ls ms) (met-here l ls m ms rest_rises e)
 
-  pub push_before : (new : List Literal) → l.variable < m.variable → new ≡ cube ++ l ∷ [] → start ++ met first second ≡ new ++ met ls others
-  push_before new h is = push l new (met ls (m ∷ ms)) (met-before l ls m ms rest_rises h) is ∙ ap (λ b. new ++ met ls b) (sym other)
+  pub push_before : (new : List Literal) → l.variable < m.variable → new ≡ cube ++ l ∷ [] →
+      start ++ met first second ≡ new ++ met ls others
+  push_before new h is =
+      push l new (met ls (m ∷ ms)) (met-before l ls m ms rest_rises h) is ∙ ap (λ b. new ++ met ls b) (sym other)
 
-  pub push_after : (new : List Literal) → m.variable < l.variable → new ≡ cube ++ m ∷ [] → start ++ met first second ≡ new ++ met ones ms
-  push_after new h is = push m new (met (l ∷ ls) ms) (met-after l ls m ms rest_rises h) is ∙ ap (λ a. new ++ met a ms) (sym one)
+  pub push_after : (new : List Literal) → m.variable < l.variable → new ≡ cube ++ m ∷ [] →
+      start ++ met first second ≡ new ++ met ones ms
+  push_after new h is =
+      push m new (met (l ∷ ls) ms) (met-after l ls m ms rest_rises h) is ∙ ap (λ a. new ++ met a ms) (sym one)
 
-  pub push_here : (new : List Literal) → l.variable ≡ m.variable → new ≡ cube ++ meet_literal m l ∷ [] → start ++ met first second ≡ new ++ met ls ms
+  pub push_here : (new : List Literal) → l.variable ≡ m.variable → new ≡ cube ++ meet_literal m l ∷ [] →
+      start ++ met first second ≡ new ++ met ls ms
   push_here new e is = push (meet_literal m l) new (met ls ms) (met-here l ls m ms rest_rises e) is
 
 pub rising_left : (ls : List Literal) (l : Literal) (left : List Literal) → IsRising ls → ls ≡ l ∷ left → IsRising left

@@ -1,5 +1,6 @@
 -- Before the first place no row is made and nothing is carried on; after the last all rows are made.
-use Rattle.std.proofs.Common.{◌≡◌, ◌∙◌, ℕ, zero, suc, Bool, true, false, ltb, ◌&&◌, ◌==◌, List, [], ◌∷◌, length, get_or, map, replicate, Option, arith, refl, sym, ap, subst, le-ltb}
+use Rattle.std.proofs.Common.{◌≡◌, ◌∙◌, ℕ, zero, suc, Bool, true, false, ltb, ◌&&◌, ◌==◌, List, [], ◌∷◌, length, get_or}
+use Rattle.std.proofs.Common.{map, replicate, Option, arith, refl, sym, ap, subst, le-ltb}
 use Rattle.std.proofs.lemmas.List.{length-map, length-replicate, get_or-replicate}
 use Rattle.cpg_base.specs.Numbers.{numbers_below}
 use Rattle.cpg_base.specs.Graph.{Graph, process_count, item_count, home, is_sent, producer}
@@ -13,7 +14,8 @@ use Rattle.cpg_cube.specs.declared.literal.Literal.{Literal}
 use Rattle.cpg_table.specs.Shape.{items_of}
 use Rattle.cpg_table.specs.Table.{Row}
 use Rattle.cpg_cube.specs.Column.{Column}
-use Rattle.cpg_list.specs.Made.{AreCubesOf, AreCarried, AreMade, IsBefore, passed_by, queued_by, node_before, sent_before}
+use Rattle.cpg_list.specs.Made.{AreCubesOf, AreCarried, AreMade, IsBefore, passed_by, queued_by, node_before}
+use Rattle.cpg_list.specs.Made.{sent_before}
 use Rattle.cpg_run.specs.Found.{columns_of_rows}
 use Rattle.cpg_run.specs.Rows.{IsCubeOf, AreRows}
 use Rattle.cpg_list.proofs.CodeCubes.{whole_cube}
@@ -37,40 +39,55 @@ and_false true = refl
 and_false false = refl
 
 module _ (g : Graph) (order : List ℕ) where
-  pub none_made : (urgency : List ℕ) (frozen : List (Option ℕ)) (rows : List Row) → rows ≡ map blank (numbers_below (item_count g)) → AreMade g urgency order frozen (IsBefore g order 0) rows
+  pub none_made : (urgency : List ℕ) (frozen : List (Option ℕ)) (rows : List Row) →
+      rows ≡ map blank (numbers_below (item_count g)) →
+      AreMade g urgency order frozen (IsBefore g order 0) rows
   none_made urgency frozen rows e = record {
     items = ap items_of e ∙ items_blank (numbers_below (item_count g));
     each = λ x l h. absurd (omega (arith, h));
-    none = λ x h. ap (λ (rs : List Row). get_or (columns_of_rows rs) x []) e ∙ columns_blank (numbers_below (item_count g)) x;
+    none = λ x h. ap (λ (rs : List Row). get_or (columns_of_rows rs) x []) e
+        ∙ columns_blank (numbers_below (item_count g)) x;
   }
 
   none_sent : (node : ℕ) → sent_before g order node 0 ≡ []
-  none_sent node = filter_none (λ y. is_sent g y && (home g y == node) && ltb (place order (producer g y)) 0) (numbers_below (item_count g))
-      (λ y j. ap (λ b. is_sent g y && (home g y == node) && b) (le-ltb (place order (producer g y)) 0 (omega arith)) ∙ and_false (is_sent g y && (home g y == node)))
+  none_sent node = filter_none (λ y. is_sent g y && (home g y == node) && ltb (place order (producer g y)) 0)
+      (numbers_below (item_count g))
+      (λ y j. ap (λ b. is_sent g y && (home g y == node) && b) (le-ltb (place order (producer g y)) 0 (omega arith))
+      ∙ and_false (is_sent g y && (home g y == node)))
 
-  wholes : (k : ℕ) (scenarios : List Scenario) (literals : Scenario → List Literal) (cubes : List (List Literal)) → ((s : Scenario) → literals s ≡ []) → cubes ≡ replicate (length scenarios) [] →
+  wholes : (k : ℕ) (scenarios : List Scenario) (literals : Scenario → List Literal) (cubes : List (List Literal)) →
+      ((s : Scenario) → literals s ≡ []) →
+      cubes ≡ replicate (length scenarios) [] →
       AreCubesOf k scenarios literals cubes
   wholes k scenarios literals cubes none e = record {
     count = ap length e ∙ length-replicate (length scenarios) [];
     each = λ i d l. subst (λ ls. IsCubeOf k ls (get_or cubes i [])) (sym (none (get_or scenarios i d)))
-        (subst (IsCubeOf k []) (sym (ap (λ cs. get_or cs i []) e ∙ get_or-replicate (length scenarios) i [] [] l)) (whole_cube k));
+        (subst (IsCubeOf k []) (sym (ap (λ cs. get_or cs i []) e ∙ get_or-replicate (length scenarios) i [] [] l))
+        (whole_cube k));
   }
 
-  pub none_carried : (rows : List (List Column)) (scenarios : List Scenario) (known sent : List (List (List Literal))) → known ≡ replicate (length g.nodes) (replicate (length scenarios) []) →
+  pub none_carried : (rows : List (List Column)) (scenarios : List Scenario) (known sent : List (List (List Literal))) →
+      known ≡ replicate (length g.nodes) (replicate (length scenarios) []) →
       sent ≡ replicate (length g.nodes) (replicate (length scenarios) [])
       → AreCarried g order rows scenarios 0 known sent
   none_carried rows scenarios known sent e f = record {
     known_count = ap length e ∙ length-replicate (length g.nodes) (replicate (length scenarios) []);
     sent_count = ap length f ∙ length-replicate (length g.nodes) (replicate (length scenarios) []);
-    carries = λ node l. wholes g.faults scenarios (passed_by g rows (node_before g order node 0)) (get_or known node []) (λ s. refl)
-        (ap (λ cs. get_or cs node []) e ∙ get_or-replicate (length g.nodes) node (replicate (length scenarios) []) [] l);
-    queues = λ node l. wholes g.faults scenarios (queued_by g order rows (sent_before g order node 0)) (get_or sent node []) (λ s. ap (λ ys. queued_by g order rows ys s) (none_sent node))
-        (ap (λ cs. get_or cs node []) f ∙ get_or-replicate (length g.nodes) node (replicate (length scenarios) []) [] l);
+    carries = λ node l.
+        wholes g.faults scenarios (passed_by g rows (node_before g order node 0)) (get_or known node []) (λ s. refl)
+        (ap (λ cs. get_or cs node []) e
+        ∙ get_or-replicate (length g.nodes) node (replicate (length scenarios) []) [] l);
+    queues = λ node l. wholes g.faults scenarios (queued_by g order rows (sent_before g order node 0))
+        (get_or sent node []) (λ s. ap (λ ys. queued_by g order rows ys s) (none_sent node))
+        (ap (λ cs. get_or cs node []) f
+        ∙ get_or-replicate (length g.nodes) node (replicate (length scenarios) []) [] l);
   }
 
-  pub all_rows : (topological : IsTopological g order) (urgency : List ℕ) (frozen : List (Option ℕ)) (rows : List Row) → AreMade g urgency order frozen (IsBefore g order (process_count g)) rows →
+  pub all_rows : (topological : IsTopological g order) (urgency : List ℕ) (frozen : List (Option ℕ)) (rows : List Row) →
+      AreMade g urgency order frozen (IsBefore g order (process_count g)) rows →
       AreRows g urgency order frozen (columns_of_rows rows)
   all_rows topological urgency frozen rows are = record {
     count = length-map rows (λ (r : Row). r.columns) ∙ count_of rows (item_count g) are.items;
-    each = λ x l. are.each x l (place_in_order (process_count g) order topological.all (producer g x) (omega (arith, producer_in_range g order topological x l)));
+    each = λ x l. are.each x l (place_in_order (process_count g) order topological.all (producer g x)
+        (omega (arith, producer_in_range g order topological x l)));
   }

@@ -1,5 +1,6 @@
 -- Whether a scenario is the least of a cube, by one walk over its variables.
-use Rattle.std.proofs.Common.{◌≡◌, ◌∙◌, ℕ, ◌-◌, ◌<◌, ◌≤◌, min, Bool, true, false, ltb, ◌==◌, List, [], ◌∷◌, get_or, map, arith, refl, sym, ap, inl, inr, subst, eq-eqb, ne_eqb, lt-ltb, le-ltb}
+use Rattle.std.proofs.Common.{◌≡◌, ◌∙◌, ℕ, ◌-◌, ◌<◌, ◌≤◌, min, Bool, true, false, ltb, ◌==◌, List, [], ◌∷◌, get_or, map}
+use Rattle.std.proofs.Common.{arith, refl, sym, ap, inl, inr, subst, eq-eqb, ne_eqb, lt-ltb, le-ltb}
 use Rattle.std.proofs.lemmas.Bool.{cases_eq, cases_lt, cond-true, cond-false}
 use Rattle.std.proofs.lemmas.List.FromFn.{fill_by_all}
 use Rattle.cpg_base.specs.Numbers.{numbers_below}
@@ -32,16 +33,19 @@ module _ (v : ℕ) where
   pub from-low : (ls : List Literal) (w : ℕ) → v ≤ w → low_in (from_variable v ls) w ≡ low_in ls w
   from-low [] w h = refl
   from-low (l ∷ ls) w h = elim (cases_lt l.variable v) [
-    | inl k ↦ ap (λ c. low_in c w) (skips l ls k) ∙ from-low ls w h ∙ sym (low_in-later l ls w (λ e. omega (arith, h, k, e)))
+    | inl k ↦ ap (λ c. low_in c w) (skips l ls k) ∙ from-low ls w h
+        ∙ sym (low_in-later l ls w (λ e. omega (arith, h, k, e)))
     | inr k ↦ ap (λ c. low_in c w) (stops l ls k)
   ]
 
   pub from-front : (ls : List Literal) → IsRising ls → front_low v (from_variable v ls) ≡ low_in ls v
   from-front [] r = refl
   from-front (l ∷ ls) r = elim (cases_lt l.variable v) [
-    | inl k ↦ ap (front_low v) (skips l ls k) ∙ from-front ls (rising_rest l ls r) ∙ sym (low_in-later l ls v (λ e. omega (arith, k, e)))
+    | inl k ↦ ap (front_low v) (skips l ls k) ∙ from-front ls (rising_rest l ls r)
+        ∙ sym (low_in-later l ls v (λ e. omega (arith, k, e)))
     | inr k ↦ ap (front_low v) (stops l ls k) ∙ elim (cases_eq l.variable v) [
-      | inl e ↦ cond-true (l.variable == v) l.low 0 (eq-eqb l.variable v e) ∙ sym (cond-true (l.variable == v) l.low (low_in ls v) (eq-eqb l.variable v e))
+      | inl e ↦ cond-true (l.variable == v) l.low 0 (eq-eqb l.variable v e)
+          ∙ sym (cond-true (l.variable == v) l.low (low_in ls v) (eq-eqb l.variable v e))
       | inr n ↦ cond-false (l.variable == v) l.low 0 (ne_eqb l.variable v n)
           ∙ sym (low_in-later l ls v n ∙ low_in-none ls v (λ m j e. omega (arith, k, e, rising_first l m ls r j)))
     ]
@@ -64,7 +68,8 @@ module _ (s : Scenario) where
   count_number p h = cond-true _ _ _ (lt-ltb p 128 h)
 
   value_number : (c : ℕ) → number_of s (value_variable c) ≡ number_of_value (get_or s.values c false)
-  value_number c = cond-false _ _ _ (le-ltb (value_variable c) 128 (omega arith)) ∙ ap (λ d. number_of_value (get_or s.values d false)) (let e : value_variable c - 128 ≡ c = omega arith in e)
+  value_number c = cond-false _ _ _ (le-ltb (value_variable c) 128 (omega arith))
+      ∙ ap (λ d. number_of_value (get_or s.values d false)) (let e : value_variable c - 128 ≡ c = omega arith in e)
 
 count_as : (p low : ℕ) → p < 128 → as_number p low ≡ low
 count_as p low h = cond-true _ _ _ (lt-ltb p 128 h)
@@ -78,23 +83,30 @@ module _ (g : Graph) (few : process_count g ≤ 128) (cube : List Literal) (s : 
       → ((v : ℕ) → 128 ≤ v → v < value_variable (condition_count g) → number_of s v ≡ as_number v (low_in cube v))
       → lows g cube ≡ s
   lows_are law counts values =
-      let faults : s.faults ≡ map (low_in cube) (numbers_below (process_count g)) = fill_by_all (low_in cube) s.faults (process_count g) 0 law.faults
-      (λ p h. sym (count_number s p (omega (arith, few, h))) ∙ counts p (omega arith) h ∙ count_as p (low_in cube p) (omega (arith, few, h))) in
+      let faults : s.faults ≡ map (low_in cube) (numbers_below (process_count g)) =
+      fill_by_all (low_in cube) s.faults (process_count g) 0 law.faults
+      (λ p h. sym (count_number s p (omega (arith, few, h))) ∙ counts p (omega arith) h
+      ∙ count_as p (low_in cube p) (omega (arith, few, h))) in
       let truths : s.values ≡ map (λ c. ltb 0 (low_in cube (value_variable c))) (numbers_below (condition_count g)) =
       fill_by_all (λ c. ltb 0 (low_in cube (value_variable c))) s.values (condition_count g) false law.values
       (λ c h. value_is (get_or s.values c false) (low_in cube (value_variable c))
-      (sym (value_number s c) ∙ values (value_variable c) (omega arith) (omega (arith, h)) ∙ value_as (value_variable c) (low_in cube (value_variable c)) (omega arith))) in
+      (sym (value_number s c) ∙ values (value_variable c) (omega arith) (omega (arith, h))
+      ∙ value_as (value_variable c) (low_in cube (value_variable c)) (omega arith))) in
       λ i. record { values = sym truths i; faults = sym faults i }
 
   pub counts_are : lows g cube ≡ s → (v : ℕ) → 0 ≤ v → v < process_count g → number_of s v ≡ as_number v (low_in cube v)
   counts_are e v z h = count_number s v (omega (arith, few, h)) ∙ ap (λ (t : Scenario). get_or t.faults v 0) (sym e)
-      ∙ get_or-map-below (low_in cube) (process_count g) v 0 h ∙ sym (count_as v (low_in cube v) (omega (arith, few, h)))
+      ∙ get_or-map-below (low_in cube) (process_count g) v 0 h
+      ∙ sym (count_as v (low_in cube v) (omega (arith, few, h)))
 
-  pub values_are : lows g cube ≡ s → (v : ℕ) → 128 ≤ v → v < value_variable (condition_count g) → number_of s v ≡ as_number v (low_in cube v)
+  pub values_are : lows g cube ≡ s → (v : ℕ) → 128 ≤ v → v < value_variable (condition_count g) →
+      number_of s v ≡ as_number v (low_in cube v)
   values_are e v z h =
       let c : ℕ = v - 128 in
       let same : value_variable c ≡ v = omega (arith, z) in
       subst (λ u. number_of s u ≡ as_number u (low_in cube u)) same
       (value_number s c ∙ ap (λ (t : Scenario). number_of_value (get_or t.values c false)) (sym e)
-      ∙ ap number_of_value (get_or-map-below (λ d. ltb 0 (low_in cube (value_variable d))) (condition_count g) c false (omega (arith, z, h)))
-      ∙ number_is (low_in cube (value_variable c)) ∙ sym (value_as (value_variable c) (low_in cube (value_variable c)) (omega arith)))
+      ∙ ap number_of_value (get_or-map-below (λ d. ltb 0 (low_in cube (value_variable d))) (condition_count g) c false
+      (omega (arith, z, h)))
+      ∙ number_is (low_in cube (value_variable c))
+      ∙ sym (value_as (value_variable c) (low_in cube (value_variable c)) (omega arith)))

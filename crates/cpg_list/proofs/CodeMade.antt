@@ -1,5 +1,6 @@
 -- Rows that are made one after another: what holds of those that are there, and of one more.
-use Rattle.std.proofs.Common.{◌≡◌, ◌≢◌, ◌∙◌, ℕ, ◌<◌, ◌≤◌, ◌⊎◌, true, false, List, [], length, get_or, set, All, Bool, Option, Some, arith, refl, sym, ap, inl, inr, subst, get_or-set_same}
+use Rattle.std.proofs.Common.{◌≡◌, ◌≢◌, ◌∙◌, ℕ, ◌<◌, ◌≤◌, ◌⊎◌, true, false, List, [], length, get_or, set, All, Bool}
+use Rattle.std.proofs.Common.{Option, Some, arith, refl, sym, ap, inl, inr, subst, get_or-set_same}
 use Rattle.std.proofs.Common.{get_or-set_other}
 use Rattle.std.specs.Prelude.{slice_get}
 use Rattle.std.proofs.lemmas.Bool.{both_ways, and_parts}
@@ -37,7 +38,9 @@ use Rattle.cpg_run.proofs.EntriesMerge.{entries_have_times}
 use Rattle.cpg_run.proofs.RowsTimed.{row_alike, entries_alike, rows_before}
 
 -- with its orders and frozen times an admitted graph has the runs that the laws speak of
-pub timed_of : (g : Graph) (urgency order : List ℕ) (trees : Guards) (frozen : List (Option ℕ)) → IsAdmitted g urgency trees → IsTopological g order → AreFrozenTimes g order frozen →
+pub timed_of : (g : Graph) (urgency order : List ℕ) (trees : Guards) (frozen : List (Option ℕ)) →
+    IsAdmitted g urgency trees → IsTopological g order →
+    AreFrozenTimes g order frozen →
     IsTimed g urgency order frozen
 timed_of g urgency order trees frozen is topological times = record {
   admitted = admitted_under g urgency order trees is topological;
@@ -50,12 +53,14 @@ count_of rows n e = sym (length-map rows (λ (r : Row). r.item)) ∙ ap length e
 
 -- ---- one row set
 
-module _ (rows next : List Row) (x : ℕ) (columns : List Column) (l : x < length rows) (is : next ≡ set rows x (record { item = x; columns = columns })) where
+module _ (rows next : List Row) (x : ℕ) (columns : List Column) (l : x < length rows)
+    (is : next ≡ set rows x (record { item = x; columns = columns })) where
   columns_set : columns_of_rows next ≡ set (columns_of_rows rows) x columns
   columns_set = ap columns_of_rows is ∙ map-set (λ (r : Row). r.columns) rows x (record { item = x; columns = columns })
 
   pub row_here : row_at (columns_of_rows next) x ≡ columns
-  row_here = ap (λ cs. row_at cs x) columns_set ∙ get_or-set_same (columns_of_rows rows) x columns [] (omega (arith, l, length-map rows (λ (r : Row). r.columns)))
+  row_here = ap (λ cs. row_at cs x) columns_set
+      ∙ get_or-set_same (columns_of_rows rows) x columns [] (omega (arith, l, length-map rows (λ (r : Row). r.columns)))
 
   pub row_other : (y : ℕ) → y ≢ x → row_at (columns_of_rows next) y ≡ row_at (columns_of_rows rows) y
   row_other y other = ap (λ cs. row_at cs y) columns_set ∙ get_or-set_other (columns_of_rows rows) x y columns [] other
@@ -63,19 +68,26 @@ module _ (rows next : List Row) (x : ℕ) (columns : List Column) (l : x < lengt
   pub items_set : (n : ℕ) → items_of rows ≡ numbers_below n → items_of next ≡ numbers_below n
   items_set n e =
       let blank : Row = record { item = 0; columns = [] } in
-      let own : x ≡ (get_or rows x blank).item = sym (get_or-range_with_len 0 n x 0 (omega (arith, l, count_of rows n e)) ∙ omega arith) ∙ ap (λ xs. get_or xs x 0) (sym e) ∙
+      let own : x ≡ (get_or rows x blank).item =
+      sym (get_or-range_with_len 0 n x 0 (omega (arith, l, count_of rows n e)) ∙ omega arith)
+      ∙ ap (λ xs. get_or xs x 0) (sym e) ∙
       get_or-map (λ (r : Row). r.item) rows x blank 0 l in
       ap items_of is ∙ map-set_same (λ (r : Row). r.item) rows x (record { item = x; columns = columns }) blank own ∙ e
 
 -- ---- one more item made
 
-module _ (g : Graph) (urgency order : List ℕ) (frozen : List (Option ℕ)) (timed : IsTimed g urgency order frozen) (made : ℕ → Type 0) (rows : List Row)
+module _ (g : Graph) (urgency order : List ℕ) (frozen : List (Option ℕ)) (timed : IsTimed g urgency order frozen)
+    (made : ℕ → Type 0) (rows : List Row)
     (are : AreMade g urgency order frozen made rows) where
   -- the rows of earlier items are there
-  before_are : (bound : ℕ) → ((y : ℕ) → place order (producer g y) < bound → made y) → AreRowsBefore g order frozen bound (columns_of_rows rows)
-  before_are bound there = rows_before g urgency order frozen timed (columns_of_rows rows) bound (λ y e. are.each y e.0 (there y e.1))
+  before_are : (bound : ℕ) → ((y : ℕ) → place order (producer g y) < bound → made y) →
+      AreRowsBefore g order frozen bound (columns_of_rows rows)
+  before_are bound there =
+      rows_before g urgency order frozen timed (columns_of_rows rows) bound (λ y e. are.each y e.0 (there y e.1))
 
-  pub told_from : (p : ℕ) → ((y : ℕ) → place order (producer g y) < place order p → made y) → (s : Scenario) (t : Times) → IsScenario g s → IsRun g order frozen s t →
+  pub told_from : (p : ℕ) → ((y : ℕ) → place order (producer g y) < place order p → made y) →
+      (s : Scenario) (t : Times) → IsScenario g s →
+      IsRun g order frozen s t →
       EarlierTell g order (columns_of_rows rows) s t p
   told_from p there s t law run x l h = record {
     there = omega (arith, l, length-map rows (λ (r : Row). r.columns), count_of rows (item_count g) are.items);
@@ -83,35 +95,46 @@ module _ (g : Graph) (urgency order : List ℕ) (frozen : List (Option ℕ)) (ti
     within = (are.each x l (there x h)).merge.within;
   }
 
-  module _ (x : ℕ) (l : x < item_count g) (earlier : (y : ℕ) → place order (producer g y) < place order (producer g x) → made y)
+  module _ (x : ℕ) (l : x < item_count g)
+      (earlier : (y : ℕ) → place order (producer g y) < place order (producer g x) → made y)
       (entries : List Column) (found : AreEntriesOf g order frozen (columns_of_rows rows) x entries) where
     pub mergeable : AreMergeable g entries
-    mergeable = (entries_have_times g urgency order frozen (columns_of_rows rows) x entries timed l (before_are (place order (producer g x)) earlier) found).0
+    mergeable = (entries_have_times g urgency order frozen (columns_of_rows rows) x entries timed l
+        (before_are (place order (producer g x)) earlier) found).0
 
-    module _ (new : made x → ⊥) (late : (y : ℕ) → made y → place order (producer g y) ≤ place order (producer g x)) (next : List Row) (is : IsRowSet g urgency x entries rows next) where
+    module _ (new : made x → ⊥) (late : (y : ℕ) → made y → place order (producer g y) ≤ place order (producer g x))
+        (next : List Row) (is : IsRowSet g urgency x entries rows next) where
       inside : x < length rows
       inside = omega (arith, l, count_of rows (item_count g) are.items)
 
-      pub same_before : (bound : ℕ) → bound ≤ place order (producer g x) → SameRowsBefore g order bound (columns_of_rows rows) (columns_of_rows next)
-      same_before bound h y e = sym (row_other rows next x is.columns inside is.set y (λ same. omega (arith, e.1, h, ap (λ z. place order (producer g z)) same)))
+      pub same_before : (bound : ℕ) → bound ≤ place order (producer g x) →
+          SameRowsBefore g order bound (columns_of_rows rows) (columns_of_rows next)
+      same_before bound h y e = sym (row_other rows next x is.columns inside is.set y
+          (λ same. omega (arith, e.1, h, ap (λ z. place order (producer g z)) same)))
 
       pub one_made : AreMade g urgency order frozen (λ y. made y ⊎ (y ≡ x)) next
       one_made = record {
         items = items_set rows next x is.columns inside is.set (item_count g) are.items;
         each = λ y m way. elim way [
-          | inl old ↦ row_alike g urgency order frozen timed (columns_of_rows rows) (columns_of_rows next) y m (same_before (place order (producer g y)) (late y old))
-              (sym (row_other rows next x is.columns inside is.set y (λ same. new (subst made same old)))) (are.each y m old)
+          | inl old ↦ row_alike g urgency order frozen timed (columns_of_rows rows) (columns_of_rows next) y m
+              (same_before (place order (producer g y)) (late y old))
+              (sym (row_other rows next x is.columns inside is.set y (λ same. new (subst made same old))))
+              (are.each y m old)
           | inr same ↦ subst (IsRowOf g urgency order frozen (columns_of_rows next)) (sym same) (record {
             entries = entries;
-            are = entries_alike g urgency order frozen timed (columns_of_rows rows) (columns_of_rows next) x l (same_before (place order (producer g x)) (omega arith)) entries found;
+            are = entries_alike g urgency order frozen timed (columns_of_rows rows) (columns_of_rows next) x l
+                (same_before (place order (producer g x)) (omega arith)) entries found;
             merge = subst (IsMergeOf g urgency entries) (sym (row_here rows next x is.columns inside is.set)) is.merge;
           })
         ];
-        none = λ y other. row_other rows next x is.columns inside is.set y (λ same. other (inr same)) ∙ are.none y (λ old. other (inl old));
+        none = λ y other. row_other rows next x is.columns inside is.set y (λ same. other (inr same))
+            ∙ are.none y (λ old. other (inl old));
       }
 
 -- rows that are made are so under another word for what is made
-pub made_same : (g : Graph) (urgency order : List ℕ) (frozen : List (Option ℕ)) (made also : ℕ → Type 0) (rows : List Row) → AreMade g urgency order frozen made rows → ((x : ℕ) → also x → made x) →
+pub made_same : (g : Graph) (urgency order : List ℕ) (frozen : List (Option ℕ)) (made also : ℕ → Type 0)
+    (rows : List Row) → AreMade g urgency order frozen made rows →
+    ((x : ℕ) → also x → made x) →
     ((x : ℕ) → made x → also x)
     → AreMade g urgency order frozen also rows
 made_same g urgency order frozen made also rows are to from = record {
@@ -141,7 +164,9 @@ no_merge g urgency = record {
     no_column : (i : ℕ) (c : Column) → slice_get [] i ≡ Some c → ⊥
     no_column i c a = cc
 
-pub unsent_row : (g : Graph) (urgency order : List ℕ) (frozen : List (Option ℕ)) (rows : List (List Column)) (x : ℕ) → x < item_count g → process_count g ≤ x → is_sent g x ≡ false →
+pub unsent_row : (g : Graph) (urgency order : List ℕ) (frozen : List (Option ℕ)) (rows : List (List Column)) (x : ℕ) →
+    x < item_count g → process_count g ≤ x →
+    is_sent g x ≡ false →
     row_at rows x ≡ [] → IsRowOf g urgency order frozen rows x
 unsent_row g urgency order frozen rows x l above off none = record {
   entries = [];
@@ -151,14 +176,19 @@ unsent_row g urgency order frozen rows x l above off none = record {
     all = λ s e is least. absurd (elim (item_cases g x l) [
       | inl c ↦ omega (arith, c.0, above)
       | inr (inl c) ↦ both_ways (is_sent_item g (item_at g x)) off (of_message s.values (item_at g x) c.0 c.3 is.active)
-      | inr (inr c) ↦ both_ways (is_sent_item g (item_at g x)) off (of_broadcast s.values (item_at g x) c.0 c.3 is.active)
+      | inr (inr c) ↦
+          both_ways (is_sent_item g (item_at g x)) off (of_broadcast s.values (item_at g x) c.0 c.3 is.active)
     ]);
   };
   merge = subst (IsMergeOf g urgency []) (sym none) (no_merge g urgency);
 }
   where
-    of_message : (values : List Bool) (i : Item) (e : ℕ) → i ≡ Message e → item_active g values i ≡ true → is_sent_item g i ≡ true
-    of_message values i f e h = subst (λ k. is_sent_item g k ≡ true) (sym e) (and_parts (is_sent_item g (Message f)) _ (subst (λ k. item_active g values k ≡ true) e h)).0
+    of_message : (values : List Bool) (i : Item) (e : ℕ) → i ≡ Message e → item_active g values i ≡ true →
+        is_sent_item g i ≡ true
+    of_message values i f e h = subst (λ k. is_sent_item g k ≡ true) (sym e)
+        (and_parts (is_sent_item g (Message f)) _ (subst (λ k. item_active g values k ≡ true) e h)).0
 
-    of_broadcast : (values : List Bool) (i : Item) (c : ℕ) → i ≡ Broadcast c → item_active g values i ≡ true → is_sent_item g i ≡ true
-    of_broadcast values i f e h = subst (λ k. is_sent_item g k ≡ true) (sym e) (and_parts (is_sent_item g (Broadcast f)) _ (subst (λ k. item_active g values k ≡ true) e h)).0
+    of_broadcast : (values : List Bool) (i : Item) (c : ℕ) → i ≡ Broadcast c → item_active g values i ≡ true →
+        is_sent_item g i ≡ true
+    of_broadcast values i f e h = subst (λ k. is_sent_item g k ≡ true) (sym e)
+        (and_parts (is_sent_item g (Broadcast f)) _ (subst (λ k. item_active g values k ≡ true) e h)).0

@@ -1,26 +1,34 @@
 -- What is made and carried on as one process after another, and one item of its queue after another, is done.
-use Rattle.std.proofs.Common.{◌≡◌, ◌≢◌, ◌∙◌, ℕ, ◌+◌, ◌<◌, ◌≤◌, ◌⊎◌, true, false, ◌&&◌, ◌==◌, ltb, List, [], ◌∷◌, ◌++◌, length, get_or, set, take, filter, flat_map, Contains, Option, arith, refl, sym}
-use Rattle.std.proofs.Common.{ap, inl, inr, subst, append_assoc, eq-eqb, eqb-true, ne_eqb, lt-ltb, ltb-true, get_or-set_same, get_or-set_other, length-set}
-use Rattle.std.proofs.lemmas.Bool.{cases_eq, cases_lt, cases_Bool, cond-true, cond-false, both_ways, and_parts, and_from, or_cases, or_left, or_right}
+use Rattle.std.proofs.Common.{◌≡◌, ◌≢◌, ◌∙◌, ℕ, ◌+◌, ◌<◌, ◌≤◌, ◌⊎◌, true, false, ◌&&◌, ◌==◌, ltb, List, [], ◌∷◌, ◌++◌}
+use Rattle.std.proofs.Common.{length, get_or, set, take, filter, flat_map, Contains, Option, arith, refl, sym}
+use Rattle.std.proofs.Common.{ap, inl, inr, subst, append_assoc, eq-eqb, eqb-true, ne_eqb, lt-ltb, ltb-true}
+use Rattle.std.proofs.Common.{get_or-set_same, get_or-set_other, length-set}
+use Rattle.std.proofs.lemmas.Bool.{cases_eq, cases_lt, cases_Bool, cond-true, cond-false, both_ways, and_parts}
+use Rattle.std.proofs.lemmas.Bool.{and_from, or_cases, or_left, or_right}
 use Rattle.std.proofs.lemmas.List.{append-nil, take_more, take_all}
-use Rattle.std.proofs.lemmas.List.Elements.{Contains-append_left, Contains-append_right, Contains-append_cases, Contains-get_or, filter-append}
+use Rattle.std.proofs.lemmas.List.Elements.{Contains-append_left, Contains-append_right, Contains-append_cases}
+use Rattle.std.proofs.lemmas.List.Elements.{Contains-get_or, filter-append}
 use Rattle.cpg_base.specs.Numbers.{numbers_below}
-use Rattle.cpg_base.specs.Graph.{Graph, process_count, item_count, node_of, home, is_sent, producer, producer_of_item, process_at}
+use Rattle.cpg_base.specs.Graph.{Graph, process_count, item_count, node_of, home, is_sent, producer, producer_of_item}
+use Rattle.cpg_base.specs.Graph.{process_at}
 use Rattle.cpg_base.proofs.Items.{item_cases, item_at-start}
-use Rattle.cpg_base.proofs.Lists.{Contains-nil, Contains-first, Contains-filter, Contains-filter_parts, Contains-numbers, numbers-Contains}
+use Rattle.cpg_base.proofs.Lists.{Contains-nil, Contains-first, Contains-filter, Contains-filter_parts}
+use Rattle.cpg_base.proofs.Lists.{Contains-numbers, numbers-Contains}
 use Rattle.cpg_order.specs.Queue.{is_queued_before, queued_before}
 use Rattle.cpg_base.specs.Scenario.{Scenario}
 use Rattle.cpg_order.specs.Urgency.{IsTopological}
 use Rattle.cpg_base.specs.Order.{place, comes_before, before_on_node}
 use Rattle.cpg_order.proofs.Moments.{producer_in_range}
-use Rattle.cpg_base.proofs.Places.{from_before, places_from_comes_before, comes_before_from_places, Contains-order, get_or-place, same_place, place-lt}
+use Rattle.cpg_base.proofs.Places.{from_before, places_from_comes_before, comes_before_from_places, Contains-order}
+use Rattle.cpg_base.proofs.Places.{get_or-place, same_place, place-lt}
 use Rattle.cpg_cube.specs.declared.literal.Literal.{Literal}
 use Rattle.cpg_table.specs.Table.{Row}
 use Rattle.cpg_cube.specs.Column.{Column}
 use Rattle.cpg_bus.specs.Plan.{queue_of}
 use Rattle.cpg_bus.proofs.Queued.{rank_at, in_queue, queue-Contains, queue_rises, below_first, in_first}
 use Rattle.cpg_run.specs.Carried.{row_at, decided, heard, received, passed, queued, number_known, carried_at_end}
-use Rattle.cpg_list.specs.Made.{AreCubesOf, AreEndsOf, AreCarried, AreMade, IsBefore, IsStarted, IsSent, passed_by, queued_by, node_before, sent_before}
+use Rattle.cpg_list.specs.Made.{AreCubesOf, AreEndsOf, AreCarried, AreMade, IsBefore, IsStarted, IsSent, passed_by}
+use Rattle.cpg_list.specs.Made.{queued_by, node_before, sent_before}
 use Rattle.cpg_run.specs.Found.{columns_of_rows}
 use Rattle.cpg_run.specs.RowLaws.{SameRowsBefore}
 use Rattle.cpg_run.specs.Rows.{IsCubeOf, IsRowOf}
@@ -42,24 +50,30 @@ module _ (g : Graph) (order : List ℕ) (node i y : ℕ) where
 
   stands : Contains (sent_before g order node i) y → Stands
   stands j =
-      let r = Contains-filter_parts (λ y. is_sent g y && (home g y == node) && ltb (place order (producer g y)) i) (numbers_below (item_count g)) y j in
+      let r = Contains-filter_parts (λ y. is_sent g y && (home g y == node) && ltb (place order (producer g y)) i)
+      (numbers_below (item_count g)) y j in
       let a = and_parts (is_sent g y && (home g y == node)) _ r.1 in
       let b = and_parts (is_sent g y) _ a.0 in
       record { within = r.0; sent = b.0; at = eqb-true _ _ b.1; early = ltb-true _ _ a.1 }
 
   stood : Stands → Contains (sent_before g order node i) y
-  stood h = Contains-filter (λ y. is_sent g y && (home g y == node) && ltb (place order (producer g y)) i) (numbers_below (item_count g)) y
+  stood h = Contains-filter (λ y. is_sent g y && (home g y == node) && ltb (place order (producer g y)) i)
+      (numbers_below (item_count g)) y
       (and_from _ _ (and_from _ _ h.sent (eq-eqb _ _ h.at)) (lt-ltb _ _ h.early)) h.within
 
 -- ---- lists of items and processes with the same elements
 
-module _ (k : ℕ) (g : Graph) (order : List ℕ) (rows : List (List Column)) (scenarios : List Scenario) (cubes : List (List Literal)) where
-  pub queued_members : (xs ys : List ℕ) → ((y : ℕ) → Contains xs y → Contains ys y) → ((y : ℕ) → Contains ys y → Contains xs y) → AreCubesOf k scenarios (queued_by g order rows xs) cubes →
+module _ (k : ℕ) (g : Graph) (order : List ℕ) (rows : List (List Column)) (scenarios : List Scenario)
+    (cubes : List (List Literal)) where
+  pub queued_members : (xs ys : List ℕ) → ((y : ℕ) → Contains xs y → Contains ys y) →
+      ((y : ℕ) → Contains ys y → Contains xs y) →
+      AreCubesOf k scenarios (queued_by g order rows xs) cubes →
       AreCubesOf k scenarios (queued_by g order rows ys) cubes
   queued_members xs ys to from are = record {
     count = are.count;
     each = λ i d l. let f = queued g order rows (get_or scenarios i d) in
-        same_literals k (flat_map f xs) (flat_map f ys) (get_or cubes i []) (within_flat_map xs ys to f) (within_flat_map ys xs from f) (are.each i d l);
+        same_literals k (flat_map f xs) (flat_map f ys) (get_or cubes i []) (within_flat_map xs ys to f)
+        (within_flat_map ys xs from f) (are.each i d l);
   }
 
 module _ (g : Graph) (order : List ℕ) (topological : IsTopological g order) (p : ℕ) (l : p < process_count g) where
@@ -67,7 +81,8 @@ module _ (g : Graph) (order : List ℕ) (topological : IsTopological g order) (p
   in_order = Contains-order (process_count g) order topological.all p l
 
   produced : (y : ℕ) → Contains (numbers_below (item_count g)) y → Contains order (producer g y)
-  produced y j = Contains-order (process_count g) order topological.all (producer g y) (producer_in_range g order topological y (numbers-Contains (item_count g) y j))
+  produced y j = Contains-order (process_count g) order topological.all (producer g y)
+      (producer_in_range g order topological y (numbers-Contains (item_count g) y j))
 
   pub start_by : place order (producer g p) ≡ place order p
   start_by = ap (λ i. place order (producer_of_item g i)) (item_at-start g p l)
@@ -87,55 +102,74 @@ module _ (g : Graph) (order : List ℕ) (topological : IsTopological g order) (p
     pub nth_place : place order (producer g nth) ≡ place order p
     nth_place = ap (place order) nth_by
 
-    pub before_to : (y : ℕ) → Contains (queued_before g order nth) y → Contains (sent_before g order (node_of g p) (place order p) ++ take m (queue_of g p)) y
+    pub before_to : (y : ℕ) → Contains (queued_before g order nth) y →
+        Contains (sent_before g order (node_of g p) (place order p) ++ take m (queue_of g p)) y
     before_to y j =
         let r = Contains-filter_parts (λ y. is_queued_before g order y nth) (numbers_below (item_count g)) y j in
         let a = and_parts (is_sent g y && (home g y == home g nth)) _ r.1 in
         let b = and_parts (is_sent g y) _ a.0 in
         let at : home g y ≡ node_of g p = eqb-true _ _ b.1 ∙ ap (node_of g) nth_by in
         elim (or_cases (comes_before order (producer g y) (producer g nth)) _ a.1) [
-          | inl c ↦ Contains-append_left (sent_before g order (node_of g p) (place order p)) (take m (queue_of g p)) y (stood g order (node_of g p) (place order p) y (record {
-            within = r.0;
-            sent = b.0;
-            at = at;
-            early = omega (arith, places_from_comes_before order (producer g y) (producer g nth) c, ap (place order) nth_by);
-          }))
+          | inl c ↦ Contains-append_left (sent_before g order (node_of g p) (place order p)) (take m (queue_of g p)) y
+              (stood g order (node_of g p) (place order p) y (record {
+                within = r.0;
+                sent = b.0;
+                at = at;
+                early = omega
+                    (arith, places_from_comes_before order (producer g y) (producer g nth) c, ap (place order) nth_by);
+              }))
           | inr c ↦
               let d = and_parts (producer g y == producer g nth) _ c in
               let same : producer g y ≡ p = eqb-true _ _ d.0 ∙ nth_by in
               Contains-append_right (sent_before g order (node_of g p) (place order p)) (take m (queue_of g p)) y
-              (in_first (rank_at g) (queue_of g p) (queue_rises g p) m inside y (queue-Contains g p y (numbers-Contains (item_count g) y r.0) b.0 same) (ltb-true _ _ d.1))
+              (in_first (rank_at g) (queue_of g p) (queue_rises g p) m inside y
+              (queue-Contains g p y (numbers-Contains (item_count g) y r.0) b.0 same) (ltb-true _ _ d.1))
         ]
 
-    pub before_from : (y : ℕ) → Contains (sent_before g order (node_of g p) (place order p) ++ take m (queue_of g p)) y → Contains (queued_before g order nth) y
-    before_from y j = elim (Contains-append_cases (sent_before g order (node_of g p) (place order p)) (take m (queue_of g p)) y j) [
-      | inl i ↦
-          let h = stands g order (node_of g p) (place order p) y i in
-          Contains-filter (λ y. is_queued_before g order y nth) (numbers_below (item_count g)) y
-          (and_from _ _ (and_from _ _ h.sent (eq-eqb _ _ (h.at ∙ ap (node_of g) (sym nth_by))))
-          (or_left _ _ (comes_before_from_places order (producer g y) (producer g nth) (produced y h.within) (omega (arith, h.early, ap (place order) nth_by))))) h.within
-      | inr i ↦
-          let q = in_queue g p y (Contains-take m (queue_of g p) y i) in
-          Contains-filter (λ y. is_queued_before g order y nth) (numbers_below (item_count g)) y
-          (and_from _ _ (and_from _ _ q.sent (eq-eqb _ _ (ap (node_of g) (q.by ∙ sym nth_by))))
-          (or_right _ _ (and_from _ _ (eq-eqb _ _ (q.by ∙ sym nth_by)) (lt-ltb _ _ (below_first (rank_at g) (queue_of g p) (queue_rises g p) m inside y i)))))
-          (Contains-numbers (item_count g) y q.within)
-    ]
+    pub before_from : (y : ℕ) →
+        Contains (sent_before g order (node_of g p) (place order p) ++ take m (queue_of g p)) y →
+        Contains (queued_before g order nth) y
+    before_from y j =
+        elim (Contains-append_cases (sent_before g order (node_of g p) (place order p)) (take m (queue_of g p)) y j) [
+          | inl i ↦
+              let h = stands g order (node_of g p) (place order p) y i in
+              Contains-filter (λ y. is_queued_before g order y nth) (numbers_below (item_count g)) y
+              (and_from _ _ (and_from _ _ h.sent (eq-eqb _ _ (h.at ∙ ap (node_of g) (sym nth_by))))
+              (or_left _ _ (comes_before_from_places order (producer g y) (producer g nth) (produced y h.within)
+              (omega (arith, h.early, ap (place order) nth_by))))) h.within
+          | inr i ↦
+              let q = in_queue g p y (Contains-take m (queue_of g p) y i) in
+              Contains-filter (λ y. is_queued_before g order y nth) (numbers_below (item_count g)) y
+              (and_from _ _ (and_from _ _ q.sent (eq-eqb _ _ (ap (node_of g) (q.by ∙ sym nth_by))))
+              (or_right _ _ (and_from _ _ (eq-eqb _ _ (q.by ∙ sym nth_by))
+              (lt-ltb _ _ (below_first (rank_at g) (queue_of g p) (queue_rises g p) m inside y i)))))
+              (Contains-numbers (item_count g) y q.within)
+        ]
 
     -- an item before the m-th, or the m-th itself, is before the next
-    pub next_to : (y : ℕ) → Contains (queued_before g order nth ++ nth ∷ []) y → Contains (sent_before g order (node_of g p) (place order p) ++ take (m + 1) (queue_of g p)) y
-    next_to y j = subst (λ ys. Contains (sent_before g order (node_of g p) (place order p) ++ ys) y) (sym (take_more (queue_of g p) m 0 inside))
-        (subst (λ ys. Contains ys y) (append_assoc (sent_before g order (node_of g p) (place order p)) (take m (queue_of g p)) (nth ∷ []))
+    pub next_to : (y : ℕ) → Contains (queued_before g order nth ++ nth ∷ []) y →
+        Contains (sent_before g order (node_of g p) (place order p) ++ take (m + 1) (queue_of g p)) y
+    next_to y j = subst (λ ys. Contains (sent_before g order (node_of g p) (place order p) ++ ys) y)
+        (sym (take_more (queue_of g p) m 0 inside))
+        (subst (λ ys. Contains ys y)
+        (append_assoc (sent_before g order (node_of g p) (place order p)) (take m (queue_of g p)) (nth ∷ []))
         (elim (Contains-append_cases (queued_before g order nth) (nth ∷ []) y j) [
-          | inl i ↦ Contains-append_left (sent_before g order (node_of g p) (place order p) ++ take m (queue_of g p)) (nth ∷ []) y (before_to y i)
-          | inr i ↦ Contains-append_right (sent_before g order (node_of g p) (place order p) ++ take m (queue_of g p)) (nth ∷ []) y i
+          | inl i ↦ Contains-append_left (sent_before g order (node_of g p) (place order p) ++ take m (queue_of g p))
+              (nth ∷ []) y (before_to y i)
+          | inr i ↦ Contains-append_right (sent_before g order (node_of g p) (place order p) ++ take m (queue_of g p))
+              (nth ∷ []) y i
         ]))
 
-    pub next_from : (y : ℕ) → Contains (sent_before g order (node_of g p) (place order p) ++ take (m + 1) (queue_of g p)) y → Contains (queued_before g order nth ++ nth ∷ []) y
+    pub next_from : (y : ℕ) →
+        Contains (sent_before g order (node_of g p) (place order p) ++ take (m + 1) (queue_of g p)) y →
+        Contains (queued_before g order nth ++ nth ∷ []) y
     next_from y j =
-        let k = subst (λ ys. Contains ys y) (sym (append_assoc (sent_before g order (node_of g p) (place order p)) (take m (queue_of g p)) (nth ∷ [])))
-        (subst (λ ys. Contains (sent_before g order (node_of g p) (place order p) ++ ys) y) (take_more (queue_of g p) m 0 inside) j) in
-        elim (Contains-append_cases (sent_before g order (node_of g p) (place order p) ++ take m (queue_of g p)) (nth ∷ []) y k) [
+        let k = subst (λ ys. Contains ys y)
+        (sym (append_assoc (sent_before g order (node_of g p) (place order p)) (take m (queue_of g p)) (nth ∷ [])))
+        (subst (λ ys. Contains (sent_before g order (node_of g p) (place order p) ++ ys) y)
+        (take_more (queue_of g p) m 0 inside) j) in
+        elim (Contains-append_cases (sent_before g order (node_of g p) (place order p) ++ take m (queue_of g p))
+        (nth ∷ []) y k) [
           | inl i ↦ Contains-append_left (queued_before g order nth) (nth ∷ []) y (before_from y i)
           | inr i ↦ Contains-append_right (queued_before g order nth) (nth ∷ []) y i
         ]
@@ -154,7 +188,8 @@ module _ (g : Graph) (order : List ℕ) (topological : IsTopological g order) (p
 
     pub nth_late : (y : ℕ) → IsSent g order p m y → place order (producer g y) ≤ place order (producer g nth)
     nth_late y (inl h) = omega (arith, started_late y h, ap (place order) nth_by)
-    nth_late y (inr c) = omega (arith, ap (place order) ((in_queue g p y (Contains-take m (queue_of g p) y c)).by), ap (place order) nth_by)
+    nth_late y (inr c) = omega
+        (arith, ap (place order) ((in_queue g p y (Contains-take m (queue_of g p) y c)).by), ap (place order) nth_by)
 
     pub nth_new : IsSent g order p m nth → ⊥
     nth_new (inl (inl h)) = omega (arith, h, ap (place order) nth_by)
@@ -163,16 +198,19 @@ module _ (g : Graph) (order : List ℕ) (topological : IsTopological g order) (p
 
     pub sent_next : (y : ℕ) → IsSent g order p m y ⊎ (y ≡ nth) → IsSent g order p (m + 1) y
     sent_next y (inl (inl h)) = inl h
-    sent_next y (inl (inr c)) = inr (subst (λ ys. Contains ys y) (sym (take_more (queue_of g p) m 0 inside)) (Contains-append_left (take m (queue_of g p)) (nth ∷ []) y c))
+    sent_next y (inl (inr c)) = inr (subst (λ ys. Contains ys y) (sym (take_more (queue_of g p) m 0 inside))
+        (Contains-append_left (take m (queue_of g p)) (nth ∷ []) y c))
     sent_next y (inr e) = inr (subst (λ ys. Contains ys y) (sym (take_more (queue_of g p) m 0 inside))
-        (Contains-append_right (take m (queue_of g p)) (nth ∷ []) y (subst (Contains (nth ∷ [])) (sym e) (Contains-first nth []))))
+        (Contains-append_right (take m (queue_of g p)) (nth ∷ []) y
+        (subst (Contains (nth ∷ [])) (sym e) (Contains-first nth []))))
 
     pub sent_back : (y : ℕ) → IsSent g order p (m + 1) y → IsSent g order p m y ⊎ (y ≡ nth)
     sent_back y (inl h) = inl (inl h)
-    sent_back y (inr c) = elim (Contains-append_cases (take m (queue_of g p)) (nth ∷ []) y (subst (λ ys. Contains ys y) (take_more (queue_of g p) m 0 inside) c)) [
-      | inl i ↦ inl (inr i)
-      | inr i ↦ inr (sym (only_one nth y i))
-    ]
+    sent_back y (inr c) = elim (Contains-append_cases (take m (queue_of g p)) (nth ∷ []) y
+        (subst (λ ys. Contains ys y) (take_more (queue_of g p) m 0 inside) c)) [
+          | inl i ↦ inl (inr i)
+          | inr i ↦ inr (sym (only_one nth y i))
+        ]
 
   -- ---- where nothing of it is sent yet, and where all is
 
@@ -180,35 +218,45 @@ module _ (g : Graph) (order : List ℕ) (topological : IsTopological g order) (p
   sent_first y (inl h) = h
   sent_first y (inr c) = absurd (Contains-nil y c)
 
-  pub all_to : (y : ℕ) → Contains (sent_before g order (node_of g p) (place order p) ++ queue_of g p) y → Contains (sent_before g order (node_of g p) (place order p + 1)) y
+  pub all_to : (y : ℕ) → Contains (sent_before g order (node_of g p) (place order p) ++ queue_of g p) y →
+      Contains (sent_before g order (node_of g p) (place order p + 1)) y
   all_to y j = elim (Contains-append_cases (sent_before g order (node_of g p) (place order p)) (queue_of g p) y j) [
     | inl i ↦ let h = stands g order (node_of g p) (place order p) y i in
-        stood g order (node_of g p) (place order p + 1) y (record { within = h.within; sent = h.sent; at = h.at; early = omega (arith, h.early) })
+        stood g order (node_of g p) (place order p + 1) y
+        (record { within = h.within; sent = h.sent; at = h.at; early = omega (arith, h.early) })
     | inr i ↦ let q = in_queue g p y i in
         stood g order (node_of g p) (place order p + 1) y
         (record { within = Contains-numbers (item_count g) y q.within; sent = q.sent; at = ap (node_of g) q.by; early = omega (arith, ap (place order) q.by) })
   ]
 
   -- what comes from an earlier process, or from this one
-  by_place : (y : ℕ) → Contains (numbers_below (item_count g)) y → place order (producer g y) < place order p + 1 → (place order (producer g y) < place order p) ⊎ (producer g y ≡ p)
+  by_place : (y : ℕ) → Contains (numbers_below (item_count g)) y → place order (producer g y) < place order p + 1 →
+      (place order (producer g y) < place order p) ⊎ (producer g y ≡ p)
   by_place y j h = elim (cases_lt (place order (producer g y)) (place order p)) [
     | inl k ↦ inl k
     | inr k ↦ inr (same_place order (producer g y) p (produced y j) in_order (omega (arith, h, k)))
   ]
 
-  pub all_from : (y : ℕ) → Contains (sent_before g order (node_of g p) (place order p + 1)) y → Contains (sent_before g order (node_of g p) (place order p) ++ queue_of g p) y
+  pub all_from : (y : ℕ) → Contains (sent_before g order (node_of g p) (place order p + 1)) y →
+      Contains (sent_before g order (node_of g p) (place order p) ++ queue_of g p) y
   all_from y j = let h = stands g order (node_of g p) (place order p + 1) y j in elim (by_place y h.within h.early) [
     | inl k ↦ Contains-append_left (sent_before g order (node_of g p) (place order p)) (queue_of g p) y
-        (stood g order (node_of g p) (place order p) y (record { within = h.within; sent = h.sent; at = h.at; early = k }))
-    | inr e ↦ Contains-append_right (sent_before g order (node_of g p) (place order p)) (queue_of g p) y (queue-Contains g p y (numbers-Contains (item_count g) y h.within) h.sent e)
+        (stood g order (node_of g p) (place order p) y
+        (record { within = h.within; sent = h.sent; at = h.at; early = k }))
+    | inr e ↦ Contains-append_right (sent_before g order (node_of g p) (place order p)) (queue_of g p) y
+        (queue-Contains g p y (numbers-Contains (item_count g) y h.within) h.sent e)
   ]
 
   -- another node's queue stays as it is
-  pub other_to : (node : ℕ) (y : ℕ) → Contains (sent_before g order node (place order p)) y → Contains (sent_before g order node (place order p + 1)) y
+  pub other_to : (node : ℕ) (y : ℕ) → Contains (sent_before g order node (place order p)) y →
+      Contains (sent_before g order node (place order p + 1)) y
   other_to node y j = let h = stands g order node (place order p) y j in
-      stood g order node (place order p + 1) y (record { within = h.within; sent = h.sent; at = h.at; early = omega (arith, h.early) })
+      stood g order node (place order p + 1) y
+      (record { within = h.within; sent = h.sent; at = h.at; early = omega (arith, h.early) })
 
-  pub other_from : (node : ℕ) → node ≢ node_of g p → (y : ℕ) → Contains (sent_before g order node (place order p + 1)) y → Contains (sent_before g order node (place order p)) y
+  pub other_from : (node : ℕ) → node ≢ node_of g p → (y : ℕ) →
+      Contains (sent_before g order node (place order p + 1)) y →
+      Contains (sent_before g order node (place order p)) y
   other_from node n y j = let h = stands g order node (place order p + 1) y j in elim (by_place y h.within h.early) [
     | inl k ↦ stood g order node (place order p) y (record { within = h.within; sent = h.sent; at = h.at; early = k })
     | inr e ↦ absurd (n (sym h.at ∙ ap (node_of g) e))
@@ -216,7 +264,8 @@ module _ (g : Graph) (order : List ℕ) (topological : IsTopological g order) (p
 
   -- ---- all of an earlier place is made once the queue is
 
-  pub made_next : (urgency : List ℕ) (frozen : List (Option ℕ)) (rows : List Row) → AreMade g urgency order frozen (IsSent g order p (length (queue_of g p))) rows →
+  pub made_next : (urgency : List ℕ) (frozen : List (Option ℕ)) (rows : List Row) →
+      AreMade g urgency order frozen (IsSent g order p (length (queue_of g p))) rows →
       AreMade g urgency order frozen (IsBefore g order (place order p + 1)) rows
   made_next urgency frozen rows are = record {
     items = are.items;
@@ -234,33 +283,47 @@ module _ (g : Graph) (order : List ℕ) (topological : IsTopological g order) (p
       below : (x : ℕ) → IsSent g order p (length (queue_of g p)) x → place order (producer g x) < place order p + 1
       below x (inl (inl h)) = omega (arith, h)
       below x (inl (inr e)) = omega (arith, ap (λ z. place order (producer g z)) e, start_by)
-      below x (inr c) = omega (arith, ap (place order) ((in_queue g p x (Contains-take (length (queue_of g p)) (queue_of g p) x c)).by))
+      below x (inr c) = omega (
+        arith,
+        ap (place order) ((in_queue g p x (Contains-take (length (queue_of g p)) (queue_of g p) x c)).by),
+      )
 
-      of_sent : (x : ℕ) (m : x < item_count g) → producer g x ≡ p → process_count g ≤ x → (IsSent g order p (length (queue_of g p)) x → IsRowOf g urgency order frozen (columns_of_rows rows) x)
-          → ((IsSent g order p (length (queue_of g p)) x → ⊥) → row_at (columns_of_rows rows) x ≡ []) → IsRowOf g urgency order frozen (columns_of_rows rows) x
+      of_sent : (x : ℕ) (m : x < item_count g) → producer g x ≡ p → process_count g ≤ x →
+          (IsSent g order p (length (queue_of g p)) x → IsRowOf g urgency order frozen (columns_of_rows rows) x)
+          → ((IsSent g order p (length (queue_of g p)) x → ⊥) → row_at (columns_of_rows rows) x ≡ []) →
+          IsRowOf g urgency order frozen (columns_of_rows rows) x
       of_sent x m e above is none = elim (cases_Bool (is_sent g x)) [
-        | inl on ↦ is (inr (subst (λ ys. Contains ys x) (sym (take_all (length (queue_of g p)) (queue_of g p) (omega arith))) (queue-Contains g p x m on e)))
+        | inl on ↦ is (inr (subst (λ ys. Contains ys x)
+            (sym (take_all (length (queue_of g p)) (queue_of g p) (omega arith))) (queue-Contains g p x m on e)))
         | inr off ↦ unsent_row g urgency order frozen (columns_of_rows rows) x m above off (none (λ h. not_sent off h))
       ]
         where
           not_sent : is_sent g x ≡ false → IsSent g order p (length (queue_of g p)) x → ⊥
           not_sent off (inl (inl h)) = omega (arith, h, ap (place order) e)
           not_sent off (inl (inr same)) = omega (arith, same, l, above)
-          not_sent off (inr c) = both_ways (is_sent g x) off ((in_queue g p x (Contains-take (length (queue_of g p)) (queue_of g p) x c)).sent)
+          not_sent off (inr c) = both_ways (is_sent g x) off
+              ((in_queue g p x (Contains-take (length (queue_of g p)) (queue_of g p) x c)).sent)
 
   -- ---- the processes of a node
 
   up_to : take (place order p + 1) order ≡ take (place order p) order ++ p ∷ []
-  up_to = take_more order (place order p) 0 (place-lt order p in_order) ∙ ap (λ q. take (place order p) order ++ q ∷ []) (get_or-place order p 0 in_order)
+  up_to = take_more order (place order p) 0 (place-lt order p in_order)
+      ∙ ap (λ q. take (place order p) order ++ q ∷ []) (get_or-place order p 0 in_order)
 
-  split : (node : ℕ) → node_before g order node (place order p + 1) ≡ node_before g order node (place order p) ++ filter (λ q. node_of g q == node) (p ∷ [])
-  split node = ap (filter (λ q. node_of g q == node)) up_to ∙ filter-append (λ q. node_of g q == node) (take (place order p) order) (p ∷ [])
+  split : (node : ℕ) →
+      node_before g order node (place order p + 1) ≡ node_before g order node (place order p)
+      ++ filter (λ q. node_of g q == node) (p ∷ [])
+  split node = ap (filter (λ q. node_of g q == node)) up_to
+      ∙ filter-append (λ q. node_of g q == node) (take (place order p) order) (p ∷ [])
 
   pub node_own : node_before g order (node_of g p) (place order p + 1) ≡ before_on_node g order p ++ p ∷ []
-  node_own = split (node_of g p) ∙ ap (λ qs. before_on_node g order p ++ qs) (cond-true _ _ _ (eq-eqb (node_of g p) (node_of g p) refl))
+  node_own = split (node_of g p)
+      ∙ ap (λ qs. before_on_node g order p ++ qs) (cond-true _ _ _ (eq-eqb (node_of g p) (node_of g p) refl))
 
-  pub node_other : (node : ℕ) → node ≢ node_of g p → node_before g order node (place order p + 1) ≡ node_before g order node (place order p)
-  node_other node n = split node ∙ ap (λ qs. node_before g order node (place order p) ++ qs) (cond-false _ _ _ (ne_eqb (node_of g p) node (λ e. n (sym e)))) ∙
+  pub node_other : (node : ℕ) → node ≢ node_of g p →
+      node_before g order node (place order p + 1) ≡ node_before g order node (place order p)
+  node_other node n = split node ∙ ap (λ qs. node_before g order node (place order p) ++ qs)
+      (cond-false _ _ _ (ne_eqb (node_of g p) node (λ e. n (sym e)))) ∙
       append-nil (node_before g order node (place order p))
 
   node_early : (node q : ℕ) → Contains (node_before g order node (place order p)) q → place order q ≤ place order p
@@ -274,43 +337,64 @@ module _ (g : Graph) (order : List ℕ) (topological : IsTopological g order) (p
     | inr i ↦ omega (arith, ap (place order) (only_one p q i))
   ]
 
-  pub sent_early : (node y : ℕ) → Contains (sent_before g order node (place order p)) y → place order (producer g y) ≤ place order p
+  pub sent_early : (node y : ℕ) → Contains (sent_before g order node (place order p)) y →
+      place order (producer g y) ≤ place order p
   sent_early node y j = let h = stands g order node (place order p) y j in omega (arith, h.early)
 
-  pub queue_early : (m y : ℕ) → Contains (sent_before g order (node_of g p) (place order p) ++ take m (queue_of g p)) y → place order (producer g y) ≤ place order p
-  queue_early m y j = elim (Contains-append_cases (sent_before g order (node_of g p) (place order p)) (take m (queue_of g p)) y j) [
-    | inl i ↦ sent_early (node_of g p) y i
-    | inr i ↦ omega (arith, ap (place order) (in_queue g p y (Contains-take m (queue_of g p) y i)).by)
-  ]
+  pub queue_early : (m y : ℕ) →
+      Contains (sent_before g order (node_of g p) (place order p) ++ take m (queue_of g p)) y →
+      place order (producer g y) ≤ place order p
+  queue_early m y j =
+      elim (Contains-append_cases (sent_before g order (node_of g p) (place order p)) (take m (queue_of g p)) y j) [
+        | inl i ↦ sent_early (node_of g p) y i
+        | inr i ↦ omega (arith, ap (place order) (in_queue g p y (Contains-take m (queue_of g p) y i)).by)
+      ]
 
   -- ---- all nodes at the next place
 
-  module _ (rows others : List (List Column)) (same : SameRowsBefore g order (place order p) rows others) (scenarios : List Scenario) (known sent : List (List (List Literal)))
-      (are : AreCarried g order rows scenarios (place order p) known sent) (on : node_of g p < length g.nodes) (own queue : List (List Literal))
+  module _ (rows others : List (List Column)) (same : SameRowsBefore g order (place order p) rows others)
+      (scenarios : List Scenario) (known sent : List (List (List Literal)))
+      (are : AreCarried g order rows scenarios (place order p) known sent) (on : node_of g p < length g.nodes)
+      (own queue : List (List Literal))
       (own_are : AreCubesOf g.faults scenarios (passed_by g others (before_on_node g order p ++ p ∷ [])) own)
-      (queue_are : AreCubesOf g.faults scenarios (queued_by g order others (sent_before g order (node_of g p) (place order p + 1))) queue) where
-    pub carried_next : AreCarried g order others scenarios (place order p + 1) (set known (node_of g p) own) (set sent (node_of g p) queue)
+      (queue_are : AreCubesOf g.faults scenarios
+      (queued_by g order others (sent_before g order (node_of g p) (place order p + 1))) queue) where
+    pub carried_next : AreCarried g order others scenarios (place order p + 1) (set known (node_of g p) own)
+        (set sent (node_of g p) queue)
     carried_next = record {
       known_count = length-set known (node_of g p) own ∙ are.known_count;
       sent_count = length-set sent (node_of g p) queue ∙ are.sent_count;
       carries = λ node h. elim (cases_eq node (node_of g p)) [
-        | inl e ↦ subst (λ n. AreCubesOf g.faults scenarios (passed_by g others (node_before g order n (place order p + 1))) (get_or (set known (node_of g p) own) n [])) (sym e)
-            (subst (AreCubesOf g.faults scenarios (passed_by g others (node_before g order (node_of g p) (place order p + 1))))
+        | inl e ↦
+            subst (λ n. AreCubesOf g.faults scenarios (passed_by g others (node_before g order n (place order p + 1)))
+            (get_or (set known (node_of g p) own) n [])) (sym e)
+            (subst (AreCubesOf g.faults scenarios
+            (passed_by g others (node_before g order (node_of g p) (place order p + 1))))
             (sym (get_or-set_same known (node_of g p) own [] (omega (arith, on, are.known_count))))
             (subst (λ qs. AreCubesOf g.faults scenarios (passed_by g others qs) own) (sym node_own) own_are))
-        | inr n ↦ subst (AreCubesOf g.faults scenarios (passed_by g others (node_before g order node (place order p + 1)))) (sym (get_or-set_other known (node_of g p) node own [] n))
-            (subst (λ qs. AreCubesOf g.faults scenarios (passed_by g others qs) (get_or known node [])) (sym (node_other node n))
-            (passed_cubes g order topological rows others (place order p) same g.faults scenarios (get_or known node []) (node_before g order node (place order p)) (node_early node)
+        | inr n ↦
+            subst (AreCubesOf g.faults scenarios (passed_by g others (node_before g order node (place order p + 1))))
+            (sym (get_or-set_other known (node_of g p) node own [] n))
+            (subst (λ qs. AreCubesOf g.faults scenarios (passed_by g others qs) (get_or known node []))
+            (sym (node_other node n))
+            (passed_cubes g order topological rows others (place order p) same g.faults scenarios (get_or known node [])
+            (node_before g order node (place order p)) (node_early node)
             (are.carries node h)))
       ];
       queues = λ node h. elim (cases_eq node (node_of g p)) [
-        | inl e ↦ subst (λ n. AreCubesOf g.faults scenarios (queued_by g order others (sent_before g order n (place order p + 1))) (get_or (set sent (node_of g p) queue) n [])) (sym e)
-            (subst (AreCubesOf g.faults scenarios (queued_by g order others (sent_before g order (node_of g p) (place order p + 1))))
+        | inl e ↦ subst (λ n. AreCubesOf g.faults scenarios (queued_by g order others
+            (sent_before g order n (place order p + 1))) (get_or (set sent (node_of g p) queue) n [])) (sym e)
+            (subst (AreCubesOf g.faults scenarios
+            (queued_by g order others (sent_before g order (node_of g p) (place order p + 1))))
             (sym (get_or-set_same sent (node_of g p) queue [] (omega (arith, on, are.sent_count)))) queue_are)
-        | inr n ↦ subst (AreCubesOf g.faults scenarios (queued_by g order others (sent_before g order node (place order p + 1)))) (sym (get_or-set_other sent (node_of g p) node queue [] n))
-            (queued_members g.faults g order others scenarios (get_or sent node []) (sent_before g order node (place order p)) (sent_before g order node (place order p + 1)) (other_to node)
+        | inr n ↦ subst
+            (AreCubesOf g.faults scenarios (queued_by g order others (sent_before g order node (place order p + 1))))
+            (sym (get_or-set_other sent (node_of g p) node queue [] n))
+            (queued_members g.faults g order others scenarios (get_or sent node []) (sent_before g order node
+            (place order p)) (sent_before g order node (place order p + 1)) (other_to node)
             (other_from node n)
-            (queued_cubes g order topological rows others (place order p) same g.faults scenarios (get_or sent node []) (sent_before g order node (place order p)) (sent_early node)
+            (queued_cubes g order topological rows others (place order p) same g.faults scenarios (get_or sent node [])
+            (sent_before g order node (place order p)) (sent_early node)
             (are.queues node h)))
       ];
     }
@@ -318,10 +402,14 @@ module _ (g : Graph) (order : List ℕ) (topological : IsTopological g order) (p
 -- ---- what is carried at the ends of a process
 
 regroup : (e d h r c : List Literal) → e ++ (d ++ h ++ (r ++ c)) ≡ e ++ d ++ h ++ r ++ c
-regroup e d h r c = sym (append_assoc e (d ++ h) (r ++ c)) ∙ ap (λ z. z ++ (r ++ c)) (sym (append_assoc e d h)) ∙ sym (append_assoc (e ++ d ++ h) r c)
+regroup e d h r c = sym (append_assoc e (d ++ h) (r ++ c)) ∙ ap (λ z. z ++ (r ++ c)) (sym (append_assoc e d h))
+    ∙ sym (append_assoc (e ++ d ++ h) r c)
 
-module _ (g : Graph) (order : List ℕ) (rows : List (List Column)) (scenarios : List Scenario) (p : ℕ) (cubes : List (List Literal)) where
-  pub ends_plain : (process_at g p).frozen ≡ false → AreCubesOf g.faults scenarios (passed_by g rows (before_on_node g order p ++ p ∷ [])) cubes → AreEndsOf g order rows scenarios p cubes
+module _ (g : Graph) (order : List ℕ) (rows : List (List Column)) (scenarios : List Scenario) (p : ℕ)
+    (cubes : List (List Literal)) where
+  pub ends_plain : (process_at g p).frozen ≡ false →
+      AreCubesOf g.faults scenarios (passed_by g rows (before_on_node g order p ++ p ∷ [])) cubes →
+      AreEndsOf g order rows scenarios p cubes
   ends_plain plain are = record {
     count = are.count;
     each = λ i d l on.
@@ -330,16 +418,22 @@ module _ (g : Graph) (order : List ℕ) (rows : List (List Column)) (scenarios :
         let earlier = flat_map f (before_on_node g order p) in
         let e : flat_map f (before_on_node g order p ++ p ∷ []) ≡ carried_at_end g order rows s p =
         sym (flat_map_push f (before_on_node g order p) p)
-        ∙ ap (λ ls. earlier ++ ls) (passed_active g rows s p on ∙ ap (λ ls. decided g s p ++ heard g rows s p ++ (ls ++ number_known s p ∷ [])) (received_plain g rows s p plain))
+        ∙ ap (λ ls. earlier ++ ls)
+        (passed_active g rows s p on ∙ ap (λ ls. decided g s p ++ heard g rows s p ++ (ls ++ number_known s p ∷ []))
+        (received_plain g rows s p plain))
         ∙ regroup earlier (decided g s p) (heard g rows s p) (received g rows s p) (number_known s p ∷ [])
-        ∙ ap (λ ls. ls ++ number_known s p ∷ []) (sym (cond-false (process_at g p).frozen (decided g s p) (earlier ++ decided g s p ++ heard g rows s p ++ received g rows s p) plain)) in
+        ∙ ap (λ ls. ls ++ number_known s p ∷ []) (sym (cond-false (process_at g p).frozen (decided g s p)
+        (earlier ++ decided g s p ++ heard g rows s p ++ received g rows s p) plain)) in
         subst (λ ls. IsCubeOf g.faults ls (get_or cubes i [])) e (are.each i d l);
   }
 
-  pub ends_frozen : (process_at g p).frozen ≡ true → AreCubesOf g.faults scenarios (λ s. decided g s p ++ number_known s p ∷ []) cubes → AreEndsOf g order rows scenarios p cubes
+  pub ends_frozen : (process_at g p).frozen ≡ true →
+      AreCubesOf g.faults scenarios (λ s. decided g s p ++ number_known s p ∷ []) cubes →
+      AreEndsOf g order rows scenarios p cubes
   ends_frozen frozen are = record {
     count = are.count;
     each = λ i d l on.
         let s = get_or scenarios i d in
-        subst (λ ls. IsCubeOf g.faults (ls ++ number_known s p ∷ []) (get_or cubes i [])) (sym (cond-true (process_at g p).frozen (decided g s p) _ frozen)) (are.each i d l);
+        subst (λ ls. IsCubeOf g.faults (ls ++ number_known s p ∷ []) (get_or cubes i []))
+        (sym (cond-true (process_at g p).frozen (decided g s p) _ frozen)) (are.each i d l);
   }

@@ -13,29 +13,38 @@ use Rattle.cpg_run.specs.RowLaws.{SameRowsBefore}
 use Rattle.cpg_run.specs.Rows.{IsCubeOf}
 use Rattle.cpg_run.proofs.CarriedBefore.{passed_same, queued_same, end_same}
 
-module _ (g : Graph) (order : List ℕ) (topological : IsTopological g order) (rows others : List (List Column)) (bound : ℕ) (same : SameRowsBefore g order bound rows others) where
+module _ (g : Graph) (order : List ℕ) (topological : IsTopological g order) (rows others : List (List Column))
+    (bound : ℕ) (same : SameRowsBefore g order bound rows others) where
   module _ (k : ℕ) (scenarios : List Scenario) (cubes : List (List Literal)) where
     -- cubes of what earlier processes pass on stay cubes of it
-    pub passed_cubes : (processes : List ℕ) → ((q : ℕ) → Contains processes q → place order q ≤ bound) → AreCubesOf k scenarios (passed_by g rows processes) cubes →
+    pub passed_cubes : (processes : List ℕ) → ((q : ℕ) → Contains processes q → place order q ≤ bound) →
+        AreCubesOf k scenarios (passed_by g rows processes) cubes →
         AreCubesOf k scenarios (passed_by g others processes) cubes
     passed_cubes processes early are = record {
       count = are.count;
       each = λ i d l. subst (λ ls. IsCubeOf k ls (get_or cubes i []))
           (same_flat_map (passed g rows (get_or scenarios i d)) (passed g others (get_or scenarios i d)) processes
-          (λ q j. passed_same g order topological rows others bound same (get_or scenarios i d) q (early q j))) (are.each i d l);
+          (λ q j. passed_same g order topological rows others bound same (get_or scenarios i d) q (early q j)))
+          (are.each i d l);
     }
 
-    pub queued_cubes : (items : List ℕ) → ((y : ℕ) → Contains items y → place order (producer g y) ≤ bound) → AreCubesOf k scenarios (queued_by g order rows items) cubes →
+    pub queued_cubes : (items : List ℕ) → ((y : ℕ) → Contains items y → place order (producer g y) ≤ bound) →
+        AreCubesOf k scenarios (queued_by g order rows items) cubes →
         AreCubesOf k scenarios (queued_by g order others items) cubes
     queued_cubes items early are = record {
       count = are.count;
       each = λ i d l. subst (λ ls. IsCubeOf k ls (get_or cubes i []))
-          (same_flat_map (queued g order rows (get_or scenarios i d)) (queued g order others (get_or scenarios i d)) items
-          (λ y j. queued_same g order topological rows others bound same (get_or scenarios i d) y (early y j))) (are.each i d l);
+          (same_flat_map (queued g order rows (get_or scenarios i d))
+          (queued g order others (get_or scenarios i d)) items
+          (λ y j. queued_same g order topological rows others bound same (get_or scenarios i d) y (early y j)))
+          (are.each i d l);
     }
 
-  pub ends_cubes : (scenarios : List Scenario) (p : ℕ) (cubes : List (List Literal)) → place order p ≤ bound → AreEndsOf g order rows scenarios p cubes → AreEndsOf g order others scenarios p cubes
+  pub ends_cubes : (scenarios : List Scenario) (p : ℕ) (cubes : List (List Literal)) → place order p ≤ bound →
+      AreEndsOf g order rows scenarios p cubes →
+      AreEndsOf g order others scenarios p cubes
   ends_cubes scenarios p cubes early are = record {
     count = are.count;
-    each = λ i d l on. subst (λ ls. IsCubeOf g.faults ls (get_or cubes i [])) (end_same g order topological rows others bound same (get_or scenarios i d) p early) (are.each i d l on);
+    each = λ i d l on. subst (λ ls. IsCubeOf g.faults ls (get_or cubes i []))
+        (end_same g order topological rows others bound same (get_or scenarios i d) p early) (are.each i d l on);
   }

@@ -1,6 +1,9 @@
--- What comes of one scenario: the entry that is kept, and what the node carries on; and of all of them, one after another.
-use Rattle.std.proofs.Common.{◌≡◌, ◌≢◌, ◌∙◌, ℕ, ◌+◌, ◌<◌, ◌≤◌, Bool, true, false, if◌then◌else◌, List, [], ◌∷◌, ◌++◌, length, get_or, set, take, flat_map, Contains, AllPairs, Option, Some, None}
-use Rattle.std.proofs.Common.{is_some, option_to_list, arith, refl, sym, ap, inl, inr, subst, get_or-set_same, get_or-set_other, length-set}
+-- What comes of one scenario: the entry that is kept, and what the node carries on; and of all of them, one after
+-- another.
+use Rattle.std.proofs.Common.{◌≡◌, ◌≢◌, ◌∙◌, ℕ, ◌+◌, ◌<◌, ◌≤◌, Bool, true, false, if◌then◌else◌, List, [], ◌∷◌, ◌++◌}
+use Rattle.std.proofs.Common.{length, get_or, set, take, flat_map, Contains, AllPairs, Option, Some, None}
+use Rattle.std.proofs.Common.{is_some, option_to_list, arith, refl, sym, ap, inl, inr, subst, get_or-set_same}
+use Rattle.std.proofs.Common.{get_or-set_other, length-set}
 use Rattle.std.proofs.lemmas.Bool.{cases_eq, cond-true, cond-false}
 use Rattle.std.proofs.lemmas.Grind.{flat_map-append}
 use Rattle.std.proofs.lemmas.List.{append-nil, take_more, get_or_default}
@@ -32,12 +35,16 @@ use Rattle.cpg_run.proofs.EntriesFound.{AreEntriesAmong, not_before_place, passe
 
 -- ---- entries that are kept
 
-pub kept_of : (g : Graph) (s : Scenario) (time : ℕ) (literals cube : List Literal) → IsCubeOf g.faults literals cube → (r : Option Column) → IsLeastEntry g s time cube r → IsKeptOf g s time literals r
+pub kept_of : (g : Graph) (s : Scenario) (time : ℕ) (literals cube : List Literal) → IsCubeOf g.faults literals cube →
+    (r : Option Column) → IsLeastEntry g s time cube r →
+    IsKeptOf g s time literals r
 kept_of g s time literals cube is None h = λ other same least. h (same_least g literals cube other is same ∙ least)
-kept_of g s time literals cube is (Some e) h = (h.0, subst (IsCubeOf g.faults literals) (sym h.1) is, ap (lows g) h.1 ∙ h.2)
+kept_of g s time literals cube is (Some e) h =
+    (h.0, subst (IsCubeOf g.faults literals) (sym h.1) is, ap (lows g) h.1 ∙ h.2)
 
 -- from nothing
-pub from_whole : (k : ℕ) (literals whole cube : List Literal) → whole ≡ [] → IsNarrowed k literals whole cube → IsCubeOf k literals cube
+pub from_whole : (k : ℕ) (literals whole cube : List Literal) → whole ≡ [] → IsNarrowed k literals whole cube →
+    IsCubeOf k literals cube
 from_whole k literals whole cube e n = n.by [] (subst (IsCubeOf k []) (sym e) (whole_cube k))
 
 -- ---- one start
@@ -46,31 +53,44 @@ pub frozen_start : (g : Graph) (p : ℕ) → p < process_count g → is_frozen g
 frozen_start g p l = ap (is_frozen_item g) (item_at-start g p l)
 
 module _ (g : Graph) (rows : List (List Column)) (s : Scenario) (p : ℕ) where
-  pub start_plain : (earlier : List Literal) → (process_at g p).frozen ≡ false → start_after g rows s p earlier ≡ earlier ++ decided g s p ++ heard g rows s p ++ received g rows s p
+  pub start_plain : (earlier : List Literal) → (process_at g p).frozen ≡ false →
+      start_after g rows s p earlier ≡ earlier ++ decided g s p ++ heard g rows s p ++ received g rows s p
   start_plain earlier e = cond-false _ _ _ e
 
   pub received_plain : (process_at g p).frozen ≡ false → received_unless_frozen g rows s p ≡ received g rows s p
   received_plain e = cond-false _ _ _ e
 
   pub passed_idle : active g s.values p ≡ false → passed g rows s p ≡ decided g s p ++ heard g rows s p
-  passed_idle off = ap (λ ls. decided g s p ++ heard g rows s p ++ ls) (cond-false (active g s.values p) (executed g rows s p) [] off) ∙ append-nil (decided g s p ++ heard g rows s p)
+  passed_idle off =
+      ap (λ ls. decided g s p ++ heard g rows s p ++ ls) (cond-false (active g s.values p) (executed g rows s p) [] off)
+      ∙ append-nil (decided g s p ++ heard g rows s p)
 
-  pub passed_active : active g s.values p ≡ true → passed g rows s p ≡ decided g s p ++ heard g rows s p ++ (received_unless_frozen g rows s p ++ number_known s p ∷ [])
-  passed_active on = ap (λ ls. decided g s p ++ heard g rows s p ++ ls) (cond-true (active g s.values p) (executed g rows s p) [] on)
+  pub passed_active : active g s.values p ≡ true →
+      passed g rows s p ≡ decided g s p ++ heard g rows s p
+      ++ (received_unless_frozen g rows s p ++ number_known s p ∷ [])
+  passed_active on =
+      ap (λ ls. decided g s p ++ heard g rows s p ++ ls) (cond-true (active g s.values p) (executed g rows s p) [] on)
 
-  pub process_active : p < process_count g → (t : Times) → IsTimedIfActive g s t p → is_some (get_or t.times p None) ≡ active g s.values p
+  pub process_active : p < process_count g → (t : Times) → IsTimedIfActive g s t p →
+      is_some (get_or t.times p None) ≡ active g s.values p
   process_active l t timed = timed ∙ ap (item_active g s.values) (item_at-start g p l)
 
 -- ---- the entries of one scenario more
 
-module _ (g : Graph) (order : List ℕ) (topological : IsTopological g order) (frozen : List (Option ℕ)) (rows : List (List Column)) (x : ℕ)
+module _ (g : Graph) (order : List ℕ) (topological : IsTopological g order) (frozen : List (Option ℕ))
+    (rows : List (List Column)) (x : ℕ)
     (done : List Scenario) (entries : List Column) (so_far : AreEntriesAmong g order frozen rows x done entries)
     (s : Scenario) (law : IsScenario g s) (t : Times) (run : IsRun g order frozen s t) (new : Contains done s → ⊥) where
-  entry_at : (o : Option ℕ) → get_or t.times x None ≡ o → is_some o ≡ item_active g s.values (item_at g x) → (r : Option Column) → IsKeptAt g s o (carried g order rows s x) r
+  entry_at : (o : Option ℕ) → get_or t.times x None ≡ o → is_some o ≡ item_active g s.values (item_at g x) →
+      (r : Option Column) →
+      IsKeptAt g s o (carried g order rows s x) r
       → AreEntriesAmong g order frozen rows x (done ++ s ∷ []) (entries ++ option_to_list r)
-  entry_at None at off r e = subst (λ es. AreEntriesAmong g order frozen rows x (done ++ s ∷ []) (entries ++ option_to_list es)) (sym e)
-      (subst (AreEntriesAmong g order frozen rows x (done ++ s ∷ [])) (sym (append-nil entries)) (passed_inactive g order frozen rows x done entries so_far s (sym off)))
-  entry_at (Some time) at on None h = subst (AreEntriesAmong g order frozen rows x (done ++ s ∷ [])) (sym (append-nil entries))
+  entry_at None at off r e =
+      subst (λ es. AreEntriesAmong g order frozen rows x (done ++ s ∷ []) (entries ++ option_to_list es)) (sym e)
+      (subst (AreEntriesAmong g order frozen rows x (done ++ s ∷ [])) (sym (append-nil entries))
+      (passed_inactive g order frozen rows x done entries so_far s (sym off)))
+  entry_at (Some time) at on None h =
+      subst (AreEntriesAmong g order frozen rows x (done ++ s ∷ [])) (sym (append-nil entries))
       (let literals = carried g order rows s x in
       let cube = cube_of g.faults literals in
       let is = cube_there g.faults literals in
@@ -78,87 +98,119 @@ module _ (g : Graph) (order : List ℕ) (topological : IsTopological g order) (f
   entry_at (Some time) at on (Some e) h = taken g order frozen rows x done entries so_far s e (record {
     lawful = law;
     active = sym on;
-    time = λ u other. ap (λ (w : Times). get_or w.times x None) (run_unique g order topological frozen s u t other run) ∙ at ∙ ap Some (sym h.0);
+    time = λ u other. ap (λ (w : Times). get_or w.times x None) (run_unique g order topological frozen s u t other run)
+        ∙ at ∙ ap Some (sym h.0);
     cube = h.1;
   }) h.2 new
 
-  pub one_more : IsTimedIfActive g s t x → (r : Option Column) → IsKeptAt g s (get_or t.times x None) (carried g order rows s x) r →
+  pub one_more : IsTimedIfActive g s t x → (r : Option Column) →
+      IsKeptAt g s (get_or t.times x None) (carried g order rows s x) r →
       AreEntriesAmong g order frozen rows x (done ++ s ∷ []) (entries ++ option_to_list r)
   one_more timed r h = entry_at (get_or t.times x None) refl timed r h
 
 -- ---- the cubes of one scenario more
 
 module _ (k : ℕ) (scenarios : List Scenario) (before literals : Scenario → List Literal) where
-  pub none_done : (cubes : List (List Literal)) → AreCubesOf k scenarios before cubes → AreCubesUpTo k scenarios before literals 0 cubes
-  none_done cubes are = record { count = are.count; done = λ i s h l. absurd (omega (arith, h)); rest = λ i s h l. are.each i s l }
+  pub none_done : (cubes : List (List Literal)) → AreCubesOf k scenarios before cubes →
+      AreCubesUpTo k scenarios before literals 0 cubes
+  none_done cubes are =
+      record { count = are.count; done = λ i s h l. absurd (omega (arith, h)); rest = λ i s h l. are.each i s l }
 
-  pub all_done : (n : ℕ) (cubes : List (List Literal)) → length scenarios ≤ n → AreCubesUpTo k scenarios before literals n cubes → AreCubesOf k scenarios literals cubes
+  pub all_done : (n : ℕ) (cubes : List (List Literal)) → length scenarios ≤ n →
+      AreCubesUpTo k scenarios before literals n cubes →
+      AreCubesOf k scenarios literals cubes
   all_done n cubes h are = record { count = are.count; each = λ i s l. are.done i s (omega (arith, h, l)) l }
 
-  pub one_done : (n : ℕ) (cubes : List (List Literal)) (s : Scenario) (cube : List Literal) → n < length scenarios → AreCubesUpTo k scenarios before literals n cubes → s ≡ get_or scenarios n s
+  pub one_done : (n : ℕ) (cubes : List (List Literal)) (s : Scenario) (cube : List Literal) → n < length scenarios →
+      AreCubesUpTo k scenarios before literals n cubes →
+      s ≡ get_or scenarios n s
       → IsCubeOf k (literals s) cube → AreCubesUpTo k scenarios before literals (n + 1) (set cubes n cube)
   one_done n cubes s cube l are at is = record {
     count = length-set cubes n cube ∙ are.count;
     done = λ i d h m. elim (cases_eq i n) [
       | inl e ↦ subst (λ j. IsCubeOf k (literals (get_or scenarios j d)) (get_or (set cubes n cube) j [])) (sym e)
-          (subst (IsCubeOf k (literals (get_or scenarios n d))) (sym (get_or-set_same cubes n cube [] (omega (arith, l, are.count))))
+          (subst (IsCubeOf k (literals (get_or scenarios n d)))
+          (sym (get_or-set_same cubes n cube [] (omega (arith, l, are.count))))
           (subst (λ u. IsCubeOf k (literals u) cube) (at ∙ get_or_default scenarios n s d l) is))
-      | inr other ↦ subst (IsCubeOf k (literals (get_or scenarios i d))) (sym (get_or-set_other cubes n i cube [] other)) (are.done i d (omega (arith, h, other)) m)
+      | inr other ↦ subst (IsCubeOf k (literals (get_or scenarios i d)))
+          (sym (get_or-set_other cubes n i cube [] other)) (are.done i d (omega (arith, h, other)) m)
     ];
     rest = λ i d h m. let other : i ≢ n = λ e. omega (arith, h, e) in
-        subst (IsCubeOf k (before (get_or scenarios i d))) (sym (get_or-set_other cubes n i cube [] other)) (are.rest i d (omega (arith, h)) m);
+        subst (IsCubeOf k (before (get_or scenarios i d))) (sym (get_or-set_other cubes n i cube [] other))
+        (are.rest i d (omega (arith, h)) m);
   }
 
 -- the scenarios up to the next place
-pub next_scenario : (scenarios : List Scenario) (n : ℕ) (s : Scenario) → n < length scenarios → s ≡ get_or scenarios n s → take (n + 1) scenarios ≡ take n scenarios ++ s ∷ []
+pub next_scenario : (scenarios : List Scenario) (n : ℕ) (s : Scenario) → n < length scenarios →
+    s ≡ get_or scenarios n s →
+    take (n + 1) scenarios ≡ take n scenarios ++ s ∷ []
 next_scenario scenarios n s l at = take_more scenarios n s l ∙ ap (λ u. take n scenarios ++ u ∷ []) (sym at)
 
 -- cubes that are made one after another
-pub push_cube : (k : ℕ) (scenarios : List Scenario) (literals : Scenario → List Literal) (n : ℕ) (cubes new : List (List Literal)) (s : Scenario) (cube : List Literal) → n < length scenarios →
+pub push_cube : (k : ℕ) (scenarios : List Scenario) (literals : Scenario → List Literal) (n : ℕ)
+    (cubes new : List (List Literal)) (s : Scenario) (cube : List Literal) →
+    n < length scenarios →
     length cubes ≡ n
-    → ((i : ℕ) (d : Scenario) → i < n → IsCubeOf k (literals (get_or scenarios i d)) (get_or cubes i [])) → new ≡ cubes ++ cube ∷ [] → s ≡ get_or scenarios n s → IsCubeOf k (literals s) cube
+    → ((i : ℕ) (d : Scenario) → i < n → IsCubeOf k (literals (get_or scenarios i d)) (get_or cubes i [])) →
+    new ≡ cubes ++ cube ∷ [] → s ≡ get_or scenarios n s → IsCubeOf k (literals s) cube
     → (i : ℕ) (d : Scenario) → i < n + 1 → IsCubeOf k (literals (get_or scenarios i d)) (get_or new i [])
-push_cube k scenarios literals n cubes new s cube l long each pushed at is i d h = subst (λ cs. IsCubeOf k (literals (get_or scenarios i d)) (get_or cs i [])) (sym pushed) (elim (cases_eq i n) [
-  | inl e ↦ subst (λ j. IsCubeOf k (literals (get_or scenarios j d)) (get_or (cubes ++ cube ∷ []) j [])) (sym e)
-      (subst (IsCubeOf k (literals (get_or scenarios n d))) (sym (ap (λ j. get_or (cubes ++ cube ∷ []) j []) (sym long) ∙ get_or-append_seam cubes cube [] []))
-      (subst (λ u. IsCubeOf k (literals u) cube) (at ∙ get_or_default scenarios n s d l) is))
-  | inr other ↦ subst (IsCubeOf k (literals (get_or scenarios i d))) (sym (get_or-append cubes (cube ∷ []) [] i (omega (arith, h, other, long)))) (each i d (omega (arith, h, other)))
-])
+push_cube k scenarios literals n cubes new s cube l long each pushed at is i d h =
+    subst (λ cs. IsCubeOf k (literals (get_or scenarios i d)) (get_or cs i [])) (sym pushed) (elim (cases_eq i n) [
+      | inl e ↦ subst (λ j. IsCubeOf k (literals (get_or scenarios j d)) (get_or (cubes ++ cube ∷ []) j [])) (sym e)
+          (subst (IsCubeOf k (literals (get_or scenarios n d)))
+          (sym (ap (λ j. get_or (cubes ++ cube ∷ []) j []) (sym long) ∙ get_or-append_seam cubes cube [] []))
+          (subst (λ u. IsCubeOf k (literals u) cube) (at ∙ get_or_default scenarios n s d l) is))
+      | inr other ↦ subst (IsCubeOf k (literals (get_or scenarios i d)))
+          (sym (get_or-append cubes (cube ∷ []) [] i (omega (arith, h, other, long))))
+          (each i d (omega (arith, h, other)))
+    ])
 
 -- ---- runs of the scenarios
 
 module _ (g : Graph) (order : List ℕ) (frozen : List (Option ℕ)) where
-  pub timed_if_active : (s : Scenario) (t : Times) → IsRun g order frozen s t → (x : ℕ) → x < item_count g → IsTimedIfActive g s t x
-  timed_if_active s t run x l = ap is_some (time_is g order frozen s t run x l) ∙ go (item_active g s.values (item_at g x))
+  pub timed_if_active : (s : Scenario) (t : Times) → IsRun g order frozen s t → (x : ℕ) → x < item_count g →
+      IsTimedIfActive g s t x
+  timed_if_active s t run x l =
+      ap is_some (time_is g order frozen s t run x l) ∙ go (item_active g s.values (item_at g x))
       (greatest (unfrozen_time g order s t x ∷ option_to_list (get_or frozen x None)))
     where
       go : (b : Bool) (n : ℕ) → is_some (if b then Some n else None) ≡ b
       go true n = refl
       go false n = refl
 
-  pub run_at : (scenarios : List Scenario) (runs : List Times) → AreRuns g order frozen scenarios runs → (n : ℕ) (s : Scenario) (t : Times) → n < length scenarios → s ≡ get_or scenarios n s →
+  pub run_at : (scenarios : List Scenario) (runs : List Times) → AreRuns g order frozen scenarios runs →
+      (n : ℕ) (s : Scenario) (t : Times) → n < length scenarios →
+      s ≡ get_or scenarios n s →
       t ≡ get_or runs n t → IsRun g order frozen s t
-  run_at scenarios runs are n s t l at is = subst (λ u. IsRun g order frozen u t) (sym at) (subst (IsRun g order frozen (get_or scenarios n s)) (sym is) (are.each n s t l))
+  run_at scenarios runs are n s t l at is = subst (λ u. IsRun g order frozen u t) (sym at)
+      (subst (IsRun g order frozen (get_or scenarios n s)) (sym is) (are.each n s t l))
 
-pub scenario_at : (scenarios : List Scenario) (n : ℕ) (s : Scenario) → n < length scenarios → s ≡ get_or scenarios n s → Contains scenarios s
+pub scenario_at : (scenarios : List Scenario) (n : ℕ) (s : Scenario) → n < length scenarios → s ≡ get_or scenarios n s →
+    Contains scenarios s
 scenario_at scenarios n s l at = (n, l, sym at)
 
-pub new_at : (scenarios : List Scenario) → AllPairs (λ s t. s ≢ t) scenarios → (n : ℕ) (s : Scenario) → n < length scenarios → s ≡ get_or scenarios n s → Contains (take n scenarios) s → ⊥
+pub new_at : (scenarios : List Scenario) → AllPairs (λ s t. s ≢ t) scenarios → (n : ℕ) (s : Scenario) →
+    n < length scenarios → s ≡ get_or scenarios n s → Contains (take n scenarios) s → ⊥
 new_at scenarios apart n s l at j = not_before_place scenarios n s apart l (subst (Contains (take n scenarios)) at j)
 
-pub carried_start : (g : Graph) (order : List ℕ) (rows : List (List Column)) (s : Scenario) (p : ℕ) → p < process_count g →
+pub carried_start : (g : Graph) (order : List ℕ) (rows : List (List Column)) (s : Scenario) (p : ℕ) →
+    p < process_count g →
     carried g order rows s p ≡ start_after g rows s p (passed_by g rows (before_on_node g order p) s)
 carried_start g order rows s p l = ap (carried_by_item g order rows s p) (item_at-start g p l)
 
 -- a list for one element more
-pub flat_map_push : {X : Type 0} (f : X → List Literal) (xs : List X) (x : X) → flat_map f xs ++ f x ≡ flat_map f (xs ++ x ∷ [])
+pub flat_map_push : {X : Type 0} (f : X → List Literal) (xs : List X) (x : X) →
+    flat_map f xs ++ f x ≡ flat_map f (xs ++ x ∷ [])
 flat_map_push f xs x = sym (flat_map-append f xs (x ∷ []) ∙ ap (λ z. flat_map f xs ++ z) (append-nil (f x)))
 
 -- ---- one scenario more of all of them
 
-module _ (g : Graph) (order : List ℕ) (topological : IsTopological g order) (frozen : List (Option ℕ)) (rows : List (List Column)) (x : ℕ) (l : x < item_count g)
-    (scenarios : List Scenario) (runs : List Times) (are : AreScenarios g scenarios) (run : AreRuns g order frozen scenarios runs)
-    (n : ℕ) (s : Scenario) (t : Times) (inside : n < length scenarios) (at : s ≡ get_or scenarios n s) (is : t ≡ get_or runs n t) where
+module _ (g : Graph) (order : List ℕ) (topological : IsTopological g order) (frozen : List (Option ℕ))
+    (rows : List (List Column)) (x : ℕ) (l : x < item_count g)
+    (scenarios : List Scenario) (runs : List Times) (are : AreScenarios g scenarios)
+    (run : AreRuns g order frozen scenarios runs)
+    (n : ℕ) (s : Scenario) (t : Times) (inside : n < length scenarios) (at : s ≡ get_or scenarios n s)
+    (is : t ≡ get_or runs n t) where
   pub law_here : IsScenario g s
   law_here = are.lawful s (scenario_at scenarios n s inside at)
 
@@ -168,16 +220,20 @@ module _ (g : Graph) (order : List ℕ) (topological : IsTopological g order) (f
   pub timed_here : IsTimedIfActive g s t x
   timed_here = timed_if_active g order frozen s t run_here x l
 
-  pub found_more : (entries next : List Column) → AreEntriesAmong g order frozen rows x (take n scenarios) entries → (r : Option Column) →
+  pub found_more : (entries next : List Column) → AreEntriesAmong g order frozen rows x (take n scenarios) entries →
+      (r : Option Column) →
       IsKeptAt g s (get_or t.times x None) (carried g order rows s x) r
       → next ≡ entries ++ option_to_list r → AreEntriesAmong g order frozen rows x (take (n + 1) scenarios) next
   found_more entries next so_far r h e =
       subst (λ ds. AreEntriesAmong g order frozen rows x ds next) (sym (next_scenario scenarios n s inside at))
       (subst (AreEntriesAmong g order frozen rows x (take n scenarios ++ s ∷ [])) (sym e)
-      (one_more g order topological frozen rows x (take n scenarios) entries so_far s law_here t run_here (new_at scenarios are.apart n s inside at) timed_here r h))
+      (one_more g order topological frozen rows x (take n scenarios) entries so_far s law_here t run_here
+      (new_at scenarios are.apart n s inside at) timed_here r h))
 
 -- the cube of a scenario whose turn it is
-pub cube_here : (k : ℕ) (scenarios : List Scenario) (before literals : Scenario → List Literal) (n : ℕ) (cubes : List (List Literal)) (s : Scenario) (cube : List Literal) → n < length scenarios →
+pub cube_here : (k : ℕ) (scenarios : List Scenario) (before literals : Scenario → List Literal) (n : ℕ)
+    (cubes : List (List Literal)) (s : Scenario) (cube : List Literal) →
+    n < length scenarios →
     s ≡ get_or scenarios n s
     → AreCubesUpTo k scenarios before literals n cubes → cube ≡ get_or cubes n cube → IsCubeOf k (before s) cube
 cube_here k scenarios before literals n cubes s cube inside at are read =

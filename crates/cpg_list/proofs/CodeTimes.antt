@@ -1,5 +1,6 @@
 -- Finding a column by its time.
-use Rattle.std.proofs.Common.{◌≡◌, ◌≢◌, ◌∙◌, ℕ, ◌+◌, ◌<◌, ◌≤◌, false, List, [], ◌∷◌, ◌++◌, length, length-append, get_or, IsPermutation, None, arith, sym, ap, inl, inr, subst}
+use Rattle.std.proofs.Common.{◌≡◌, ◌≢◌, ◌∙◌, ℕ, ◌+◌, ◌<◌, ◌≤◌, false, List, [], ◌∷◌, ◌++◌, length, length-append}
+use Rattle.std.proofs.Common.{get_or, IsPermutation, None, arith, sym, ap, inl, inr, subst}
 use Rattle.std.proofs.lemmas.Bool.{cases_lt}
 use Rattle.std.specs.List.Sorted.{IsNonDecreasingBy}
 use Rattle.std.proofs.lemmas.List.{get_or_default}
@@ -14,12 +15,15 @@ use Rattle.cpg_list.specs.TimeOrder.{TimedColumn, IsTimeOrder, StartsAt, FindsHi
 
 -- those from the first on and before a place have the time, and their columns don't match
 abbrev pub ArePassed : List Column → List TimedColumn → ℕ → Scenario → ℕ → ℕ → Type 0
-ArePassed columns by_time time s first at = (i : ℕ) (d : TimedColumn) (c : Column) → first ≤ i → i < at → ((get_or by_time i d).time ≡ time) ×
+ArePassed columns by_time time s first at =
+    (i : ℕ) (d : TimedColumn) (c : Column) → first ≤ i → i < at → ((get_or by_time i d).time ≡ time) ×
     (matches (get_or columns (get_or by_time i d).place c).cube s ≡ false)
 
-module _ (columns : List Column) (by_time : List TimedColumn) (is : IsTimeOrder columns by_time) (time : ℕ) (s : Scenario) (first : ℕ) (starts : StartsAt by_time time first) (at : ℕ)
+module _ (columns : List Column) (by_time : List TimedColumn) (is : IsTimeOrder columns by_time) (time : ℕ)
+    (s : Scenario) (first : ℕ) (starts : StartsAt by_time time first) (at : ℕ)
     (passed : ArePassed columns by_time time s first at) where
-  missed : ((i : ℕ) (d : TimedColumn) → at ≤ i → i < length by_time → (get_or by_time i d).time ≡ time → ⊥) → FindsHit columns time s None
+  missed : ((i : ℕ) (d : TimedColumn) → at ≤ i → i < length by_time → (get_or by_time i d).time ≡ time → ⊥) →
+      FindsHit columns time s None
   missed later k c l same =
       let d : TimedColumn = record { time = 0; place = 0 } in
       let r = is.all k c l in
@@ -36,47 +40,70 @@ module _ (columns : List Column) (by_time : List TimedColumn) (is : IsTimeOrder 
   pub missed_end : length by_time ≤ at → FindsHit columns time s None
   missed_end h = missed (λ i d l m e. omega (arith, h, l, m))
 
-  pub missed_time : (x : TimedColumn) → first ≤ at → at < length by_time → x ≡ get_or by_time at x → x.time ≢ time → FindsHit columns time s None
+  pub missed_time : (x : TimedColumn) → first ≤ at → at < length by_time → x ≡ get_or by_time at x → x.time ≢ time →
+      FindsHit columns time s None
   missed_time x f l read other = missed (λ i d m n e.
-      other (omega (arith, ap (λ (y : TimedColumn). y.time) read, is.rising at i x m n, starts.after at x f l, ap (λ (y : TimedColumn). y.time) (get_or_default by_time i x d n), e)))
+      other (omega (
+        arith,
+        ap (λ (y : TimedColumn). y.time) read,
+        is.rising at i x m n,
+        starts.after at x f l,
+        ap (λ (y : TimedColumn). y.time) (get_or_default by_time i x d n),
+        e,
+      )))
 
 -- ---- the times of columns, sorted
 
 -- each of the first n columns has its time and place
 pub record AreTimes (columns : List Column) (n : ℕ) (made : List TimedColumn) : Type 0 where
   pub count : length made ≡ n
-  pub each : (i : ℕ) (d : TimedColumn) (c : Column) → i < n → ((get_or made i d).place ≡ i) × ((get_or made i d).time ≡ (get_or columns i c).time)
+  pub each : (i : ℕ) (d : TimedColumn) (c : Column) → i < n →
+      ((get_or made i d).place ≡ i) × ((get_or made i d).time ≡ (get_or columns i c).time)
 
 module _ (columns : List Column) where
-  pub one_timed : (n : ℕ) (made next : List TimedColumn) (x : Column) (t : TimedColumn) → n < length columns → AreTimes columns n made → x ≡ get_or columns n x → next ≡ made ++ t ∷ [] →
+  pub one_timed : (n : ℕ) (made next : List TimedColumn) (x : Column) (t : TimedColumn) → n < length columns →
+      AreTimes columns n made → x ≡ get_or columns n x →
+      next ≡ made ++ t ∷ [] →
       t.time ≡ x.time → t.place ≡ n → AreTimes columns (n + 1) next
   one_timed n made next x t l are at is time place = record {
     count = ap length is ∙ length-append made (t ∷ []) ∙ omega (arith, are.count);
-    each = λ i d c h. subst (λ ts. ((get_or ts i d).place ≡ i) × ((get_or ts i d).time ≡ (get_or columns i c).time)) (sym is) (elim (cases_lt i n) [
-      | inl m ↦ subst (λ (y : TimedColumn). (y.place ≡ i) × (y.time ≡ (get_or columns i c).time)) (sym (get_or-append made (t ∷ []) d i (omega (arith, m, are.count)))) (are.each i d c m)
-      | inr m ↦
-          let e : i ≡ n = omega (arith, h, m) in
-          let y : get_or (made ++ t ∷ []) i d ≡ t = ap (λ j. get_or (made ++ t ∷ []) j d) (e ∙ sym are.count) ∙ get_or-append_seam made t [] d in
-          subst (λ (z : TimedColumn). (z.place ≡ i) × (z.time ≡ (get_or columns i c).time)) (sym y)
-          (place ∙ sym e, time ∙ ap (λ (z : Column). z.time) (at ∙ get_or_default columns n x c l ∙ ap (λ j. get_or columns j c) (sym e)))
-    ]);
+    each = λ i d c h. subst (λ ts. ((get_or ts i d).place ≡ i) × ((get_or ts i d).time ≡ (get_or columns i c).time))
+        (sym is) (elim (cases_lt i n) [
+          | inl m ↦ subst (λ (y : TimedColumn). (y.place ≡ i) × (y.time ≡ (get_or columns i c).time))
+              (sym (get_or-append made (t ∷ []) d i (omega (arith, m, are.count)))) (are.each i d c m)
+          | inr m ↦
+              let e : i ≡ n = omega (arith, h, m) in
+              let y : get_or (made ++ t ∷ []) i d ≡ t =
+              ap (λ j. get_or (made ++ t ∷ []) j d) (e ∙ sym are.count) ∙ get_or-append_seam made t [] d in
+              subst (λ (z : TimedColumn). (z.place ≡ i) × (z.time ≡ (get_or columns i c).time)) (sym y) (
+                place ∙ sym e,
+                time ∙ ap (λ (z : Column). z.time)
+                    (at ∙ get_or_default columns n x c l ∙ ap (λ j. get_or columns j c) (sym e)),
+              )
+        ]);
   }
 
-  pub time_order : (made sorted : List TimedColumn) → AreTimes columns (length columns) made → IsPermutation made sorted → IsNonDecreasingBy (λ (t : TimedColumn). t.time) sorted
+  pub time_order : (made sorted : List TimedColumn) → AreTimes columns (length columns) made →
+      IsPermutation made sorted →
+      IsNonDecreasingBy (λ (t : TimedColumn). t.time) sorted
       → IsTimeOrder columns sorted
   time_order made sorted are same up = record {
     rising = λ i j d h l. up i j d h l;
     each = λ i d c l.
         let x = get_or sorted i d in
-        let r = Contains-permutation sorted made x (IsPermutation-sym made sorted same) (Contains-get_or sorted i d l) in
+        let r =
+        Contains-permutation sorted made x (IsPermutation-sym made sorted same) (Contains-get_or sorted i d l) in
         let e = are.each r.0 x c (omega (arith, r.1, are.count)) in
-        let place : x.place ≡ r.0 = ap (λ (t : TimedColumn). t.place) (sym r.2) ∙ e.0 in
-        (omega (arith, place, r.1, are.count), ap (λ (k : ℕ). (get_or columns k c).time) place ∙ sym e.1 ∙ ap (λ (t : TimedColumn). t.time) r.2);
+        let place : x.place ≡ r.0 = ap (λ (t : TimedColumn). t.place) (sym r.2) ∙ e.0 in (
+          omega (arith, place, r.1, are.count),
+          ap (λ (k : ℕ). (get_or columns k c).time) place ∙ sym e.1 ∙ ap (λ (t : TimedColumn). t.time) r.2,
+        );
     all = λ k c l.
         let blank : TimedColumn = record { time = 0; place = 0 } in
         let y = get_or made k blank in
         let e = are.each k blank c l in
-        let r = Contains-permutation made sorted y same (Contains-get_or made k blank (omega (arith, l, are.count))) in (
+        let r =
+        Contains-permutation made sorted y same (Contains-get_or made k blank (omega (arith, l, are.count))) in (
           r.0,
           r.1,
           λ d.
@@ -86,14 +113,21 @@ module _ (columns : List Column) where
   }
 
 -- one more is passed
-pub passed_more : (columns : List Column) (by_time : List TimedColumn) (time : ℕ) (s : Scenario) (first at : ℕ) → ArePassed columns by_time time s first at → (x : TimedColumn) → at < length by_time →
+pub passed_more : (columns : List Column) (by_time : List TimedColumn) (time : ℕ) (s : Scenario) (first at : ℕ) →
+    ArePassed columns by_time time s first at → (x : TimedColumn) →
+    at < length by_time →
     (get_or by_time at x).time ≡ time → (y : Column)
-    → (get_or by_time at x).place < length columns → y ≡ get_or columns (get_or by_time at x).place y → matches y.cube s ≡ false → ArePassed columns by_time time s first (at + 1)
+    → (get_or by_time at x).place < length columns → y ≡ get_or columns (get_or by_time at x).place y →
+    matches y.cube s ≡ false → ArePassed columns by_time time s first (at + 1)
 passed_more columns by_time time s first at passed x l same y inside is off i d c h k = elim (cases_lt i at) [
   | inl m ↦ passed i d c h m
   | inr m ↦
       let e : at ≡ i = omega (arith, k, m) in
-      let t : get_or by_time at x ≡ get_or by_time i d = get_or_default by_time at x d l ∙ ap (λ j. get_or by_time j d) e in
-      subst (λ (z : TimedColumn). (z.time ≡ time) × (matches (get_or columns z.place c).cube s ≡ false)) t
-      (same, subst (λ (z : Column). matches z.cube s ≡ false) (is ∙ get_or_default columns (get_or by_time at x).place y c inside) off)
+      let t : get_or by_time at x ≡ get_or by_time i d =
+      get_or_default by_time at x d l ∙ ap (λ j. get_or by_time j d) e in
+      subst (λ (z : TimedColumn). (z.time ≡ time) × (matches (get_or columns z.place c).cube s ≡ false)) t (
+        same,
+        subst (λ (z : Column). matches z.cube s ≡ false)
+            (is ∙ get_or_default columns (get_or by_time at x).place y c inside) off,
+      )
 ]

@@ -1,11 +1,13 @@
 -- What the column that matches tells, and cubes that are narrowed by one list of literals after another.
-use Rattle.std.proofs.Common.{◌≡◌, ◌≢◌, ◌∙◌, ℕ, ◌+◌, ◌<◌, ◌≤◌, true, false, List, [], ◌∷◌, ◌++◌, length, get_or, take, map, filter, flat_map, Contains, arith, refl, sym, ap, subst, eq-eqb, ne_eqb}
+use Rattle.std.proofs.Common.{◌≡◌, ◌≢◌, ◌∙◌, ℕ, ◌+◌, ◌<◌, ◌≤◌, true, false, List, [], ◌∷◌, ◌++◌, length, get_or, take}
+use Rattle.std.proofs.Common.{map, filter, flat_map, Contains, arith, refl, sym, ap, subst, eq-eqb, ne_eqb}
 use Rattle.std.proofs.lemmas.Bool.{both_ways, cond-true, cond-false}
 use Rattle.std.proofs.lemmas.Grind.{flat_map-append}
 use Rattle.std.proofs.lemmas.List.{append-nil, length-map, map_more, take_more}
 use Rattle.std.proofs.lemmas.List.Elements.{All-contains}
 use Rattle.cpg_base.specs.Graph.{Graph, node_of, process_of, is_message, message_item, broadcast_item}
-use Rattle.cpg_base.proofs.Lists.{Contains-first, Contains-map, Contains-map_parts, Contains-filter, Contains-filter_parts, Contains-flat_map, Contains-flat_map_parts}
+use Rattle.cpg_base.proofs.Lists.{Contains-first, Contains-map, Contains-map_parts, Contains-filter}
+use Rattle.cpg_base.proofs.Lists.{Contains-filter_parts, Contains-flat_map, Contains-flat_map_parts}
 use Rattle.cpg_base.specs.Scenario.{Scenario}
 use Rattle.cpg_cube.specs.Cube.{matches}
 use Rattle.cpg_base.specs.Variable.{top}
@@ -26,47 +28,63 @@ no_element f (x ∷ xs) e = absurd (omega (arith, ap length e))
 
 module _ (columns : List Column) (s : Scenario) where
   pub told_none : times_in columns s ≡ [] → carried_in_columns columns s ≡ []
-  told_none e = ap (flat_map (λ (c : Column). c.cube)) (no_element (λ (c : Column). c.time) (filter (λ (c : Column). matches c.cube s) columns) e)
+  told_none e = ap (flat_map (λ (c : Column). c.cube))
+      (no_element (λ (c : Column). c.time) (filter (λ (c : Column). matches c.cube s) columns) e)
 
-  pub told_highs : (k : ℕ) → AreWithin k columns → (l : Literal) → Contains (carried_in_columns columns s) l → l.high ≤ top k l.variable
+  pub told_highs : (k : ℕ) → AreWithin k columns → (l : Literal) → Contains (carried_in_columns columns s) l →
+      l.high ≤ top k l.variable
   told_highs k within l j =
-      let r = Contains-flat_map_parts (λ (c : Column). c.cube) (filter (λ (c : Column). matches c.cube s) columns) l j in
+      let r =
+      Contains-flat_map_parts (λ (c : Column). c.cube) (filter (λ (c : Column). matches c.cube s) columns) l j in
       let q = Contains-filter_parts (λ (c : Column). matches c.cube s) columns r.0 r.1 in
       All-contains (λ (m : Literal). m.high ≤ top k m.variable) r.0.cube l
-      (All-contains (λ (c : Column). (i : ℕ) (d : Literal) → i < length c.cube → (get_or c.cube i d).high ≤ top k (get_or c.cube i d).variable) columns r.0 within q.0) r.2
+      (All-contains (λ (c : Column). (i : ℕ) (d : Literal) → i < length c.cube →
+      (get_or c.cube i d).high ≤ top k (get_or c.cube i d).variable) columns r.0 within q.0) r.2
 
   module _ (time : ℕ) (one : times_in columns s ≡ time ∷ []) where
-    pub told_found : (i : ℕ) (c : Column) → i < length columns → c ≡ get_or columns i c → matches c.cube s ≡ true → carried_in_columns columns s ≡ c.cube
+    pub told_found : (i : ℕ) (c : Column) → i < length columns → c ≡ get_or columns i c → matches c.cube s ≡ true →
+        carried_in_columns columns s ≡ c.cube
     told_found i c l is hit =
         let f = filter (λ (c : Column). matches c.cube s) columns in
         let k = Contains-filter (λ (c : Column). matches c.cube s) columns c hit (i, l, sym is) in
-        ap (flat_map (λ (c : Column). c.cube)) (the_one f c (omega (arith, length-map f (λ (c : Column). c.time), ap length one)) k) ∙ append-nil c.cube
+        ap (flat_map (λ (c : Column). c.cube))
+        (the_one f c (omega (arith, length-map f (λ (c : Column). c.time), ap length one)) k) ∙ append-nil c.cube
 
-    pub told_missing : ((k : ℕ) (c : Column) → k < length columns → (get_or columns k c).time ≡ time → matches (get_or columns k c).cube s ≡ false) → ⊥
+    pub told_missing : ((k : ℕ) (c : Column) → k < length columns → (get_or columns k c).time ≡ time →
+        matches (get_or columns k c).cube s ≡ false) → ⊥
     told_missing none =
-        let r = Contains-map_parts (λ (c : Column). c.time) (filter (λ (c : Column). matches c.cube s) columns) time (subst (λ ts. Contains ts time) (sym one) (Contains-first time [])) in
+        let r = Contains-map_parts (λ (c : Column). c.time) (filter (λ (c : Column). matches c.cube s) columns) time
+        (subst (λ ts. Contains ts time) (sym one) (Contains-first time [])) in
         let q = Contains-filter_parts (λ (c : Column). matches c.cube s) columns r.0 r.1 in
         let at : get_or columns q.0.0 r.0 ≡ r.0 = q.0.2 in
-        both_ways (matches r.0.cube s) (subst (λ (c : Column). matches c.cube s ≡ false) at (none q.0.0 r.0 q.0.1 (ap (λ (c : Column). c.time) at ∙ r.2))) q.1
+        both_ways (matches r.0.cube s) (subst (λ (c : Column). matches c.cube s ≡ false) at
+        (none q.0.0 r.0 q.0.1 (ap (λ (c : Column). c.time) at ∙ r.2))) q.1
 
 -- ---- narrowing by one list after another
 
 module _ (k : ℕ) (a b c : List Literal) where
-  pub narrowed_map : (f : ℕ → Literal) (xs : List ℕ) (i d : ℕ) → i < length xs → IsNarrowed k (map f (take i xs)) a b → IsNarrowed k (f (get_or xs i d) ∷ []) b c →
+  pub narrowed_map : (f : ℕ → Literal) (xs : List ℕ) (i d : ℕ) → i < length xs → IsNarrowed k (map f (take i xs)) a b →
+      IsNarrowed k (f (get_or xs i d) ∷ []) b c →
       IsNarrowed k (map f (take (i + 1) xs)) a c
-  narrowed_map f xs i d l first then = subst (λ ls. IsNarrowed k ls a c) (sym (map_more f xs i d l)) (narrowed_then k (map f (take i xs)) (f (get_or xs i d) ∷ []) a b c first then)
+  narrowed_map f xs i d l first then = subst (λ ls. IsNarrowed k ls a c) (sym (map_more f xs i d l))
+      (narrowed_then k (map f (take i xs)) (f (get_or xs i d) ∷ []) a b c first then)
 
-  pub narrowed_flat_map : (f : ℕ → List Literal) (xs : List ℕ) (i d : ℕ) → i < length xs → IsNarrowed k (flat_map f (take i xs)) a b → IsNarrowed k (f (get_or xs i d)) b c →
+  pub narrowed_flat_map : (f : ℕ → List Literal) (xs : List ℕ) (i d : ℕ) → i < length xs →
+      IsNarrowed k (flat_map f (take i xs)) a b →
+      IsNarrowed k (f (get_or xs i d)) b c →
       IsNarrowed k (flat_map f (take (i + 1) xs)) a c
   narrowed_flat_map f xs i d l first then =
-      let e : flat_map f (take (i + 1) xs) ≡ flat_map f (take i xs) ++ f (get_or xs i d) = ap (flat_map f) (take_more xs i d l) ∙ flat_map-append f (take i xs) (get_or xs i d ∷ [])
+      let e : flat_map f (take (i + 1) xs) ≡ flat_map f (take i xs) ++ f (get_or xs i d) =
+      ap (flat_map f) (take_more xs i d l) ∙ flat_map-append f (take i xs) (get_or xs i d ∷ [])
       ∙ ap (λ z. flat_map f (take i xs) ++ z) (append-nil (f (get_or xs i d))) in
-      subst (λ ls. IsNarrowed k ls a c) (sym e) (narrowed_then k (flat_map f (take i xs)) (f (get_or xs i d)) a b c first then)
+      subst (λ ls. IsNarrowed k ls a c) (sym e)
+      (narrowed_then k (flat_map f (take i xs)) (f (get_or xs i d)) a b c first then)
 
 -- lists over the same elements
 module _ (xs ys : List ℕ) (to : (x : ℕ) → Contains xs x → Contains ys x) where
   pub within_map : (f : ℕ → Literal) → Within (map f xs) (map f ys)
-  within_map f l j = let r = Contains-map_parts f xs l j in subst (Contains (map f ys)) r.2 (Contains-map f ys r.0 (to r.0 r.1))
+  within_map f l j = let r = Contains-map_parts f xs l j in
+      subst (Contains (map f ys)) r.2 (Contains-map f ys r.0 (to r.0 r.1))
 
   pub within_flat_map : (f : ℕ → List Literal) → Within (flat_map f xs) (flat_map f ys)
   within_flat_map f l j = let r = Contains-flat_map_parts f xs l j in Contains-flat_map f ys r.0 l (to r.0 r.1) r.2

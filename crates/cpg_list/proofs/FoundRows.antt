@@ -10,7 +10,9 @@ use Rattle.cpg_run.specs.RowLaws.{IsTimed}
 use Rattle.cpg_run.specs.Rows.{AreRows}
 use Rattle.cpg_run.proofs.ListedRows.{listed_rows_carry}
 
-pub found_rows : (g : Graph) (urgency order : List ℕ) (frozen : List (Option ℕ)) (rows : List Row) → IsTimed g urgency order frozen → AreEarly frozen → items_of rows ≡ numbers_below (item_count g) →
+pub found_rows : (g : Graph) (urgency order : List ℕ) (frozen : List (Option ℕ)) (rows : List Row) →
+    IsTimed g urgency order frozen → AreEarly frozen →
+    items_of rows ≡ numbers_below (item_count g) →
     AreRows g urgency order frozen (columns_of_rows rows) → AreRowsFound g urgency order frozen rows
 found_rows g urgency order frozen rows timed early items are = record {
   frozen_times = timed.frozen_times;

@@ -21,7 +21,8 @@ Tells g frames x = RowTells g (rows_in frames) frames.scenario.now frames.times.
 
 -- the row of each broadcast of a condition that decides a process has the times of the run
 abbrev pub TellsDeciding : Graph → Frames → ℕ → Type 0
-TellsDeciding g frames p = (c : ℕ) → Contains (deciding g frames.scenario.now.values p) c → Tells g frames (broadcast_item g c)
+TellsDeciding g frames p =
+    (c : ℕ) → Contains (deciding g frames.scenario.now.values p) c → Tells g frames (broadcast_item g c)
 
 -- the row of each message to a process has the times of the run
 abbrev pub TellsInputs : Graph → Frames → ℕ → Type 0
@@ -53,17 +54,20 @@ IsNarrowedIn frames literals old new = IsNarrowed frames.problem.now.faults lite
 
 -- what was carried before and what decides a process stand in a cube
 abbrev pub HasDecided : Frames → ℕ → List Literal → List Literal → Type 0
-HasDecided frames p earlier cube = IsCubeOf frames.problem.now.faults (earlier ++ decided frames.problem.now frames.scenario.now p ++ heard_at frames p) cube
+HasDecided frames p earlier cube = IsCubeOf frames.problem.now.faults
+    (earlier ++ decided frames.problem.now frames.scenario.now p ++ heard_at frames p) cube
 
 -- the entry at a start, after what was carried before
 abbrev pub IsStartOf : Frames → ℕ → ℕ → List Literal → Option Column → Type 0
 IsStartOf frames time p earlier entry =
-    IsKeptOf frames.problem.now frames.scenario.now time (start_after frames.problem.now (rows_in frames) frames.scenario.now p earlier) entry
+    IsKeptOf frames.problem.now frames.scenario.now time
+    (start_after frames.problem.now (rows_in frames) frames.scenario.now p earlier) entry
 
 -- at the time of the run, if there is one
 abbrev pub IsStartIn : Graph → Frames → ℕ → List Literal → Option Column → Type 0
 IsStartIn g frames p earlier entry =
-    IsKeptAt g frames.scenario.now (get_or frames.times.now.times p None) (start_after g (rows_in frames) frames.scenario.now p earlier) entry
+    IsKeptAt g frames.scenario.now (get_or frames.times.now.times p None)
+    (start_after g (rows_in frames) frames.scenario.now p earlier) entry
 
 -- a cube is narrowed by what a process leaves to those after it
 abbrev pub IsPassedIn : Graph → Frames → ℕ → List Literal → List Literal → Type 0

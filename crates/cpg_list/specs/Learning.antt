@@ -1,7 +1,9 @@
 -- What a cube is narrowed by in a scenario: what frames tell, and what decides a process.
-use Rattle.std.specs.Prelude.{ℕ, ◌≡◌, ◌<◌, ◌==◌, ◌&&◌, ◌++◌, not, false, true, is_some, if◌then◌else◌, List, [], ◌∷◌, Option, None, Some, length, get_or, Contains}
+use Rattle.std.specs.Prelude.{ℕ, ◌≡◌, ◌<◌, ◌==◌, ◌&&◌, ◌++◌, not, false, true, is_some, if◌then◌else◌, List, [], ◌∷◌}
+use Rattle.std.specs.Prelude.{Option, None, Some, length, get_or, Contains}
 use Rattle.std.specs.Option.{option_to_list}
-use Rattle.cpg_base.specs.Graph.{Graph, condition_count, value_variable, item_count, item_at, node_of, producer, process_at, process_of, is_frozen, is_message, message_item, broadcast_item}
+use Rattle.cpg_base.specs.Graph.{Graph, condition_count, value_variable, item_count, item_at, node_of, producer}
+use Rattle.cpg_base.specs.Graph.{process_at, process_of, is_frozen, is_message, message_item, broadcast_item}
 use Rattle.cpg_base.specs.Activity.{active, item_active}
 use Rattle.cpg_order.specs.Deciding.{deciding}
 use Rattle.cpg_order.specs.Reach.{sent_value}
@@ -22,7 +24,8 @@ pub record RowTells (g : Graph) (rows : List (List Column)) (s : Scenario) (t : 
 
 -- each item from an earlier process than this has such a row
 abbrev pub EarlierTell : Graph → List ℕ → List (List Column) → Scenario → Times → ℕ → Type 0
-EarlierTell g order rows s t p = (x : ℕ) → x < item_count g → place order (producer g x) < place order p → RowTells g rows s t x
+EarlierTell g order rows s t p =
+    (x : ℕ) → x < item_count g → place order (producer g x) < place order p → RowTells g rows s t x
 
 -- the conditions are those that decide a process, in any order
 pub record AreDeciding (g : Graph) (s : Scenario) (p : ℕ) (conditions : List ℕ) : Type 0 where
@@ -39,11 +42,13 @@ received_by g rows s e = if is_message g e then carried_by_row rows s (message_i
 
 -- what is carried beside a start, if these literals were carried before
 abbrev pub start_after : Graph → List (List Column) → Scenario → ℕ → List Literal → List Literal
-start_after g rows s p earlier = if (process_at g p).frozen then decided g s p else earlier ++ decided g s p ++ heard g rows s p ++ received g rows s p
+start_after g rows s p earlier = if (process_at g p).frozen then decided g s p
+    else earlier ++ decided g s p ++ heard g rows s p ++ received g rows s p
 
 -- what is carried beside a send, if these literals are left by the queue and carried at the end of the producer
 abbrev pub send_after : Graph → Scenario → ℕ → List Literal → List Literal → List Literal
-send_after g s x queue ends = (if is_frozen g x then decided g s (producer g x) else queue ++ ends) ++ sent_by_value g s x
+send_after g s x queue ends =
+    (if is_frozen g x then decided g s (producer g x) else queue ++ ends) ++ sent_by_value g s x
 
 -- what an item leaves to those behind it in the queue, if these literals are carried at the end of the producer
 abbrev pub queued_after : Graph → Scenario → ℕ → List Literal → List Literal

@@ -16,7 +16,8 @@ use Rattle.cpg_run.specs.Run.{Times, IsRun}
 use Rattle.cpg_run.specs.Rows.{AreEntriesOf}
 use Rattle.cpg_list.specs.Learning.{EarlierTell}
 use Rattle.cpg_all_runs.specs.Listing.{AreScenarios}
-use Rattle.cpg_list.specs.Made.{AreCarried, AreCubesOf, AreEndsOf, AreMade, IsBefore, IsStarted, passed_by, queued_by, sent_before}
+use Rattle.cpg_list.specs.Made.{AreCarried, AreCubesOf, AreEndsOf, AreMade, IsBefore, IsStarted, passed_by, queued_by}
+use Rattle.cpg_list.specs.Made.{sent_before}
 use Rattle.cpg_all_runs.specs.Runs.{AreRuns}
 use Rattle.cpg_list.specs.declared.scenario_runs.Listed.{Listed}
 
@@ -33,7 +34,8 @@ pub record IsListed (listed : Listed) : Type 0 where
 
 -- the rows of these items are made
 abbrev pub HasMade : Listed → (ℕ → Type 0) → List Row → Type 0
-HasMade listed made rows = AreMade (graph_of listed) listed.admitted.now.order listed.order.now listed.frozen.now made rows
+HasMade listed made rows =
+    AreMade (graph_of listed) listed.admitted.now.order listed.order.now listed.frozen.now made rows
 
 -- the rows of the items from processes before the place i are made
 abbrev pub HasMadeBefore : Listed → ℕ → List Row → Type 0
@@ -46,11 +48,13 @@ HasMadeStart listed p rows = HasMade listed (IsStarted (graph_of listed) listed.
 -- rows of items from processes before a process stay
 abbrev pub KeepsEarlier : Listed → ℕ → List Row → List Row → Type 0
 KeepsEarlier listed p old new =
-    SameRowsBefore (graph_of listed) listed.order.now (place listed.order.now p) (columns_of_rows old) (columns_of_rows new)
+    SameRowsBefore (graph_of listed) listed.order.now (place listed.order.now p) (columns_of_rows old)
+    (columns_of_rows new)
 
 -- what each node carries on before the place i, and what stands in its queue
 abbrev pub Carries : Listed → List Row → ℕ → List (List (List Literal)) → List (List (List Literal)) → Type 0
-Carries listed rows i known sent = AreCarried (graph_of listed) listed.order.now (columns_of_rows rows) listed.scenarios.now i known sent
+Carries listed rows i known sent =
+    AreCarried (graph_of listed) listed.order.now (columns_of_rows rows) listed.scenarios.now i known sent
 
 -- what the node of a process carries on from the processes before it
 abbrev pub HasPassed : Listed → List Row → ℕ → List (List Literal) → Type 0
@@ -62,36 +66,43 @@ HasPassed listed rows p cubes =
 abbrev pub HasPassedBy : Listed → List Row → ℕ → List (List Literal) → Type 0
 HasPassedBy listed rows p cubes =
     AreCubesOf (graph_of listed).faults listed.scenarios.now
-    (passed_by (graph_of listed) (columns_of_rows rows) (before_on_node (graph_of listed) listed.order.now p ++ p ∷ [])) cubes
+    (passed_by (graph_of listed) (columns_of_rows rows) (before_on_node (graph_of listed) listed.order.now p ++ p ∷ []))
+    cubes
 
 -- what stands in the queue of a process's node for the processes before the place i
 abbrev pub HasQueued : Listed → List Row → ℕ → ℕ → List (List Literal) → Type 0
 HasQueued listed rows p i cubes =
     AreCubesOf (graph_of listed).faults listed.scenarios.now
-    (queued_by (graph_of listed) listed.order.now (columns_of_rows rows) (sent_before (graph_of listed) listed.order.now (node_of (graph_of listed) p) i)) cubes
+    (queued_by (graph_of listed) listed.order.now (columns_of_rows rows)
+    (sent_before (graph_of listed) listed.order.now (node_of (graph_of listed) p) i)) cubes
 
 -- what stands in the queue before an item
 abbrev pub HasQueuedBefore : Listed → List Row → ℕ → List (List Literal) → Type 0
 HasQueuedBefore listed rows x cubes =
     AreCubesOf (graph_of listed).faults listed.scenarios.now
-    (queued_by (graph_of listed) listed.order.now (columns_of_rows rows) (queued_before (graph_of listed) listed.order.now x)) cubes
+    (queued_by (graph_of listed) listed.order.now (columns_of_rows rows)
+    (queued_before (graph_of listed) listed.order.now x)) cubes
 
 -- what stands in the queue before an item, and the item
 abbrev pub HasQueuedBy : Listed → List Row → ℕ → List (List Literal) → Type 0
 HasQueuedBy listed rows x cubes =
     AreCubesOf (graph_of listed).faults listed.scenarios.now
-    (queued_by (graph_of listed) listed.order.now (columns_of_rows rows) (queued_before (graph_of listed) listed.order.now x ++ x ∷ [])) cubes
+    (queued_by (graph_of listed) listed.order.now (columns_of_rows rows)
+    (queued_before (graph_of listed) listed.order.now x ++ x ∷ [])) cubes
 
 -- what is carried at the ends of a process
 abbrev pub HasEnds : Listed → List Row → ℕ → List (List Literal) → Type 0
-HasEnds listed rows p cubes = AreEndsOf (graph_of listed) listed.order.now (columns_of_rows rows) listed.scenarios.now p cubes
+HasEnds listed rows p cubes =
+    AreEndsOf (graph_of listed) listed.order.now (columns_of_rows rows) listed.scenarios.now p cubes
 
 -- the rows tell what a process hears and receives
 abbrev pub RowsTell : Listed → List Row → ℕ → Type 0
 RowsTell listed rows p =
-    (s : Scenario) (t : Times) → IsScenario (graph_of listed) s → IsRun (graph_of listed) listed.order.now listed.frozen.now s t
+    (s : Scenario) (t : Times) → IsScenario (graph_of listed) s →
+    IsRun (graph_of listed) listed.order.now listed.frozen.now s t
     → EarlierTell (graph_of listed) listed.order.now (columns_of_rows rows) s t p
 
 -- the entries of an item, by these rows
 abbrev pub HasEntries : Listed → List Row → ℕ → List Column → Type 0
-HasEntries listed rows x entries = AreEntriesOf (graph_of listed) listed.order.now listed.frozen.now (columns_of_rows rows) x entries
+HasEntries listed rows x entries =
+    AreEntriesOf (graph_of listed) listed.order.now listed.frozen.now (columns_of_rows rows) x entries

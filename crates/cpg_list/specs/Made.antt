@@ -1,6 +1,7 @@
--- What is made before the process at a place of the order: the rows of earlier items, and by node and scenario a cube of
--- what is carried on.
-use Rattle.std.specs.Prelude.{ℕ, ◌≡◌, ◌<◌, ◌≤◌, ◌⊎◌, ◌&&◌, ◌==◌, nat_lt, true, List, [], Option, length, filter, take, get_or, slice_set, Contains}
+-- What is made before the process at a place of the order: the rows of earlier items, and by node and scenario a cube
+-- of what is carried on.
+use Rattle.std.specs.Prelude.{ℕ, ◌≡◌, ◌<◌, ◌≤◌, ◌⊎◌, ◌&&◌, ◌==◌, nat_lt, true, List, [], Option, length, filter, take}
+use Rattle.std.specs.Prelude.{get_or, slice_set, Contains}
 use Rattle.std.specs.List.{flat_map}
 use Rattle.cpg_base.specs.Numbers.{numbers_below}
 use Rattle.cpg_base.specs.Activity.{active}
@@ -18,15 +19,20 @@ use Rattle.cpg_run.specs.Found.{columns_of_rows}
 use Rattle.cpg_run.specs.Rows.{IsCubeOf, IsRowOf}
 
 -- for each scenario the cube of its literals
-pub record AreCubesOf (k : ℕ) (scenarios : List Scenario) (literals : Scenario → List Literal) (cubes : List (List Literal)) : Type 0 where
+pub record AreCubesOf (k : ℕ) (scenarios : List Scenario) (literals : Scenario → List Literal)
+    (cubes : List (List Literal)) : Type 0 where
   pub count : length cubes ≡ length scenarios
-  pub each : (i : ℕ) (s : Scenario) → i < length scenarios → IsCubeOf k (literals (get_or scenarios i s)) (get_or cubes i [])
+  pub each : (i : ℕ) (s : Scenario) → i < length scenarios →
+      IsCubeOf k (literals (get_or scenarios i s)) (get_or cubes i [])
 
 -- for each of the first n scenarios the cube of its literals, and for each other one the cube of its literals before
-pub record AreCubesUpTo (k : ℕ) (scenarios : List Scenario) (before literals : Scenario → List Literal) (n : ℕ) (cubes : List (List Literal)) : Type 0 where
+pub record AreCubesUpTo (k : ℕ) (scenarios : List Scenario) (before literals : Scenario → List Literal) (n : ℕ)
+    (cubes : List (List Literal)) : Type 0 where
   pub count : length cubes ≡ length scenarios
-  pub done : (i : ℕ) (s : Scenario) → i < n → i < length scenarios → IsCubeOf k (literals (get_or scenarios i s)) (get_or cubes i [])
-  pub rest : (i : ℕ) (s : Scenario) → n ≤ i → i < length scenarios → IsCubeOf k (before (get_or scenarios i s)) (get_or cubes i [])
+  pub done : (i : ℕ) (s : Scenario) → i < n → i < length scenarios →
+      IsCubeOf k (literals (get_or scenarios i s)) (get_or cubes i [])
+  pub rest : (i : ℕ) (s : Scenario) → n ≤ i → i < length scenarios →
+      IsCubeOf k (before (get_or scenarios i s)) (get_or cubes i [])
 
 -- what some processes leave to those after them on their node
 abbrev pub passed_by : Graph → List (List Column) → List ℕ → Scenario → List Literal
@@ -42,15 +48,19 @@ node_before g order node i = filter (λ q. node_of g q == node) (take i order)
 
 -- what a node sends for its processes before the place i
 abbrev pub sent_before : Graph → List ℕ → ℕ → ℕ → List ℕ
-sent_before g order node i = filter (λ y. is_sent g y && (home g y == node) && nat_lt (place order (producer g y)) i) (numbers_below (item_count g))
+sent_before g order node i = filter (λ y. is_sent g y && (home g y == node) && nat_lt (place order (producer g y)) i)
+    (numbers_below (item_count g))
 
--- for each node and scenario the cube of what its processes before the place i carry on, and of what stands in its queue
+-- for each node and scenario the cube of what its processes before the place i carry on, and of what stands in its
+-- queue
 pub record AreCarried (g : Graph) (order : List ℕ) (rows : List (List Column)) (scenarios : List Scenario) (i : ℕ)
     (known sent : List (List (List Literal))) : Type 0 where
   pub known_count : length known ≡ length g.nodes
   pub sent_count : length sent ≡ length g.nodes
-  pub carries : (node : ℕ) → node < length g.nodes → AreCubesOf g.faults scenarios (passed_by g rows (node_before g order node i)) (get_or known node [])
-  pub queues : (node : ℕ) → node < length g.nodes → AreCubesOf g.faults scenarios (queued_by g order rows (sent_before g order node i)) (get_or sent node [])
+  pub carries : (node : ℕ) → node < length g.nodes →
+      AreCubesOf g.faults scenarios (passed_by g rows (node_before g order node i)) (get_or known node [])
+  pub queues : (node : ℕ) → node < length g.nodes →
+      AreCubesOf g.faults scenarios (queued_by g order rows (sent_before g order node i)) (get_or sent node [])
 
 -- an item from a process before the place i
 abbrev pub IsBefore : Graph → List ℕ → ℕ → ℕ → Type 0
@@ -65,7 +75,8 @@ abbrev pub IsSent : Graph → List ℕ → ℕ → ℕ → ℕ → Type 0
 IsSent g order p n x = IsStarted g order p x ⊎ Contains (take n (queue_of g p)) x
 
 -- a row for each item; the items that are made have theirs, and the others have no column yet
-pub record AreMade (g : Graph) (urgency order : List ℕ) (frozen : List (Option ℕ)) (made : ℕ → Type 0) (rows : List Row) : Type 0 where
+pub record AreMade (g : Graph) (urgency order : List ℕ) (frozen : List (Option ℕ)) (made : ℕ → Type 0)
+    (rows : List Row) : Type 0 where
   pub items : items_of rows ≡ numbers_below (item_count g)
   pub each : (x : ℕ) → x < item_count g → made x → IsRowOf g urgency order frozen (columns_of_rows rows) x
   pub none : (x : ℕ) → (made x → ⊥) → row_at (columns_of_rows rows) x ≡ []
@@ -77,7 +88,8 @@ pub record IsRowSet (g : Graph) (urgency : List ℕ) (x : ℕ) (entries : List C
   pub set : new ≡ slice_set old x (record { item = x; columns = columns })
 
 -- for each scenario in which a process is active the cube of what is carried at its end
-pub record AreEndsOf (g : Graph) (order : List ℕ) (rows : List (List Column)) (scenarios : List Scenario) (p : ℕ) (cubes : List (List Literal)) : Type 0 where
+pub record AreEndsOf (g : Graph) (order : List ℕ) (rows : List (List Column)) (scenarios : List Scenario) (p : ℕ)
+    (cubes : List (List Literal)) : Type 0 where
   pub count : length cubes ≡ length scenarios
   pub each : (i : ℕ) (s : Scenario) → i < length scenarios → active g (get_or scenarios i s).values p ≡ true →
       IsCubeOf g.faults (carried_at_end g order rows (get_or scenarios i s) p) (get_or cubes i [])

@@ -1,5 +1,6 @@
 -- Cubes that are narrowed by what is learnt, and whether a scenario is the least of one.
-use Rattle.std.specs.Prelude.{ℕ, ◌≡◌, ◌≢◌, min, nat_lt, ◌==◌, if◌then◌else◌, List, [], ◌∷◌, ◌++◌, Option, None, Some, filter}
+use Rattle.std.specs.Prelude.{ℕ, ◌≡◌, ◌≢◌, min, nat_lt, ◌==◌, if◌then◌else◌, List, [], ◌∷◌, ◌++◌, Option, None, Some}
+use Rattle.std.specs.Prelude.{filter}
 use Rattle.std.specs.List.{flat_map}
 use Rattle.cpg_base.specs.Graph.{Graph}
 use Rattle.cpg_base.specs.Scenario.{Scenario}

@@ -1,5 +1,6 @@
 -- A follower along its stream.
-use Rattle.std.proofs.Common.{◌≡◌, ℕ, ◌+◌, ◌<◌, ◌≤◌, ◌-◌, ◌||◌, List, [], ◌∷◌, ◌++◌, true, false, true≢false, length, take, drop, Some, None, refl, sym, ap, ap₂, ◌∙◌, subst, arith}
+use Rattle.std.proofs.Common.{◌≡◌, ℕ, ◌+◌, ◌<◌, ◌≤◌, ◌-◌, ◌||◌, List, [], ◌∷◌, ◌++◌, true, false, true≢false, length}
+use Rattle.std.proofs.Common.{take, drop, Some, None, refl, sym, ap, ap₂, ◌∙◌, subst, arith}
 use Rattle.std.specs.Prelude.{IfErr, IfOk, Result, Ok, Err, MatchResult, OnErr, OnOk, is_err}
 use Rattle.std.proofs.lemmas.List.{length-append, length-drop, length-take, take_all}
 use Rattle.cpg_history.specs.Fetch.{Fetch, failed, gave, is_none}
@@ -18,14 +19,17 @@ use Rattle.cpg_live.specs.declared.following.Broken.TheVariants.{Shelf, Sink, Re
 use Rattle.cpg_live.specs.declared.following.StreamFault.TheVariants.{Lawless, Long}
 use Rattle.cpg_live.specs.declared.following.TheConstants.{STREAM_LIMIT}
 use Rattle.cpg_live.specs.Follower.{Follower, open_follower}
-use Rattle.cpg_live.specs.Following.{Breaks, Closes, Completes, IsAlong, IsAlongAt, IsOfSame, IsStreamed, Stream, TakesPiece}
+use Rattle.cpg_live.specs.Following.{Breaks, Closes, Completes, IsAlong, IsAlongAt, IsOfSame, IsStreamed, Stream}
+use Rattle.cpg_live.specs.Following.{TakesPiece}
 use Rattle.cpg_live.specs.Streams.{act_lines, closed_line, IsClosed, IsCutOff, IsRefused}
-use Rattle.cpg_live.proofs.Streams.{acts_more, closed, cut_closed, cut_off, lawless, lines_more, too_long, took_after, unclosed}
+use Rattle.cpg_live.proofs.Streams.{acts_more, closed, cut_closed, cut_off, lawless, lines_more, too_long, took_after}
+use Rattle.cpg_live.proofs.Streams.{unclosed}
 
 -- ---- a piece
 
 -- after a piece that was fed, whose lines aren't written
-pub record IsFed (name : List ℕ) (past rest : List Fetch) (start now : List ℕ) (h : Head) (table : NodeTable) (before : List Act) (from : ℕ) (read : ℕ) (live : LiveState) : Type 0 where
+pub record IsFed (name : List ℕ) (past rest : List Fetch) (start now : List ℕ) (h : Head) (table : NodeTable)
+    (before : List Act) (from : ℕ) (read : ℕ) (live : LiveState) : Type 0 where
   pub fetch : Fetch
   pub named : fetch.name ≡ name
   pub sound : fetch.failed ≡ false
@@ -36,16 +40,21 @@ pub record IsFed (name : List ℕ) (past rest : List Fetch) (start now : List �
   pub wrote : Took start now (act_lines h before)
   pub lines : act_lines h live.progress.acts ≡ act_lines h before ++ act_lines h (drop from live.progress.acts)
 
-acts_grow : (table : NodeTable) (fed piece : List ℕ) (s t : LiveState) → s ≡ after table fed → t ≡ after table (fed ++ piece) → Grows s.progress.acts t.progress.acts
+acts_grow : (table : NodeTable) (fed piece : List ℕ) (s t : LiveState) → s ≡ after table fed →
+    t ≡ after table (fed ++ piece) →
+    Grows s.progress.acts t.progress.acts
 acts_grow table fed piece s t e d =
     let g = acts_more table fed piece in
     (g.0, ap (λ (s : LiveState). s.progress.acts) d ∙ g.1 ∙ ap (λ (s : LiveState). s.progress.acts ++ g.0) (sym e))
 
 -- a fetch that gave a piece more
 abbrev pub grown_by : List ℕ → Fetch → Fetch
-grown_by piece f = record { name = f.name; given = f.given ++ piece; ended = is_none piece || f.ended; failed = f.failed }
+grown_by piece f =
+    record { name = f.name; given = f.given ++ piece; ended = is_none piece || f.ended; failed = f.failed }
 
-pub fed_on : (name : List ℕ) (past : List Fetch) (shelf rest : ShelfState) (count : ℕ) (start now : List ℕ) (f g : Follower) → IsAlong name past shelf.history start now f →
+pub fed_on : (name : List ℕ) (past : List Fetch) (shelf rest : ShelfState) (count : ℕ) (start now : List ℕ)
+    (f g : Follower) →
+    IsAlong name past shelf.history start now f →
     TakesPiece shelf rest f g count →
     IsFed name past rest.history start now f.head f.table f.live.progress.acts f.told g.read g.live
 fed_on name past shelf rest count start now f g a t =
@@ -62,7 +71,8 @@ fed_on name past shelf rest count start now f g a t =
       state = live;
       wrote = a.wrote;
       lines = lines_more f.head f.live.progress.acts grown.0 g.live.progress.acts grown.1 ∙
-          ap (λ n. act_lines f.head f.live.progress.acts ++ act_lines f.head (drop n g.live.progress.acts)) (sym a.all_told);
+          ap (λ n. act_lines f.head f.live.progress.acts ++ act_lines f.head (drop n g.live.progress.acts))
+          (sym a.all_told);
     }
 
 no_bytes : (piece : List ℕ) → length piece ≡ 0 → is_none piece ≡ true
@@ -70,33 +80,44 @@ no_bytes [] e = refl
 no_bytes (b ∷ bs) e = absurd (omega (arith, e))
 
 -- a piece of no bytes is the end
-pub fed_end : (name : List ℕ) (past : List Fetch) (shelf rest : ShelfState) (count : ℕ) (start now : List ℕ) (f g : Follower) (a : IsAlong name past shelf.history start now f)
-    (t : TakesPiece shelf rest f g count) → count ≡ 0 → (fed_on name past shelf rest count start now f g a t).fetch.ended ≡ true
+pub fed_end : (name : List ℕ) (past : List Fetch) (shelf rest : ShelfState) (count : ℕ) (start now : List ℕ)
+    (f g : Follower) (a : IsAlong name past shelf.history start now f)
+    (t : TakesPiece shelf rest f g count) → count ≡ 0 →
+    (fed_on name past shelf rest count start now f g a t).fetch.ended ≡ true
 unfolding fed_on
-fed_end name past shelf rest count start now f g a t none = ap (λ b. b || a.fetch.ended) (no_bytes t.piece (t.long ∙ none))
+fed_end name past shelf rest count start now f g a t none =
+    ap (λ b. b || a.fetch.ended) (no_bytes t.piece (t.long ∙ none))
 
-module _ (name : List ℕ) (past rest : List Fetch) (start now out : List ℕ) (h : Head) (table : NodeTable) (before : List Act) (from read : ℕ) (live : LiveState)
+module _ (name : List ℕ) (past rest : List Fetch) (start now out : List ℕ) (h : Head) (table : NodeTable)
+    (before : List Act) (from read : ℕ) (live : LiveState)
     (k : IsFed name past rest start now h table before from read live) where
   -- the lines of a state that is known
   same_lines : act_lines h (after table k.fetch.given).progress.acts ≡ act_lines h live.progress.acts
   same_lines = ap (λ (s : LiveState). act_lines h s.progress.acts) (sym k.state)
 
   -- all lines are written
-  pub wrote_all : Took now out (act_lines h (drop from live.progress.acts)) → Took start out (act_lines h live.progress.acts)
-  wrote_all whole = subst (Took start out) (sym k.lines) (Took-trans start now out (act_lines h before) (act_lines h (drop from live.progress.acts)) k.wrote whole)
+  pub wrote_all : Took now out (act_lines h (drop from live.progress.acts)) →
+      Took start out (act_lines h live.progress.acts)
+  wrote_all whole = subst (Took start out) (sym k.lines)
+      (Took-trans start now out (act_lines h before) (act_lines h (drop from live.progress.acts)) k.wrote whole)
 
   pub fed_cut : TookPrefix now out (act_lines h (drop from live.progress.acts)) → IsCutOff h table k.fetch start out
   fed_cut part = cut_off h table k.fetch k.sound k.few start out
-      (subst (TookPrefix start out) (sym (same_lines ∙ k.lines)) (took_after start now out (act_lines h before) (act_lines h (drop from live.progress.acts)) k.wrote part))
+      (subst (TookPrefix start out) (sym (same_lines ∙ k.lines))
+      (took_after start now out (act_lines h before) (act_lines h (drop from live.progress.acts)) k.wrote part))
 
-  pub fed_lawless : (bad : Bad) → live.bad ≡ Some bad → IsRefused h table k.fetch (Lawless bad) (act_lines h live.progress.acts)
-  fed_lawless bad e = subst (IsRefused h table k.fetch (Lawless bad)) same_lines (lawless h table k.fetch k.sound k.few bad (ap (λ (s : LiveState). s.bad) (sym k.state) ∙ e))
+  pub fed_lawless : (bad : Bad) → live.bad ≡ Some bad →
+      IsRefused h table k.fetch (Lawless bad) (act_lines h live.progress.acts)
+  fed_lawless bad e = subst (IsRefused h table k.fetch (Lawless bad)) same_lines
+      (lawless h table k.fetch k.sound k.few bad (ap (λ (s : LiveState). s.bad) (sym k.state) ∙ e))
 
   pub fed_long : live.bad ≡ None → STREAM_LIMIT < read → IsRefused h table k.fetch Long (act_lines h live.progress.acts)
-  fed_long e l = subst (IsRefused h table k.fetch Long) same_lines (too_long h table k.fetch k.sound k.few (ap (λ (s : LiveState). s.bad) (sym k.state) ∙ e) (omega (arith, l, k.long)))
+  fed_long e l = subst (IsRefused h table k.fetch Long) same_lines (too_long h table k.fetch k.sound k.few
+      (ap (λ (s : LiveState). s.bad) (sym k.state) ∙ e) (omega (arith, l, k.long)))
 
   pub fed_along : live.bad ≡ None → read ≤ STREAM_LIMIT → Took now out (act_lines h (drop from live.progress.acts)) →
-      IsAlong name past rest start out (record { head = h; table = table; live = live; told = length live.progress.acts; read = read })
+      IsAlong name past rest start out
+      (record { head = h; table = table; live = live; told = length live.progress.acts; read = read })
   fed_along e l whole = record {
     fetch = k.fetch;
     named = k.named;
@@ -128,10 +149,12 @@ rest_few told acts = omega (arith, length-take (length acts - told) (drop told a
 rest_is : (told : ℕ) (acts : List Act) → take (length acts - told) (drop told acts) ≡ drop told acts
 rest_is told acts = take_all (length acts - told) (drop told acts) (omega (arith, length-drop told acts))
 
-pub told_lines : (h k : Head) (acts done : List Act) (told : ℕ) (clear items : List ℕ) → items ≡ clear ++ act_lines k (take (length acts - told) (drop told acts)) → clear ≡ [] → k ≡ h → acts ≡ done →
+pub told_lines : (h k : Head) (acts done : List Act) (told : ℕ) (clear items : List ℕ) →
+    items ≡ clear ++ act_lines k (take (length acts - told) (drop told acts)) → clear ≡ [] → k ≡ h → acts ≡ done →
     items ≡ act_lines h (drop told done)
 told_lines h k acts done told clear items e none same a =
-    e ∙ ap (λ (front : List ℕ). front ++ act_lines k (take (length acts - told) (drop told acts))) none ∙ ap (act_lines k) (rest_is told acts) ∙
+    e ∙ ap (λ (front : List ℕ). front ++ act_lines k (take (length acts - told) (drop told acts))) none
+    ∙ ap (act_lines k) (rest_is told acts) ∙
     ap₂ (λ (h : Head) (acts : List Act). act_lines h (drop told acts)) same a
 
 -- the lines of the acts that aren't told are the same by the follower before a piece and after it
@@ -139,25 +162,42 @@ pub lines_told : (shelf rest : ShelfState) (f n : Follower) (count : ℕ) → Ta
     act_lines n.head (drop n.told n.live.progress.acts) ≡ act_lines f.head (drop f.told n.live.progress.acts)
 lines_told shelf rest f n count t = ap (λ (f : Follower). act_lines f.head (drop f.told n.live.progress.acts)) t.state
 
-pub told_as : (shelf rest : ShelfState) (f n s : Follower) (count : ℕ) → TakesPiece shelf rest f n count → s ≡ record n { told = length n.live.progress.acts } →
+pub told_as : (shelf rest : ShelfState) (f n s : Follower) (count : ℕ) → TakesPiece shelf rest f n count →
+    s ≡ record n { told = length n.live.progress.acts } →
     record { head = f.head; table = f.table; live = n.live; told = length n.live.progress.acts; read = n.read } ≡ s
-told_as shelf rest f n s count t e = sym (e ∙ ap (λ (f : Follower). record { head = f.head; table = f.table; live = n.live; told = length n.live.progress.acts; read = n.read }) t.state)
+told_as shelf rest f n s count t e = sym (e ∙ ap (λ (f : Follower). record {
+  head = f.head;
+  table = f.table;
+  live = n.live;
+  told = length n.live.progress.acts;
+  read = n.read;
+}) t.state)
 
 -- a piece was fed, and all its lines are written
-pub along_at : (name : List ℕ) (past : List Fetch) (shelf rest : ShelfState) (count : ℕ) (start now out : List ℕ) (f n s : Follower) (a : IsAlong name past shelf.history start now f)
+pub along_at : (name : List ℕ) (past : List Fetch) (shelf rest : ShelfState) (count : ℕ) (start now out : List ℕ)
+    (f n s : Follower) (a : IsAlong name past shelf.history start now f)
     (t : TakesPiece shelf rest f n count) → n.live.bad ≡ None → n.read ≤ STREAM_LIMIT →
-    Took now out (act_lines f.head (drop f.told n.live.progress.acts)) → s ≡ record n { told = length n.live.progress.acts } → IsAlongAt count name past rest.history start out s
+    Took now out (act_lines f.head (drop f.told n.live.progress.acts)) →
+    s ≡ record n { told = length n.live.progress.acts } → IsAlongAt count name past rest.history start out s
 unfolding fed_along fed_on
 along_at name past shelf rest count start now out f n s a t none within whole e =
     let k = fed_on name past shelf rest count start now f n a t in
-    let along = fed_along name past rest.history start now out f.head f.table f.live.progress.acts f.told n.read n.live k none within whole in
-    subst (IsAlongAt count name past rest.history start out) (told_as shelf rest f n s count t e) (record { along = along; end = fed_end name past shelf rest count start now f n a t })
+    let along = fed_along name past rest.history start now out f.head f.table f.live.progress.acts f.told n.read n.live
+    k none within whole in
+    subst (IsAlongAt count name past rest.history start out) (told_as shelf rest f n s count t e)
+    (record { along = along; end = fed_end name past shelf rest count start now f n a t })
 
 -- before the first byte
 pub opened : (h k : Head) (table made : NodeTable) (live : LiveState) → k ≡ h → made ≡ table → live ≡ open_stream made →
     record { head = k; table = live.progress.dispatcher.table; live = live; told = 0; read = 0 } ≡ open_follower h table
 opened h k table made live same is e =
-    ap₂ (λ (h : Head) (s : LiveState). record { head = h; table = s.progress.dispatcher.table; live = s; told = 0; read = 0 }) same (e ∙ ap open_stream is)
+    ap₂ (λ (h : Head) (s : LiveState). record {
+      head = h;
+      table = s.progress.dispatcher.table;
+      live = s;
+      told = 0;
+      read = 0;
+    }) same (e ∙ ap open_stream is)
 
 -- ---- if the shelf met a fault
 
@@ -165,7 +205,9 @@ opened h k table made live same is e =
 abbrev pub broken_off : Fetch → Fetch
 broken_off f = record { name = f.name; given = f.given; ended = f.ended; failed = true }
 
-pub unread : (name : List ℕ) (past history rest : List Fetch) (start now : List ℕ) (f : Follower) (out : SinkState) → (a : IsAlong name past history start now f) → rest ≡ failed history →
+pub unread : (name : List ℕ) (past history rest : List Fetch) (start now : List ℕ) (f : Follower) (out : SinkState) →
+    (a : IsAlong name past history start now f) →
+    rest ≡ failed history →
     now ≡ out.taken →
     IsStreamed (λ s. Breaks f.head f.table s Shelf) name past rest start out out
 unread name past history rest start now f out a e same = record {
@@ -185,18 +227,24 @@ unread name past history rest start now f out a e same = record {
 }
 
 -- before the first byte
-pub unfetched : (name : List ℕ) (past rest : List Fetch) (h : Head) (table : NodeTable) (old : SinkState) → rest ≡ started name true past →
+pub unfetched : (name : List ℕ) (past rest : List Fetch) (h : Head) (table : NodeTable) (old : SinkState) →
+    rest ≡ started name true past →
     IsStreamed (λ s. Breaks h table s Shelf) name past rest old.taken old old
 unfetched name past rest h table old e = record {
   fetch = record { name = name; given = []; ended = false; failed = true };
   named = refl;
   history_is = e;
-  is = ([], record { failed = refl; few = omega arith; lawful = refl; spelled = refl }, record { faultless = refl; taken = Took-none old.taken });
+  is = (
+    [],
+    record { failed = refl; few = omega arith; lawful = refl; spelled = refl },
+    record { faultless = refl; taken = Took-none old.taken },
+  );
 }
 
 -- ---- the end
 
-pub along_open : (name : List ℕ) (past history : List Fetch) (now : List ℕ) (h : Head) (table : NodeTable) → history ≡ started name false past →
+pub along_open : (name : List ℕ) (past history : List Fetch) (now : List ℕ) (h : Head) (table : NodeTable) →
+    history ≡ started name false past →
     IsAlong name past history now now (open_follower h table)
 along_open name past history now h table e = record {
   fetch = record { name = name; given = []; ended = false; failed = false };
@@ -211,7 +259,8 @@ along_open name past history now h table e = record {
   wrote = Took-none now;
 }
 
-module _ (name : List ℕ) (past history : List Fetch) (start now : List ℕ) (f : Follower) (a : IsAlong name past history start now f) (ended : a.fetch.ended ≡ true) (old new : SinkState) where
+module _ (name : List ℕ) (past history : List Fetch) (start now : List ℕ) (f : Follower)
+    (a : IsAlong name past history start now f) (ended : a.fetch.ended ≡ true) (old new : SinkState) where
   acts : List ℕ
   acts = act_lines f.head f.live.progress.acts
 
@@ -220,69 +269,98 @@ module _ (name : List ℕ) (past history : List Fetch) (start now : List ℕ) (f
 
   all_closed : (time : ℕ) → outcome f.live ≡ Ok time → IsClosed f.head f.table a.fetch (acts ++ closed_line time)
   unfolding acts
-  all_closed time e = subst (IsClosed f.head f.table a.fetch) (ap (λ (s : LiveState). act_lines f.head s.progress.acts ++ closed_line time) (sym a.live))
-      (closed f.head f.table a.fetch a.sound (omega (arith, a.few, a.read)) ended lawful (omega (arith, a.few, a.read)) time (ap outcome (sym a.live) ∙ e))
+  all_closed time e = subst (IsClosed f.head f.table a.fetch)
+      (ap (λ (s : LiveState). act_lines f.head s.progress.acts ++ closed_line time) (sym a.live))
+      (closed f.head f.table a.fetch a.sound (omega (arith, a.few, a.read)) ended lawful
+      (omega (arith, a.few, a.read)) time (ap outcome (sym a.live) ∙ e))
 
   -- the lines of a stream that is lawful to its end
-  pub ended_whole : (time : ℕ) → outcome f.live ≡ Ok time → Took now new.taken (closed_line time) → new.faults ≡ old.faults →
+  pub ended_whole : (time : ℕ) → outcome f.live ≡ Ok time → Took now new.taken (closed_line time) →
+      new.faults ≡ old.faults →
       IsStreamed (Completes f.head f.table) name past history start old new
   unfolding acts
   ended_whole time e whole kept = record {
     fetch = a.fetch;
     named = a.named;
     history_is = a.history_is;
-    is = (acts ++ closed_line time, all_closed time e, record { faultless = kept; taken = Took-trans start now new.taken acts (closed_line time) a.wrote whole });
+    is = (
+      acts ++ closed_line time,
+      all_closed time e,
+      record { faultless = kept; taken = Took-trans start now new.taken acts (closed_line time) a.wrote whole },
+    );
   }
 
-  pub ended_broken : (broken : Broken) → Closes f old.faults new.faults now new.taken (Err broken) → IsStreamed (λ s. Breaks f.head f.table s broken) name past history start old new
+  pub ended_broken : (broken : Broken) → Closes f old.faults new.faults now new.taken (Err broken) →
+      IsStreamed (λ s. Breaks f.head f.table s broken) name past history start old new
   unfolding acts
   ended_broken Shelf ends = absurd ends
   ended_broken Sink ends =
       let time = ends.1.0 in
-      let cut = cut_closed f.head f.table a.fetch start new.taken (acts ++ closed_line time) (all_closed time ends.1.1) (took_after start now new.taken acts (closed_line time) a.wrote ends.1.2) in
+      let cut = cut_closed f.head f.table a.fetch start new.taken (acts ++ closed_line time) (all_closed time ends.1.1)
+      (took_after start now new.taken acts (closed_line time) a.wrote ends.1.2) in
       record { fetch = a.fetch; named = a.named; history_is = a.history_is; is = (ends.0, cut) }
   ended_broken (Refused Long) ends = absurd ends
   ended_broken (Refused (Lawless bad)) ends =
-      let is = subst (IsRefused f.head f.table a.fetch (Lawless bad)) (ap (λ (s : LiveState). act_lines f.head s.progress.acts) (sym a.live))
-      (unclosed f.head f.table a.fetch a.sound (omega (arith, a.few, a.read)) ended lawful (omega (arith, a.few, a.read)) bad (ap outcome (sym a.live) ∙ ends.0)) in
-      record { fetch = a.fetch; named = a.named; history_is = a.history_is; is = (acts, is, record { faultless = ends.2; taken = subst (λ o. Took start o acts) (sym ends.1) a.wrote }) }
+      let is = subst (IsRefused f.head f.table a.fetch (Lawless bad))
+      (ap (λ (s : LiveState). act_lines f.head s.progress.acts) (sym a.live))
+      (unclosed f.head f.table a.fetch a.sound (omega (arith, a.few, a.read)) ended lawful
+      (omega (arith, a.few, a.read)) bad (ap outcome (sym a.live) ∙ ends.0)) in
+      record {
+        fetch = a.fetch;
+        named = a.named;
+        history_is = a.history_is;
+        is = (acts, is, record { faultless = ends.2; taken = subst (λ o. Took start o acts) (sym ends.1) a.wrote });
+      }
 
 -- ---- what came later in a run is of the run
 
 -- what holds of a stream from an earlier state of the sink on, if the sink met no fault since
-from_first : (Is : Stream → Type 0) (name : List ℕ) (past history : List Fetch) (start : List ℕ) (first old new : SinkState) → old.faults ≡ first.faults →
+from_first : (Is : Stream → Type 0) (name : List ℕ) (past history : List Fetch) (start : List ℕ)
+    (first old new : SinkState) →
+    old.faults ≡ first.faults →
     IsStreamed Is name past history start old new → IsStreamed Is name past history start first new
 from_first Is name past history start first old new kept b = record {
   fetch = b.fetch;
   named = b.named;
   history_is = b.history_is;
-  is = subst (λ n. Is (record { fetch = b.fetch; before = n; now = new.faults; old = start; new = new.taken })) kept b.is;
+  is = subst (λ n. Is (record { fetch = b.fetch; before = n; now = new.faults; old = start; new = new.taken })) kept
+      b.is;
 }
 
 -- a fault of an equal pack and table is one of a run, from an earlier state of the sink on
-pub breaks_on : (f n : Follower) (name : List ℕ) (past history : List Fetch) (start : List ℕ) (first old new : SinkState) (broken : Broken) → IsOfSame f n → old.faults ≡ first.faults →
-    IsStreamed (λ s. Breaks n.head n.table s broken) name past history start old new → IsStreamed (λ s. Breaks f.head f.table s broken) name past history start first new
+pub breaks_on : (f n : Follower) (name : List ℕ) (past history : List Fetch) (start : List ℕ)
+    (first old new : SinkState) (broken : Broken) → IsOfSame f n →
+    old.faults ≡ first.faults →
+    IsStreamed (λ s. Breaks n.head n.table s broken) name past history start old new →
+    IsStreamed (λ s. Breaks f.head f.table s broken) name past history start first new
 breaks_on f n name past history start first old new broken same kept b =
     from_first (λ s. Breaks f.head f.table s broken) name past history start first old new kept
     (subst (λ h. IsStreamed (λ s. Breaks h f.table s broken) name past history start old new) same.head
     (subst (λ table. IsStreamed (λ s. Breaks n.head table s broken) name past history start old new) same.table b))
 
-pub completes_on : (f n : Follower) (name : List ℕ) (past history : List Fetch) (start : List ℕ) (first old new : SinkState) → IsOfSame f n → old.faults ≡ first.faults →
-    IsStreamed (Completes n.head n.table) name past history start old new → IsStreamed (Completes f.head f.table) name past history start first new
+pub completes_on : (f n : Follower) (name : List ℕ) (past history : List Fetch) (start : List ℕ)
+    (first old new : SinkState) → IsOfSame f n →
+    old.faults ≡ first.faults →
+    IsStreamed (Completes n.head n.table) name past history start old new →
+    IsStreamed (Completes f.head f.table) name past history start first new
 completes_on f n name past history start first old new same kept b =
     from_first (Completes f.head f.table) name past history start first old new kept
     (subst (λ h. IsStreamed (Completes h f.table) name past history start old new) same.head
     (subst (λ table. IsStreamed (Completes n.head table) name past history start old new) same.table b))
 
 -- what the end of all pieces answers
-pub end_of_all : (f n : Follower) (name : List ℕ) (past history : List Fetch) (start now : List ℕ) (first old new : SinkState) (result : Result Unit Broken) → IsOfSame f n →
+pub end_of_all : (f n : Follower) (name : List ℕ) (past history : List Fetch) (start now : List ℕ)
+    (first old new : SinkState) (result : Result Unit Broken) → IsOfSame f n →
     old.faults ≡ first.faults → (at : IsAlongAt 0 name past history start now n) →
-    Closes n old.faults new.faults now new.taken result → MatchResult result (λ _. IsStreamed (Completes f.head f.table) name past history start first new)
+    Closes n old.faults new.faults now new.taken result →
+    MatchResult result (λ _. IsStreamed (Completes f.head f.table) name past history start first new)
     (λ b. IsStreamed (λ s. Breaks f.head f.table s b) name past history start first new)
 end_of_all f n name past history start now first old new (Ok done) same kept at closes =
-    completes_on f n name past history start first old new same kept (ended_whole name past history start now n at.along (at.end refl) old new closes.0 closes.1 closes.2 closes.3)
+    completes_on f n name past history start first old new same kept
+    (ended_whole name past history start now n at.along (at.end refl) old new closes.0 closes.1 closes.2 closes.3)
 end_of_all f n name past history start now first old new (Err broken) same kept at closes =
-    breaks_on f n name past history start first old new broken same kept (ended_broken name past history start now n at.along (at.end refl) old new broken closes)
+    breaks_on f n name past history start first old new broken same kept
+    (ended_broken name past history start now n at.along (at.end refl) old new broken closes)
 
 -- what follows for the answer of a run
 pub on_match_ok : {T E : Type 0} (P : T → Type 0) (Q : E → Type 0) (r : Result T E) → MatchResult r P Q → IfOk r P

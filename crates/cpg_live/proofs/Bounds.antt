@@ -1,5 +1,6 @@
 -- How many acts a node can do in all: each entry of its table is taken at most once.
-use Rattle.std.proofs.Common.{◌≡◌, ℕ, zero, suc, ◌+◌, ◌≤◌, Bool, true, false, cond, List, [], ◌∷◌, length, fold, Option, Some, None, refl, ap, ◌∙◌, arith, ◌&&◌}
+use Rattle.std.proofs.Common.{◌≡◌, ℕ, zero, suc, ◌+◌, ◌≤◌, Bool, true, false, cond, List, [], ◌∷◌, length, fold, Option}
+use Rattle.std.proofs.Common.{Some, None, refl, ap, ◌∙◌, arith, ◌&&◌}
 use Rattle.std.specs.Prelude.{is_some, nat_lt}
 use Rattle.std.proofs.lemmas.List.{length-append}
 use Rattle.cpg_table.specs.Table.{NodeTable}
@@ -12,7 +13,8 @@ use Rattle.cpg_live.specs.declared.bad.Why.TheVariants.{Length, Order, Frame as 
 use Rattle.cpg_live.specs.declared.event.Event.{Event}
 use Rattle.cpg_live.specs.declared.event.Event.TheVariants.{Frame as Arrival, End as Ending, Close}
 use Rattle.cpg_live.specs.Records.{cut, record_of, event_of}
-use Rattle.cpg_live.specs.Stream.{NodeProgress, LiveState, start, faulty, lawful, instant_below, turn_if, turn_below, turns_below, turned, may_end, ended, step, refused, settled, stepped, judged}
+use Rattle.cpg_live.specs.Stream.{NodeProgress, LiveState, start, faulty, lawful, instant_below, turn_if, turn_below}
+use Rattle.cpg_live.specs.Stream.{turns_below, turned, may_end, ended, step, refused, settled, stepped, judged}
 use Rattle.cpg_live.specs.Stream.{take_record, open_stream, with_rest, after}
 use Rattle.cpg_live.proofs.Turns.{found_is}
 
@@ -29,7 +31,12 @@ module _ (table : NodeTable) (most : ℕ) where
       go None e = h
       go (Some time) e = record {
         same = h.same;
-        few = omega (arith, h.few, room_turn p.dispatcher time [] (found_is limit (next p.dispatcher) time e).0, length-append p.acts (acts_of_turn p.dispatcher time [] []));
+        few = omega (
+          arith,
+          h.few,
+          room_turn p.dispatcher time [] (found_is limit (next p.dispatcher) time e).0,
+          length-append p.acts (acts_of_turn p.dispatcher time [] []),
+        );
       }
 
   turns_few : (n limit : ℕ) (p : NodeProgress) → HasFew p → HasFew (turns_below n limit p)
@@ -43,35 +50,45 @@ module _ (table : NodeTable) (most : ℕ) where
   step_few : (time : ℕ) (event : Event) (p : NodeProgress) → HasFew p → HasFew (step time event p).progress
   step_few time (Arrival f) p h = go (is_strange (turned time p).dispatcher time f) (turned_few time p h)
     where
-      go : (b : Bool) → HasFew (turned time p) → HasFew (cond b (faulty (turned time p) StrangeFrame) (lawful (record (turned time p) { dispatcher = hear (turned time p).dispatcher f }))).progress
+      go : (b : Bool) → HasFew (turned time p) →
+          HasFew (cond b (faulty (turned time p) StrangeFrame)
+          (lawful (record (turned time p) { dispatcher = hear (turned time p).dispatcher f }))).progress
       go true w = w
       go false w = record { same = w.same; few = w.few }
-  step_few time (Ending process faults value) p h = go (record { process = process; faults = faults; value = value }) (turned_few time p h)
+  step_few time (Ending process faults value) p h =
+      go (record { process = process; faults = faults; value = value }) (turned_few time p h)
     where
       go : (e : Ended) → HasFew (turned time p) → HasFew (ended time e (turned time p)).progress
       go e w = told (may_end (turned time p).dispatcher time e)
         where
-          told : (b : Bool) → HasFew (cond b (lawful (record (turned time p) { dispatcher = finished (turned time p).dispatcher e })) (faulty (turned time p) FalseEnd)).progress
+          told : (b : Bool) →
+              HasFew (cond b (lawful (record (turned time p) { dispatcher = finished (turned time p).dispatcher e }))
+              (faulty (turned time p) FalseEnd)).progress
           told true = record { same = w.same; few = w.few }
           told false = w
   step_few time Close p h = turned_few (time + 1) p h
 
-  settled_few : (s : LiveState) (time : ℕ) (event : Event) (why : Option Why) → HasFew s.progress → HasFew (settled s time event why).progress
+  settled_few : (s : LiveState) (time : ℕ) (event : Event) (why : Option Why) → HasFew s.progress →
+      HasFew (settled s time event why).progress
   settled_few s time event None h = h
   settled_few s time event (Some why) h = h
 
-  judged_few : (s : LiveState) (time : ℕ) (event : Option Event) → HasFew s.progress → HasFew (judged s time event).progress
+  judged_few : (s : LiveState) (time : ℕ) (event : Option Event) → HasFew s.progress →
+      HasFew (judged s time event).progress
   judged_few s time None h = h
   judged_few s time (Some event) h = go (nat_lt time s.time)
     where
       go : (b : Bool) → HasFew (cond b (refused s Order) (stepped s time event (step time event s.progress))).progress
       go true = h
-      go false = settled_few (record s { progress = (step time event s.progress).progress }) time event (step time event s.progress).fault (step_few time event s.progress h)
+      go false = settled_few (record s { progress = (step time event s.progress).progress }) time event
+          (step time event s.progress).fault (step_few time event s.progress h)
 
   record_few : (s : LiveState) (bytes : List ℕ) → HasFew s.progress → HasFew (take_record s bytes).progress
   record_few s bytes h = go (is_some s.bad) s.closed
     where
-      go : (b c : Bool) → HasFew (cond b s (cond c (refused s Length) (judged s (record_of bytes).time (event_of s.progress.dispatcher.table (record_of bytes))))).progress
+      go : (b c : Bool) →
+          HasFew (cond b s (cond c (refused s Length)
+          (judged s (record_of bytes).time (event_of s.progress.dispatcher.table (record_of bytes))))).progress
       go true c = h
       go false true = h
       go false false = judged_few s (record_of bytes).time (event_of s.progress.dispatcher.table (record_of bytes)) h
@@ -88,17 +105,21 @@ module _ (table : NodeTable) (most : ℕ) where
       go false true = h
       go false false = h
 
-after_few : (table : NodeTable) (bytes : List ℕ) → HasFew table (column_count table.sends + column_count table.starts) (after table bytes).progress
+after_few : (table : NodeTable) (bytes : List ℕ) →
+    HasFew table (column_count table.sends + column_count table.starts) (after table bytes).progress
 after_few table bytes =
     let most = column_count table.sends + column_count table.starts in
-    let first : HasFew table most (start table) = record { same = refl; few = omega (arith, room_open (initial_dispatcher table)) } in
+    let first : HasFew table most (start table) =
+    record { same = refl; few = omega (arith, room_open (initial_dispatcher table)) } in
     let s : LiveState = fold take_record (open_stream table) (cut bytes).whole in
     rest_few table most s (cut bytes).rest (records_few table most (open_stream table) (cut bytes).whole first)
 
 -- the acts after bytes are at most as many as the columns of what the node sends and starts
-pub few_acts : (table : NodeTable) (bytes : List ℕ) → length (after table bytes).progress.acts ≤ column_count table.sends + column_count table.starts
+pub few_acts : (table : NodeTable) (bytes : List ℕ) →
+    length (after table bytes).progress.acts ≤ column_count table.sends + column_count table.starts
 few_acts table bytes = let h = after_few table bytes in omega (arith, h.few)
 
 -- the table stays
-pub table_after : (table : NodeTable) (bytes : List ℕ) (s : LiveState) → s ≡ after table bytes → s.progress.dispatcher.table ≡ table
+pub table_after : (table : NodeTable) (bytes : List ℕ) (s : LiveState) → s ≡ after table bytes →
+    s.progress.dispatcher.table ≡ table
 table_after table bytes s e = ap (λ (s : LiveState). s.progress.dispatcher.table) e ∙ (after_few table bytes).same

@@ -1,5 +1,6 @@
 -- How many records of a lawful stream are taken: each that is whole.
-use Rattle.std.proofs.Common.{◌≡◌, ℕ, ◌+◌, ◌*◌, ◌-◌, ◌^◌, ◌<◌, ◌≤◌, min, Bool, true, false, cond, ◌&&◌, ◌==◌, List, [], ◌∷◌, ◌++◌, length, fold, Option, Some, None, refl, sym, ap, ◌∙◌, subst, arith}
+use Rattle.std.proofs.Common.{◌≡◌, ℕ, ◌+◌, ◌*◌, ◌-◌, ◌^◌, ◌<◌, ◌≤◌, min, Bool, true, false, cond, ◌&&◌, ◌==◌, List, []}
+use Rattle.std.proofs.Common.{◌∷◌, ◌++◌, length, fold, Option, Some, None, refl, sym, ap, ◌∙◌, subst, arith}
 use Rattle.std.proofs.Common.{inl, inr, true≢false, eqb-true, eq-eqb, lt-ltb}
 use Rattle.std.specs.Prelude.{◌⊎◌, is_some, nat_lt}
 use Rattle.std.proofs.lemmas.List.{length-append}
@@ -10,7 +11,8 @@ use Rattle.cpg_live.specs.declared.bad.Why.{Why}
 use Rattle.cpg_live.specs.declared.bad.Why.TheVariants.{Length, Kind, Order}
 use Rattle.cpg_live.specs.declared.event.Event.{Event}
 use Rattle.cpg_live.specs.Records.{Cut, cut_byte, cut, record_of, event_of}
-use Rattle.cpg_live.specs.Stream.{LiveState, after, open_stream, refused, settled, stepped, judged, step, take_record, with_rest}
+use Rattle.cpg_live.specs.Stream.{LiveState, after, open_stream, refused, settled, stepped, judged, step, take_record}
+use Rattle.cpg_live.specs.Stream.{with_rest}
 
 -- ---- bytes that are cut into records
 
@@ -23,20 +25,30 @@ byte_counted : (c : Cut) (byte count : ℕ) → IsCounted c count → IsCounted 
 byte_counted c byte count h = go (length c.rest + 1 == 14) refl
   where
     go : (b : Bool) → (length c.rest + 1 == 14) ≡ b →
-        IsCounted (cond b (record { whole = c.whole ++ ((c.rest ++ byte ∷ []) ∷ []); rest = [] }) (record { whole = c.whole; rest = c.rest ++ byte ∷ [] })) (count + 1)
-    go true e = record { part = omega arith; all = omega (arith, h.all, eqb-true (length c.rest + 1) 14 e, length-append c.whole ((c.rest ++ byte ∷ []) ∷ [])) }
-    go false e = record { part = less (cases_lt (length c.rest + 1) 14); all = omega (arith, h.all, length-append c.rest (byte ∷ [])) }
+        IsCounted (cond b (record { whole = c.whole ++ ((c.rest ++ byte ∷ []) ∷ []); rest = [] })
+        (record { whole = c.whole; rest = c.rest ++ byte ∷ [] })) (count + 1)
+    go true e = record {
+      part = omega arith;
+      all = omega (arith, h.all, eqb-true (length c.rest + 1) 14 e, length-append c.whole ((c.rest ++ byte ∷ []) ∷ []));
+    }
+    go false e = record {
+      part = less (cases_lt (length c.rest + 1) 14);
+      all = omega (arith, h.all, length-append c.rest (byte ∷ []));
+    }
       where
         less : (length c.rest + 1 < 14) ⊎ (14 ≤ length c.rest + 1) → length (c.rest ++ byte ∷ []) < 14
         less (inl l) = omega (arith, l, length-append c.rest (byte ∷ []))
         less (inr m) = absurd (true≢false (sym (eq-eqb (length c.rest + 1) 14 (omega (arith, m, h.part))) ∙ e))
 
-bytes_counted : (c : Cut) (bytes : List ℕ) (count : ℕ) → IsCounted c count → IsCounted (fold cut_byte c bytes) (count + length bytes)
+bytes_counted : (c : Cut) (bytes : List ℕ) (count : ℕ) → IsCounted c count →
+    IsCounted (fold cut_byte c bytes) (count + length bytes)
 bytes_counted c [] count h = subst (IsCounted c) (omega arith) h
-bytes_counted c (byte ∷ bytes) count h = subst (IsCounted (fold cut_byte (cut_byte c byte) bytes)) (omega arith) (bytes_counted (cut_byte c byte) bytes (count + 1) (byte_counted c byte count h))
+bytes_counted c (byte ∷ bytes) count h = subst (IsCounted (fold cut_byte (cut_byte c byte) bytes)) (omega arith)
+    (bytes_counted (cut_byte c byte) bytes (count + 1) (byte_counted c byte count h))
 
 pub cut_counted : (bytes : List ℕ) → IsCounted (cut bytes) (length bytes)
-cut_counted bytes = subst (IsCounted (cut bytes)) (omega arith) (bytes_counted (record { whole = []; rest = [] }) bytes 0 (record { part = omega arith; all = omega arith }))
+cut_counted bytes = subst (IsCounted (cut bytes)) (omega arith)
+    (bytes_counted (record { whole = []; rest = [] }) bytes 0 (record { part = omega arith; all = omega arith }))
 
 -- ---- records that are lawful
 
@@ -48,33 +60,42 @@ record IsTaken (s t : LiveState) : Type 0 where
 refused_not : (s : LiveState) (why : Why) → (refused s why).bad ≡ None → ⊥
 refused_not s why e = true≢false (ap is_some e)
 
-settled_taken : (s t : LiveState) (time : ℕ) (event : Event) (why : Option Why) → t.bad ≡ s.bad → t.taken ≡ s.taken → (settled t time event why).bad ≡ None → IsTaken s (settled t time event why)
+settled_taken : (s t : LiveState) (time : ℕ) (event : Event) (why : Option Why) → t.bad ≡ s.bad → t.taken ≡ s.taken →
+    (settled t time event why).bad ≡ None →
+    IsTaken s (settled t time event why)
 settled_taken s t time event None b n e = record { lawful = sym b ∙ e; taken = ap (λ k. min (k + 1) (2 ^ 64 - 1)) n }
 settled_taken s t time event (Some why) b n e = absurd (refused_not t why e)
 
-judged_taken : (s : LiveState) (time : ℕ) (event : Option Event) → (judged s time event).bad ≡ None → IsTaken s (judged s time event)
+judged_taken : (s : LiveState) (time : ℕ) (event : Option Event) → (judged s time event).bad ≡ None →
+    IsTaken s (judged s time event)
 judged_taken s time None e = absurd (refused_not s Kind e)
 judged_taken s time (Some event) e = go (nat_lt time s.time) e
   where
     go : (b : Bool) → (cond b (refused s Order) (stepped s time event (step time event s.progress))).bad ≡ None →
         IsTaken s (cond b (refused s Order) (stepped s time event (step time event s.progress)))
     go true e = absurd (refused_not s Order e)
-    go false e = settled_taken s (record s { progress = (step time event s.progress).progress }) time event (step time event s.progress).fault refl refl e
+    go false e = settled_taken s (record s { progress = (step time event s.progress).progress }) time event
+        (step time event s.progress).fault refl refl e
 
 record_taken : (s : LiveState) (bytes : List ℕ) → (take_record s bytes).bad ≡ None → IsTaken s (take_record s bytes)
 record_taken s bytes e = go (is_some s.bad) s.closed refl e
   where
-    go : (b c : Bool) → is_some s.bad ≡ b → (cond b s (cond c (refused s Length) (judged s (record_of bytes).time (event_of s.progress.dispatcher.table (record_of bytes))))).bad ≡ None →
-        IsTaken s (cond b s (cond c (refused s Length) (judged s (record_of bytes).time (event_of s.progress.dispatcher.table (record_of bytes)))))
+    go : (b c : Bool) → is_some s.bad ≡ b →
+        (cond b s (cond c (refused s Length)
+        (judged s (record_of bytes).time (event_of s.progress.dispatcher.table (record_of bytes))))).bad ≡ None →
+        IsTaken s (cond b s (cond c (refused s Length)
+        (judged s (record_of bytes).time (event_of s.progress.dispatcher.table (record_of bytes)))))
     go true c some e = absurd (true≢false (sym some ∙ ap is_some e))
     go false true some e = absurd (refused_not s Length e)
-    go false false some e = judged_taken s (record_of bytes).time (event_of s.progress.dispatcher.table (record_of bytes)) e
+    go false false some e =
+        judged_taken s (record_of bytes).time (event_of s.progress.dispatcher.table (record_of bytes)) e
 
 records_lawful : (s : LiveState) (rs : List (List ℕ)) → (fold take_record s rs).bad ≡ None → s.bad ≡ None
 records_lawful s [] e = e
 records_lawful s (r ∷ rs) e = (record_taken s r (records_lawful (take_record s r) rs e)).lawful
 
-records_taken : (s : LiveState) (rs : List (List ℕ)) → s.taken ≤ 2 ^ 64 - 1 → (fold take_record s rs).bad ≡ None → (fold take_record s rs).taken ≡ min (s.taken + length rs) (2 ^ 64 - 1)
+records_taken : (s : LiveState) (rs : List (List ℕ)) → s.taken ≤ 2 ^ 64 - 1 → (fold take_record s rs).bad ≡ None →
+    (fold take_record s rs).taken ≡ min (s.taken + length rs) (2 ^ 64 - 1)
 records_taken s [] l e = omega (arith, l)
 records_taken s (r ∷ rs) l e =
     let one = (record_taken s r (records_lawful (take_record s r) rs e)).taken in
@@ -91,21 +112,31 @@ record HasRest (s t : LiveState) (rest : List ℕ) : Type 0 where
 rest_taken : (s : LiveState) (rest : List ℕ) → (with_rest s rest).bad ≡ None → HasRest s (with_rest s rest) rest
 rest_taken s rest e = go (is_some s.bad) refl e
   where
-    closing : (c : Bool) → s.closed ≡ c → s.bad ≡ None → (cond (c && nat_lt 0 (length rest)) (refused s Length) (record s { rest = rest })).bad ≡ None →
+    closing : (c : Bool) → s.closed ≡ c → s.bad ≡ None →
+        (cond (c && nat_lt 0 (length rest)) (refused s Length) (record s { rest = rest })).bad ≡ None →
         HasRest s (cond (c && nat_lt 0 (length rest)) (refused s Length) (record s { rest = rest })) rest
     closing false c n e = record { lawful = n; taken = refl; open_still = λ some. c }
     closing true c n e = none (nat_lt 0 (length rest)) refl e
       where
-        none : (b : Bool) → nat_lt 0 (length rest) ≡ b → (cond b (refused s Length) (record s { rest = rest })).bad ≡ None → HasRest s (cond b (refused s Length) (record s { rest = rest })) rest
+        none : (b : Bool) → nat_lt 0 (length rest) ≡ b →
+            (cond b (refused s Length) (record s { rest = rest })).bad ≡ None →
+            HasRest s (cond b (refused s Length) (record s { rest = rest })) rest
         none true b e = absurd (refused_not s Length e)
-        none false b e = record { lawful = n; taken = refl; open_still = λ some. absurd (true≢false (sym (lt-ltb 0 (length rest) some) ∙ b)) }
+        none false b e = record {
+          lawful = n;
+          taken = refl;
+          open_still = λ some. absurd (true≢false (sym (lt-ltb 0 (length rest) some) ∙ b));
+        }
 
     lawful_of : (o : Option Bad) → is_some o ≡ false → o ≡ None
     lawful_of None e = refl
     lawful_of (Some bad) e = absurd (true≢false e)
 
-    go : (b : Bool) → is_some s.bad ≡ b → (cond b s (cond (s.closed && nat_lt 0 (length rest)) (refused s Length) (record s { rest = rest }))).bad ≡ None →
-        HasRest s (cond b s (cond (s.closed && nat_lt 0 (length rest)) (refused s Length) (record s { rest = rest }))) rest
+    go : (b : Bool) → is_some s.bad ≡ b →
+        (cond b s (cond (s.closed && nat_lt 0 (length rest)) (refused s Length) (record s { rest = rest }))).bad
+        ≡ None →
+        HasRest s
+        (cond b s (cond (s.closed && nat_lt 0 (length rest)) (refused s Length) (record s { rest = rest }))) rest
     go true some e = absurd (true≢false (sym some ∙ ap is_some e))
     go false some e = closing s.closed refl (lawful_of s.bad some) e
 
@@ -114,13 +145,25 @@ pub record IsWithinRecord (s : LiveState) (records : ℕ) : Type 0 where
   pub taken : s.taken ≡ records
   pub not_closed : s.closed ≡ false
 
-pub within_record : (table : NodeTable) (bytes : List ℕ) (records part : ℕ) → (after table bytes).bad ≡ None → length bytes ≡ 14 * records + part → 0 < part → part < 14 → records < 2 ^ 64 →
+pub within_record : (table : NodeTable) (bytes : List ℕ) (records part : ℕ) → (after table bytes).bad ≡ None →
+    length bytes ≡ 14 * records + part → 0 < part → part < 14 →
+    records < 2 ^ 64 →
     IsWithinRecord (after table bytes) records
 within_record table bytes records part lawful long some less few =
     let c = cut_counted bytes in
     let s : LiveState = fold take_record (open_stream table) (cut bytes).whole in
     let rest = rest_taken s (cut bytes).rest lawful in
     record {
-      taken = omega (arith, rest.taken, records_taken (open_stream table) (cut bytes).whole (omega arith) rest.lawful, c.all, c.part, long, some, less, few);
+      taken = omega (
+        arith,
+        rest.taken,
+        records_taken (open_stream table) (cut bytes).whole (omega arith) rest.lawful,
+        c.all,
+        c.part,
+        long,
+        some,
+        less,
+        few,
+      );
       not_closed = rest.open_still (omega (arith, c.all, c.part, long, some, less));
     }

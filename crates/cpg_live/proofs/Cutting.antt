@@ -1,5 +1,6 @@
 -- Bytes one after another give the state after all of them.
-use Rattle.std.proofs.Common.{◌≡◌, ◌≢◌, ℕ, ◌+◌, ◌<◌, Bool, true, false, cond, ◌&&◌, ◌==◌, List, [], ◌∷◌, ◌++◌, length, fold, Option, Some, None, refl, sym, ap, ◌∙◌, arith, inl, inr, lt-ltb, eq-eqb}
+use Rattle.std.proofs.Common.{◌≡◌, ◌≢◌, ℕ, ◌+◌, ◌<◌, Bool, true, false, cond, ◌&&◌, ◌==◌, List, [], ◌∷◌, ◌++◌, length}
+use Rattle.std.proofs.Common.{fold, Option, Some, None, refl, sym, ap, ◌∙◌, arith, inl, inr, lt-ltb, eq-eqb}
 use Rattle.std.proofs.Common.{ne_eqb, true≢false}
 use Rattle.std.specs.Prelude.{nat_lt, is_some, IfSome}
 use Rattle.std.proofs.lemmas.Bool.{cases_Bool}
@@ -12,7 +13,8 @@ use Rattle.cpg_live.specs.declared.bad.Why.TheVariants.{Length, Order}
 use Rattle.cpg_live.specs.declared.event.Event.{Event}
 use Rattle.cpg_live.specs.declared.reading.Record.{Record}
 use Rattle.cpg_live.specs.Records.{Cut, cut_byte, cut, record_of, event_of}
-use Rattle.cpg_live.specs.Stream.{LiveState, open_stream, refused, settled, stepped, judged, step, take_record, with_rest, after_cut}
+use Rattle.cpg_live.specs.Stream.{LiveState, open_stream, refused, settled, stepped, judged, step, take_record}
+use Rattle.cpg_live.specs.Stream.{with_rest, after_cut}
 use Rattle.cpg_live.specs.Feeding.{take_open, take_byte, take_bytes}
 use Rattle.cpg_live.specs.Laws.{Feeds}
 
@@ -21,7 +23,8 @@ use Rattle.cpg_live.specs.Laws.{Feeds}
 abbrev IsEmpty : LiveState → Type 0
 IsEmpty s = s.rest ≡ []
 
-settled_empty : (s : LiveState) (time : ℕ) (event : Event) (why : Option Why) → IsEmpty s → IsEmpty (settled s time event why)
+settled_empty : (s : LiveState) (time : ℕ) (event : Event) (why : Option Why) → IsEmpty s →
+    IsEmpty (settled s time event why)
 settled_empty s time event None e = e
 settled_empty s time event (Some why) e = e
 
@@ -31,12 +34,15 @@ judged_empty s time (Some event) e = go (nat_lt time s.time)
   where
     go : (b : Bool) → IsEmpty (cond b (refused s Order) (stepped s time event (step time event s.progress)))
     go true = e
-    go false = settled_empty (record s { progress = (step time event s.progress).progress }) time event (step time event s.progress).fault e
+    go false = settled_empty (record s { progress = (step time event s.progress).progress }) time event
+        (step time event s.progress).fault e
 
 record_empty : (s : LiveState) (bytes : List ℕ) → IsEmpty s → IsEmpty (take_record s bytes)
 record_empty s bytes e = go (is_some s.bad) s.closed
   where
-    go : (b c : Bool) → IsEmpty (cond b s (cond c (refused s Length) (judged s (record_of bytes).time (event_of s.progress.dispatcher.table (record_of bytes)))))
+    go : (b c : Bool) →
+        IsEmpty (cond b s (cond c (refused s Length)
+        (judged s (record_of bytes).time (event_of s.progress.dispatcher.table (record_of bytes)))))
     go true c = e
     go false true = e
     go false false = judged_empty s (record_of bytes).time (event_of s.progress.dispatcher.table (record_of bytes)) e
@@ -61,12 +67,16 @@ abbrev more : LiveState → List ℕ → LiveState
 more s rest = cond (length rest == 14) (with_rest (take_record s rest) []) (with_rest s rest)
 
 -- if a record was lawless
-bad_byte : (s : LiveState) (bad : Bad) (rest bytes : List ℕ) (byte : ℕ) → s.bad ≡ Some bad → take_byte (with_rest s rest) byte ≡ more s bytes
+bad_byte : (s : LiveState) (bad : Bad) (rest bytes : List ℕ) (byte : ℕ) → s.bad ≡ Some bad →
+    take_byte (with_rest s rest) byte ≡ more s bytes
 bad_byte s bad rest bytes byte e =
     let t : is_some s.bad ≡ true = ap is_some e in
-    let same : (r : List ℕ) → with_rest s r ≡ s = λ r. ap (λ b. cond b s (cond (s.closed && nat_lt 0 (length r)) (refused s Length) (record s { rest = r }))) t in
-    let taken : take_record s bytes ≡ s = ap (λ b. cond b s (cond s.closed (refused s Length) (judged s (record_of bytes).time (event_of s.progress.dispatcher.table (record_of bytes))))) t in
-    ap (λ z. take_byte z byte) (same rest) ∙ ap (λ b. cond b s (cond s.closed (refused s Length) (take_open s (s.rest ++ byte ∷ [])))) t
+    let same : (r : List ℕ) → with_rest s r ≡ s =
+    λ r. ap (λ b. cond b s (cond (s.closed && nat_lt 0 (length r)) (refused s Length) (record s { rest = r }))) t in
+    let taken : take_record s bytes ≡ s = ap (λ b. cond b s (cond s.closed (refused s Length)
+    (judged s (record_of bytes).time (event_of s.progress.dispatcher.table (record_of bytes))))) t in
+    ap (λ z. take_byte z byte) (same rest)
+    ∙ ap (λ b. cond b s (cond s.closed (refused s Length) (take_open s (s.rest ++ byte ∷ [])))) t
     ∙ sym (both (length bytes == 14) (ap (λ z. with_rest z []) taken ∙ same []) (same bytes))
   where
     both : (b : Bool) {x y : LiveState} → x ≡ s → y ≡ s → cond b x y ≡ s
@@ -77,20 +87,26 @@ some_length : (rest : List ℕ) (byte : ℕ) → 0 < length (rest ++ byte ∷ []
 some_length rest byte = omega (arith, length-append rest (byte ∷ []))
 
 -- after a close
-closed_byte : (s : LiveState) (rest : List ℕ) (byte : ℕ) → IsEmpty s → s.bad ≡ None → s.closed ≡ true → take_byte (with_rest s rest) byte ≡ more s (rest ++ byte ∷ [])
+closed_byte : (s : LiveState) (rest : List ℕ) (byte : ℕ) → IsEmpty s → s.bad ≡ None → s.closed ≡ true →
+    take_byte (with_rest s rest) byte ≡ more s (rest ++ byte ∷ [])
 closed_byte s rest byte e n c =
-    first rest ∙ sym (both (length (rest ++ byte ∷ []) == 14) (ap (λ z. with_rest z []) taken ∙ no_rest (refused s Length) e) longer)
+    first rest ∙ sym
+    (both (length (rest ++ byte ∷ []) == 14) (ap (λ z. with_rest z []) taken ∙ no_rest (refused s Length) e) longer)
   where
     both : (b : Bool) {x y : LiveState} → x ≡ refused s Length → y ≡ refused s Length → cond b x y ≡ refused s Length
     both true p q = p
     both false p q = q
 
     taken : take_record s (rest ++ byte ∷ []) ≡ refused s Length
-    taken = ap (λ b. cond b s (cond s.closed (refused s Length) (judged s (record_of (rest ++ byte ∷ [])).time (event_of s.progress.dispatcher.table (record_of (rest ++ byte ∷ [])))))) (ap is_some n)
-        ∙ ap (λ b. cond b (refused s Length) (judged s (record_of (rest ++ byte ∷ [])).time (event_of s.progress.dispatcher.table (record_of (rest ++ byte ∷ []))))) c
+    taken = ap (λ b. cond b s (cond s.closed (refused s Length) (judged s (record_of (rest ++ byte ∷ [])).time
+        (event_of s.progress.dispatcher.table (record_of (rest ++ byte ∷ [])))))) (ap is_some n)
+        ∙ ap (λ b. cond b (refused s Length) (judged s (record_of (rest ++ byte ∷ [])).time
+        (event_of s.progress.dispatcher.table (record_of (rest ++ byte ∷ []))))) c
 
     with_some : (r : List ℕ) → 0 < length r → with_rest s r ≡ refused s Length
-    with_some r l = ap (λ b. cond b s (cond (s.closed && nat_lt 0 (length r)) (refused s Length) (record s { rest = r }))) (ap is_some n)
+    with_some r l =
+        ap (λ b. cond b s (cond (s.closed && nat_lt 0 (length r)) (refused s Length) (record s { rest = r })))
+        (ap is_some n)
         ∙ ap (λ b. cond (b && nat_lt 0 (length r)) (refused s Length) (record s { rest = r })) c
         ∙ ap (λ b. cond b (refused s Length) (record s { rest = r })) (lt-ltb 0 (length r) l)
 
@@ -104,51 +120,66 @@ closed_byte s rest byte e n c =
     first (x ∷ xs) = ap (λ z. take_byte z byte) (with_some (x ∷ xs) (omega arith))
 
 -- a byte is taken of an open stream
-open_byte : (s : LiveState) (rest : List ℕ) (byte : ℕ) → IsEmpty s → s.bad ≡ None → s.closed ≡ false → take_byte (with_rest s rest) byte ≡ more s (rest ++ byte ∷ [])
+open_byte : (s : LiveState) (rest : List ℕ) (byte : ℕ) → IsEmpty s → s.bad ≡ None → s.closed ≡ false →
+    take_byte (with_rest s rest) byte ≡ more s (rest ++ byte ∷ [])
 open_byte s rest byte e n c =
     ap (λ z. take_byte z byte) (held rest) ∙ ap
-    (λ b. cond b (record s { rest = rest }) (cond s.closed (refused (record s { rest = rest }) Length) (take_open (record s { rest = rest }) (rest ++ byte ∷ [])))) (ap is_some n)
-    ∙ ap (λ b. cond b (refused (record s { rest = rest }) Length) (take_open (record s { rest = rest }) (rest ++ byte ∷ []))) c
+    (λ b. cond b (record s { rest = rest }) (cond s.closed (refused (record s { rest = rest }) Length)
+    (take_open (record s { rest = rest }) (rest ++ byte ∷ [])))) (ap is_some n)
+    ∙ ap (λ b.
+    cond b (refused (record s { rest = rest }) Length) (take_open (record s { rest = rest }) (rest ++ byte ∷ []))) c
     ∙ both (length (rest ++ byte ∷ []) == 14)
   where
     held : (r : List ℕ) → with_rest s r ≡ record s { rest = r }
-    held r = ap (λ b. cond b s (cond (s.closed && nat_lt 0 (length r)) (refused s Length) (record s { rest = r }))) (ap is_some n)
+    held r = ap (λ b. cond b s (cond (s.closed && nat_lt 0 (length r)) (refused s Length) (record s { rest = r })))
+        (ap is_some n)
         ∙ ap (λ b. cond (b && nat_lt 0 (length r)) (refused s Length) (record s { rest = r })) c
 
     whole : take_record (record s { rest = [] }) (rest ++ byte ∷ []) ≡ with_rest (take_record s (rest ++ byte ∷ [])) []
     whole = ap (λ (r : List ℕ). take_record (record s { rest = r }) (rest ++ byte ∷ [])) (sym e)
         ∙ sym (no_rest (take_record s (rest ++ byte ∷ [])) (record_empty s (rest ++ byte ∷ []) e))
 
-    both : (b : Bool) → cond b (take_record (record s { rest = [] }) (rest ++ byte ∷ [])) (record s { rest = rest ++ byte ∷ [] }) ≡ cond b (with_rest (take_record s (rest ++ byte ∷ [])) [])
+    both : (b : Bool) →
+        cond b (take_record (record s { rest = [] }) (rest ++ byte ∷ [])) (record s { rest = rest ++ byte ∷ [] })
+        ≡ cond b (with_rest (take_record s (rest ++ byte ∷ [])) [])
         (with_rest s (rest ++ byte ∷ []))
     both true = whole
     both false = sym (held (rest ++ byte ∷ []))
 
-next_byte : (s : LiveState) (rest : List ℕ) (byte : ℕ) → IsEmpty s → take_byte (with_rest s rest) byte ≡ more s (rest ++ byte ∷ [])
+next_byte : (s : LiveState) (rest : List ℕ) (byte : ℕ) → IsEmpty s →
+    take_byte (with_rest s rest) byte ≡ more s (rest ++ byte ∷ [])
 next_byte s rest byte e = go s.bad refl
   where
     go : (o : Option Bad) → s.bad ≡ o → take_byte (with_rest s rest) byte ≡ more s (rest ++ byte ∷ [])
     go (Some bad) n = bad_byte s bad rest (rest ++ byte ∷ []) byte n
-    go None n = elim (cases_Bool s.closed) [ inl c ↦ closed_byte s rest byte e n c | inr c ↦ open_byte s rest byte e n c ]
+    go None n =
+        elim (cases_Bool s.closed) [ inl c ↦ closed_byte s rest byte e n c | inr c ↦ open_byte s rest byte e n c ]
 
 -- a byte is taken of what the bytes are cut into
-cut_next : (table : NodeTable) (c : Cut) (byte : ℕ) → take_byte (after_cut table c) byte ≡ after_cut table (cut_byte c byte)
+cut_next : (table : NodeTable) (c : Cut) (byte : ℕ) →
+    take_byte (after_cut table c) byte ≡ after_cut table (cut_byte c byte)
 cut_next table c byte =
     let s : LiveState = fold take_record (open_stream table) c.whole in
     next_byte s c.rest byte (records_empty (open_stream table) c.whole refl)
-    ∙ both (length (c.rest ++ byte ∷ []) == 14) (length c.rest + 1 == 14) (ap (λ n. n == 14) (length-append c.rest (byte ∷ [])))
+    ∙ both (length (c.rest ++ byte ∷ []) == 14) (length c.rest + 1 == 14)
+    (ap (λ n. n == 14) (length-append c.rest (byte ∷ [])))
   where
     both : (a b : Bool) → a ≡ b →
-        cond a (with_rest (take_record (fold take_record (open_stream table) c.whole) (c.rest ++ byte ∷ [])) []) (with_rest (fold take_record (open_stream table) c.whole) (c.rest ++ byte ∷ []))
-        ≡ after_cut table (cond b (record { whole = c.whole ++ ((c.rest ++ byte ∷ []) ∷ []); rest = [] }) (record { whole = c.whole; rest = c.rest ++ byte ∷ [] }))
-    both true true e = ap (λ z. with_rest z []) (sym (fold-append take_record (open_stream table) c.whole ((c.rest ++ byte ∷ []) ∷ [])))
+        cond a (with_rest (take_record (fold take_record (open_stream table) c.whole) (c.rest ++ byte ∷ [])) [])
+        (with_rest (fold take_record (open_stream table) c.whole) (c.rest ++ byte ∷ []))
+        ≡ after_cut table (cond b (record { whole = c.whole ++ ((c.rest ++ byte ∷ []) ∷ []); rest = [] })
+        (record { whole = c.whole; rest = c.rest ++ byte ∷ [] }))
+    both true true e = ap (λ z. with_rest z [])
+        (sym (fold-append take_record (open_stream table) c.whole ((c.rest ++ byte ∷ []) ∷ [])))
     both false false e = refl
     both true false e = absurd (true≢false e)
     both false true e = absurd (true≢false (sym e))
 
-cut_more : (table : NodeTable) (c : Cut) (bytes : List ℕ) → take_bytes (after_cut table c) bytes ≡ after_cut table (fold cut_byte c bytes)
+cut_more : (table : NodeTable) (c : Cut) (bytes : List ℕ) →
+    take_bytes (after_cut table c) bytes ≡ after_cut table (fold cut_byte c bytes)
 cut_more table c [] = refl
-cut_more table c (byte ∷ bytes) = ap (λ z. take_bytes z bytes) (cut_next table c byte) ∙ cut_more table (cut_byte c byte) bytes
+cut_more table c (byte ∷ bytes) =
+    ap (λ z. take_bytes z bytes) (cut_next table c byte) ∙ cut_more table (cut_byte c byte) bytes
 
 -- the law: bytes that come later may as well come at once
 pub feeds : (before now : LiveState) (piece : List ℕ) → now ≡ take_bytes before piece → Feeds before piece now
@@ -158,29 +189,42 @@ feeds before now piece is table fed e = is ∙ ap (λ z. take_bytes z piece) e �
 -- after a lawless record nothing changes
 pub bad_stays : (s : LiveState) (bad : Bad) (bytes : List ℕ) → s.bad ≡ Some bad → take_bytes s bytes ≡ s
 bad_stays s bad [] e = refl
-bad_stays s bad (byte ∷ bytes) e = ap (λ z. take_bytes z bytes) (ap (λ b. cond b s (cond s.closed (refused s Length) (take_open s (s.rest ++ byte ∷ [])))) (ap is_some e)) ∙ bad_stays s bad bytes e
+bad_stays s bad (byte ∷ bytes) e = ap (λ z. take_bytes z bytes)
+    (ap (λ b. cond b s (cond s.closed (refused s Length) (take_open s (s.rest ++ byte ∷ [])))) (ap is_some e))
+    ∙ bad_stays s bad bytes e
 
 -- an open stream takes a record as it judges it
-pub open_record : (s : LiveState) (bytes : List ℕ) → s.bad ≡ None → s.closed ≡ false → take_record s bytes ≡ judged s (record_of bytes).time (event_of s.progress.dispatcher.table (record_of bytes))
-open_record s bytes n c = ap (λ b. cond b s (cond s.closed (refused s Length) (judged s (record_of bytes).time (event_of s.progress.dispatcher.table (record_of bytes))))) (ap is_some n)
-    ∙ ap (λ b. cond b (refused s Length) (judged s (record_of bytes).time (event_of s.progress.dispatcher.table (record_of bytes)))) c
+pub open_record : (s : LiveState) (bytes : List ℕ) → s.bad ≡ None → s.closed ≡ false →
+    take_record s bytes ≡ judged s (record_of bytes).time (event_of s.progress.dispatcher.table (record_of bytes))
+open_record s bytes n c = ap (λ b. cond b s (cond s.closed (refused s Length)
+    (judged s (record_of bytes).time (event_of s.progress.dispatcher.table (record_of bytes))))) (ap is_some n)
+    ∙ ap (λ b. cond b (refused s Length)
+    (judged s (record_of bytes).time (event_of s.progress.dispatcher.table (record_of bytes)))) c
 
 -- a byte of an open stream, which completes a record or doesn't
-pub opened : (s : LiveState) (byte : ℕ) → s.bad ≡ None → s.closed ≡ false → take_byte s byte ≡ take_open s (s.rest ++ byte ∷ [])
-opened s byte n c = ap (λ b. cond b s (cond s.closed (refused s Length) (take_open s (s.rest ++ byte ∷ [])))) (ap is_some n)
+pub opened : (s : LiveState) (byte : ℕ) → s.bad ≡ None → s.closed ≡ false →
+    take_byte s byte ≡ take_open s (s.rest ++ byte ∷ [])
+opened s byte n c =
+    ap (λ b. cond b s (cond s.closed (refused s Length) (take_open s (s.rest ++ byte ∷ [])))) (ap is_some n)
     ∙ ap (λ b. cond b (refused s Length) (take_open s (s.rest ++ byte ∷ []))) c
 
-pub whole_byte : (s : LiveState) (byte : ℕ) (bytes : List ℕ) (told : Record) → s.bad ≡ None → s.closed ≡ false → bytes ≡ s.rest ++ byte ∷ [] → length bytes ≡ 14 → told ≡ record_of bytes →
+pub whole_byte : (s : LiveState) (byte : ℕ) (bytes : List ℕ) (told : Record) → s.bad ≡ None → s.closed ≡ false →
+    bytes ≡ s.rest ++ byte ∷ [] → length bytes ≡ 14 →
+    told ≡ record_of bytes →
     judged (record s { rest = [] }) told.time (event_of s.progress.dispatcher.table told) ≡ take_byte s byte
 whole_byte s byte bytes told n c same l is =
     ap (λ (r : Record). judged (record s { rest = [] }) r.time (event_of s.progress.dispatcher.table r)) is
     ∙ sym (open_record (record s { rest = [] }) bytes n c)
-    ∙ sym (ap (λ b. cond b (take_record (record s { rest = [] }) bytes) (record s { rest = bytes })) (eq-eqb (length bytes) 14 l))
+    ∙ sym (ap (λ b. cond b (take_record (record s { rest = [] }) bytes) (record s { rest = bytes }))
+    (eq-eqb (length bytes) 14 l))
     ∙ ap (take_open s) same ∙ sym (opened s byte n c)
 
-pub part_byte : (s : LiveState) (byte : ℕ) (bytes : List ℕ) → s.bad ≡ None → s.closed ≡ false → bytes ≡ s.rest ++ byte ∷ [] → length bytes ≢ 14 → record s { rest = bytes } ≡ take_byte s byte
+pub part_byte : (s : LiveState) (byte : ℕ) (bytes : List ℕ) → s.bad ≡ None → s.closed ≡ false →
+    bytes ≡ s.rest ++ byte ∷ [] → length bytes ≢ 14 →
+    record s { rest = bytes } ≡ take_byte s byte
 part_byte s byte bytes n c same l =
-    sym (ap (λ b. cond b (take_record (record s { rest = [] }) bytes) (record s { rest = bytes })) (ne_eqb (length bytes) 14 l))
+    sym (ap (λ b. cond b (take_record (record s { rest = [] }) bytes) (record s { rest = bytes }))
+    (ne_eqb (length bytes) 14 l))
     ∙ ap (take_open s) same ∙ sym (opened s byte n c)
 
 -- what a feed keeps after a lawless record

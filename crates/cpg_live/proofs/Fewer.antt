@@ -1,16 +1,21 @@
 -- A node that takes no more turns than it must does the same.
-use Rattle.std.proofs.Common.{◌≡◌, ◌≢◌, ℕ, zero, suc, ◌+◌, ◌≤◌, Bool, true, false, cond, ◌&&◌, ◌==◌, List, [], ◌∷◌, ◌++◌, length, filter, fold, get_or, Contains, Option, Some, None, refl, sym, ap}
-use Rattle.std.proofs.Common.{◌∙◌, subst, arith, inl, inr, ◌⊎◌, true≢false, lt-ltb, ltb-true, leb-true, eqb-true, eq-eqb, ne_eqb, append-nil}
+use Rattle.std.proofs.Common.{◌≡◌, ◌≢◌, ℕ, zero, suc, ◌+◌, ◌≤◌, Bool, true, false, cond, ◌&&◌, ◌==◌, List, [], ◌∷◌}
+use Rattle.std.proofs.Common.{◌++◌, length, filter, fold, get_or, Contains, Option, Some, None, refl, sym, ap}
+use Rattle.std.proofs.Common.{◌∙◌, subst, arith, inl, inr, ◌⊎◌, true≢false, lt-ltb, ltb-true, leb-true, eqb-true}
+use Rattle.std.proofs.Common.{eq-eqb, ne_eqb, append-nil}
 use Rattle.std.specs.Prelude.{All, IfSome, is_some, is_none, nat_lt, nat_le, replicate}
 use Rattle.std.proofs.lemmas.List.{length-replicate}
 use Rattle.std.specs.List.{flat_map, list_any}
 use Rattle.std.proofs.lemmas.Bool.{and_parts, cases_eq, cases_lt, cases_Bool, cond-true, cond-false, ltb-false}
 use Rattle.std.proofs.lemmas.Option.{none-some, same_Some}
-use Rattle.std.proofs.lemmas.List.Elements.{All-cons, All-head, All-tail, All-nil, Contains-append_left, Contains-append_right, Contains-append_cases}
-use Rattle.cpg_base.proofs.Lists.{Contains-first, Contains-rest, Contains-cases, Contains-nil, Contains-filter, Contains-filter_parts, list_any_parts, from_any_false, same_truth}
+use Rattle.std.proofs.lemmas.List.Elements.{All-cons, All-head, All-tail, All-nil, Contains-append_left}
+use Rattle.std.proofs.lemmas.List.Elements.{Contains-append_right, Contains-append_cases}
+use Rattle.cpg_base.proofs.Lists.{Contains-first, Contains-rest, Contains-cases, Contains-nil, Contains-filter}
+use Rattle.cpg_base.proofs.Lists.{Contains-filter_parts, list_any_parts, from_any_false, same_truth}
 use Rattle.cpg_table.specs.Table.{NodeTable}
 use Rattle.cpg_table.specs.Lawful.{IsTable}
-use Rattle.cpg_node.specs.Dispatcher.{Dispatcher, Own, Range, Running, Ended, Frame, Act, zip_with, candidates, is_after, next, turn, acts_of_turn, heard_after, running_after, ends_in_turn}
+use Rattle.cpg_node.specs.Dispatcher.{Dispatcher, Own, Range, Running, Ended, Frame, Act, zip_with, candidates}
+use Rattle.cpg_node.specs.Dispatcher.{is_after, next, turn, acts_of_turn, heard_after, running_after, ends_in_turn}
 use Rattle.cpg_node.specs.Dispatcher.{with_report, hear_frame, is_strange, initial_dispatcher}
 use Rattle.cpg_node.specs.State.{running_in, running_of, time_of}
 use Rattle.cpg_node.specs.Plan.{fixed_times}
@@ -24,21 +29,25 @@ use Rattle.cpg_live.specs.declared.event.Event.TheVariants.{Frame as Arrival, En
 use Rattle.cpg_live.specs.declared.bad.Why.{Why}
 use Rattle.cpg_live.specs.declared.bad.Why.TheVariants.{Length, Kind, Order, Frame as StrangeFrame, End as FalseEnd}
 use Rattle.cpg_live.specs.Records.{cut, record_of, event_of}
-use Rattle.cpg_live.specs.Stream.{NodeProgress, Step, LiveState, take_turn, instant_below, turn_if, turns_below, turned, faulty, lawful, may_tell, may_end_now, may_end, arrived, ended, step, refused}
+use Rattle.cpg_live.specs.Stream.{NodeProgress, Step, LiveState, take_turn, instant_below, turn_if, turns_below, turned}
+use Rattle.cpg_live.specs.Stream.{faulty, lawful, may_tell, may_end_now, may_end, arrived, ended, step, refused}
 use Rattle.cpg_live.specs.Stream.{settled, stepped, judged, take_record, with_rest, open_stream, is_close}
 use Rattle.cpg_live.specs.Told.{after_last}
-use Rattle.cpg_live.specs.Fewer.{turns_awaited, turned_fewer, step_fewer, judged_fewer, take_record_fewer, with_last, TurnsMayBeLeftOut}
+use Rattle.cpg_live.specs.Fewer.{turns_awaited, turned_fewer, step_fewer, judged_fewer, take_record_fewer, with_last}
+use Rattle.cpg_live.specs.Fewer.{TurnsMayBeLeftOut}
 use Rattle.cpg_live.proofs.Turns.{floor_after, after_floor, Below, NotBelow, below_or_not, still}
 
 -- a candidate after the last turn isn't before the next instant
-candidate_next : (d : Dispatcher) (x : ℕ) → Contains (candidates d) x → is_after d.last x ≡ true → (y : ℕ) × (next d ≡ Some y) × (y ≤ x)
+candidate_next : (d : Dispatcher) (x : ℕ) → Contains (candidates d) x → is_after d.last x ≡ true →
+    (y : ℕ) × (next d ≡ Some y) × (y ≤ x)
 candidate_next d x m a = go (next d) refl
   where
     go : (o : Option ℕ) → next d ≡ o → (y : ℕ) × (next d ≡ Some y) × (y ≤ x)
     go None e = absurd (true≢false (sym (next_none d e x m) ∙ not_by d.last x a))
     go (Some y) e = (y, e, (next_is d y e).least x m (not_by d.last x a))
 
-still_fewer : (n limit : ℕ) (p : NodeProgress) → instant_below limit (next_awaited p.dispatcher) ≡ None → turns_awaited n limit p ≡ p
+still_fewer : (n limit : ℕ) (p : NodeProgress) → instant_below limit (next_awaited p.dispatcher) ≡ None →
+    turns_awaited n limit p ≡ p
 unfolding turns_awaited
 still_fewer zero limit p e = refl
 still_fewer (suc n) limit p e = ap (λ o. turns_awaited n limit (turn_if p o)) e ∙ still_fewer n limit p e
@@ -46,15 +55,18 @@ still_fewer (suc n) limit p e = ap (λ o. turns_awaited n limit (turn_if p o)) e
 -- What runs tells few faults.
 
 module _ (k : ℕ) where
-  few_after : (ended : List Ended) (acts : List Act) (time : ℕ) (o : Own) (run : Option Running) → TellsFew k run → TellsFew k (running_after ended acts time o run)
-  few_after ended acts time o run h = go (list_any (λ (a : Act). a.item == o.process) acts) (list_any (λ (e : Ended). e.process == o.process) ended)
+  few_after : (ended : List Ended) (acts : List Act) (time : ℕ) (o : Own) (run : Option Running) → TellsFew k run →
+      TellsFew k (running_after ended acts time o run)
+  few_after ended acts time o run h =
+      go (list_any (λ (a : Act). a.item == o.process) acts) (list_any (λ (e : Ended). e.process == o.process) ended)
     where
       go : (b c : Bool) → TellsFew k (cond b (Some (record { start = time; report = None })) (cond c None run))
       go true c = tt
       go false true = tt
       go false false = h
 
-  few_report : (e : Ended) → e.faults ≤ k → (o : Own) (run : Option Running) → TellsFew k run → TellsFew k (with_report e o run)
+  few_report : (e : Ended) → e.faults ≤ k → (o : Own) (run : Option Running) → TellsFew k run →
+      TellsFew k (with_report e o run)
   few_report e few o None h = h
   few_report e few o (Some run) h = go (o.process == e.process)
     where
@@ -62,20 +74,26 @@ module _ (k : ℕ) where
       go true = few
       go false = h
 
-  few_zip : (f : Own → Option Running → Option Running) → ((o : Own) (run : Option Running) → TellsFew k run → TellsFew k (f o run)) → (os : List Own) (runs : List (Option Running)) →
+  few_zip : (f : Own → Option Running → Option Running) →
+      ((o : Own) (run : Option Running) → TellsFew k run → TellsFew k (f o run)) →
+      (os : List Own) (runs : List (Option Running)) →
       All (TellsFew k) runs →
       All (TellsFew k) (zip_with f os runs)
   few_zip f keep [] runs h = All-nil (TellsFew k)
   few_zip f keep (o ∷ os) [] h = All-nil (TellsFew k)
   few_zip f keep (o ∷ os) (run ∷ runs) h =
-      All-cons (TellsFew k) (f o run) (zip_with f os runs) (keep o run (All-head (TellsFew k) run runs h)) (few_zip f keep os runs (All-tail (TellsFew k) run runs h))
+      All-cons (TellsFew k) (f o run) (zip_with f os runs) (keep o run (All-head (TellsFew k) run runs h))
+      (few_zip f keep os runs (All-tail (TellsFew k) run runs h))
 
 -- What an end that is told moves.
 
-none_in : (p : ℕ) (os : List Own) (runs : List (Option Running)) → ((o : Own) → Contains os o → o.process ≢ p) → running_in os runs p ≡ None
+none_in : (p : ℕ) (os : List Own) (runs : List (Option Running)) → ((o : Own) → Contains os o → o.process ≢ p) →
+    running_in os runs p ≡ None
 none_in p [] runs h = refl
 none_in p (o ∷ os) [] h = refl
-none_in p (o ∷ os) (run ∷ runs) h = cond-false _ run (running_in os runs p) (ne_eqb o.process p (h o (Contains-first o os))) ∙ none_in p os runs (λ q m. h q (Contains-rest o os q m))
+none_in p (o ∷ os) (run ∷ runs) h =
+    cond-false _ run (running_in os runs p) (ne_eqb o.process p (h o (Contains-first o os)))
+    ∙ none_in p os runs (λ q m. h q (Contains-rest o os q m))
 
 abbrev own_in : List Own → ℕ → Own
 own_in os p = get_or (filter (λ (o : Own). o.process == p) os) 0 (record { process = 0; condition = None; times = [] })
@@ -84,7 +102,8 @@ abbrev ends_in : ℕ → List Own → List (Option Running) → List ℕ
 ends_in k os runs = flat_map (λ ends. ends) (zip_with (awaited_end k) os runs)
 
 abbrev InTime : ℕ → Ended → List Own → List (Option Running) → Type 0
-InTime time e os runs = (run : Running) → running_in os runs e.process ≡ Some run → time ≤ run.start + get_or (own_in os e.process).times e.faults 0
+InTime time e os runs = (run : Running) → running_in os runs e.process ≡ Some run →
+    time ≤ run.start + get_or (own_in os e.process).times e.faults 0
 
 moved : (k time : ℕ) (e : Ended) (os : List Own) (runs : List (Option Running)) → DoRise os → InTime time e os runs →
     (x : ℕ) → Contains (ends_in k os (zip_with (with_report e) os runs)) x → Contains (ends_in k os runs) x ⊎ (time ≤ x)
@@ -110,16 +129,20 @@ moved k time e (o ∷ os) (run ∷ runs) r h x m = go (o.process == e.process) r
     is_here None = refl
     is_here (Some run) = refl
 
-    go : (b : Bool) → o.process == e.process ≡ b → (run : Option Running) → InTime time e (o ∷ os) (run ∷ runs) → Contains (awaited_end k o (with_report e o run) ++ new) x →
-        (InTime time e os runs → (x : ℕ) → Contains new x → Contains rest x ⊎ (time ≤ x)) → Contains (awaited_end k o run ++ rest) x ⊎ (time ≤ x)
+    go : (b : Bool) → o.process == e.process ≡ b → (run : Option Running) → InTime time e (o ∷ os) (run ∷ runs) →
+        Contains (awaited_end k o (with_report e o run) ++ new) x →
+        (InTime time e os runs → (x : ℕ) → Contains new x → Contains rest x ⊎ (time ≤ x)) →
+        Contains (awaited_end k o run ++ rest) x ⊎ (time ≤ x)
     go false is run h m ih =
         let same : with_report e o run ≡ run = is_here run ∙ ap (λ b. here b run) is ∙ plain run in
         let tail : InTime time e os runs = λ q s. subst (λ (z : Own). time ≤ q.start + get_or z.times e.faults 0)
         (ap (λ l. get_or l 0 (record { process = 0; condition = None; times = [] }))
-        (cond-false _ (o ∷ filter (λ (o : Own). o.process == e.process) os) (filter (λ (o : Own). o.process == e.process) os) is))
+        (cond-false _ (o ∷ filter (λ (o : Own). o.process == e.process) os)
+        (filter (λ (o : Own). o.process == e.process) os) is))
         (h q (cond-false _ run (running_in os runs e.process) is ∙ s)) in
         elim (Contains-append_cases (awaited_end k o (with_report e o run)) new x m) [
-          | inl c ↦ inl (Contains-append_left (awaited_end k o run) rest x (subst (λ q. Contains (awaited_end k o q) x) same c))
+          | inl c ↦ inl
+              (Contains-append_left (awaited_end k o run) rest x (subst (λ q. Contains (awaited_end k o q) x) same c))
           | inr c ↦ later (awaited_end k o run) (ih tail x c)
         ]
       where
@@ -127,22 +150,31 @@ moved k time e (o ∷ os) (run ∷ runs) r h x m = go (o.process == e.process) r
         plain None = refl
         plain (Some run) = refl
     go true is run h m ih =
-        let tail : InTime time e os runs = λ q s. absurd (none-some q (sym (none_in e.process os runs (λ p n z. omega (arith, r.0 p n, z, eqb-true _ _ is))) ∙ s)) in
+        let tail : InTime time e os runs = λ q s. absurd
+        (none-some q (sym (none_in e.process os runs (λ p n z. omega (arith, r.0 p n, z, eqb-true _ _ is))) ∙ s)) in
         elim (Contains-append_cases (awaited_end k o (with_report e o run)) new x m) [
           | inl c ↦ first run h c
           | inr c ↦ later (awaited_end k o run) (ih tail x c)
         ]
       where
-        first : (run : Option Running) → InTime time e (o ∷ os) (run ∷ runs) → Contains (awaited_end k o (with_report e o run)) x → Contains (awaited_end k o run ++ rest) x ⊎ (time ≤ x)
+        first : (run : Option Running) → InTime time e (o ∷ os) (run ∷ runs) →
+            Contains (awaited_end k o (with_report e o run)) x →
+            Contains (awaited_end k o run ++ rest) x ⊎ (time ≤ x)
         first None h c = absurd (Contains-nil x c)
         first (Some q) h c =
             let end : ℕ = q.start + get_or o.times e.faults 0 in
-            let said : Contains (end ∷ []) x = subst (λ z. Contains (awaited_end k o z) x) (is_here (Some q) ∙ ap (λ b. here b (Some q)) is) c in
-            let late : time ≤ q.start + get_or o.times e.faults 0 = subst (λ (z : Own). time ≤ q.start + get_or z.times e.faults 0)
+            let said : Contains (end ∷ []) x =
+            subst (λ z. Contains (awaited_end k o z) x) (is_here (Some q) ∙ ap (λ b. here b (Some q)) is) c in
+            let late : time ≤ q.start + get_or o.times e.faults 0 =
+            subst (λ (z : Own). time ≤ q.start + get_or z.times e.faults 0)
             (ap (λ l. get_or l 0 (record { process = 0; condition = None; times = [] }))
-            (cond-true _ (o ∷ filter (λ (o : Own). o.process == e.process) os) (filter (λ (o : Own). o.process == e.process) os) is))
+            (cond-true _ (o ∷ filter (λ (o : Own). o.process == e.process) os)
+            (filter (λ (o : Own). o.process == e.process) os) is))
             (h q (cond-true _ (Some q) (running_in os runs e.process) is)) in
-            elim (Contains-cases end [] x said) [ inl z ↦ inr (omega (arith, z, late)) | inr n ↦ absurd (Contains-nil x n) ]
+            elim (Contains-cases end [] x said) [
+              | inl z ↦ inr (omega (arith, z, late))
+              | inr n ↦ absurd (Contains-nil x n)
+            ]
 
 -- Two nodes that differ in their last instants alone.
 module _ (t : NodeTable) (made : IsTable t) where
@@ -170,12 +202,17 @@ module _ (t : NodeTable) (made : IsTable t) where
     before : is_after l limit ≡ true
     later : is_after m limit ≡ true
 
-  awaited_next : (h : List Range) (r : List (Option Running)) (l m : Option ℕ) → Alike r l m → (x : ℕ) → Contains (awaited (node h r m)) x → is_after m x ≡ true →
+  awaited_next : (h : List Range) (r : List (Option Running)) (l m : Option ℕ) → Alike r l m → (x : ℕ) →
+      Contains (awaited (node h r m)) x →
+      is_after m x ≡ true →
       (y : ℕ) × (next (node h r l) ≡ Some y) × (y ≤ x)
-  awaited_next h r l m a x c z = candidate_next (node h r l) x (awaited_candidates (node h r l) made a.few x c) (a.reached x c ∙ z)
+  awaited_next h r l m a x c z =
+      candidate_next (node h r l) x (awaited_candidates (node h r l) made a.few x c) (a.reached x c ∙ z)
 
   -- if the node of all turns has no instant below a limit, the other has none
-  none_fewer : (h : List Range) (r : List (Option Running)) (l m : Option ℕ) (limit : ℕ) → Alike r l m → NotBelow limit (next (node h r l)) → instant_below limit (next_awaited (node h r m)) ≡ None
+  none_fewer : (h : List Range) (r : List (Option Running)) (l m : Option ℕ) (limit : ℕ) → Alike r l m →
+      NotBelow limit (next (node h r l)) →
+      instant_below limit (next_awaited (node h r m)) ≡ None
   none_fewer h r l m limit a n = elim (below_or_not limit (next_awaited (node h r m))) [
     | inr z ↦ z.none
     | inl b ↦
@@ -187,12 +224,15 @@ module _ (t : NodeTable) (made : IsTable t) where
   ]
 
   -- if its next instant is awaited, it is the other's
-  next_same : (h : List Range) (r : List (Option Running)) (l m : Option ℕ) (time : ℕ) → Alike r l m → next (node h r l) ≡ Some time → Contains (awaited (node h r m)) time →
+  next_same : (h : List Range) (r : List (Option Running)) (l m : Option ℕ) (time : ℕ) → Alike r l m →
+      next (node h r l) ≡ Some time →
+      Contains (awaited (node h r m)) time →
       next_awaited (node h r m) ≡ Some time
   next_same h r l m time a e c = go (next_awaited (node h r m)) refl
     where
       there : Contains (filter (is_after m) (awaited (node h r m))) time
-      there = Contains-filter (is_after m) (awaited (node h r m)) time (sym (a.reached time c) ∙ (next_is (node h r l) time e).after) c
+      there = Contains-filter (is_after m) (awaited (node h r m)) time
+          (sym (a.reached time c) ∙ (next_is (node h r l) time e).after) c
 
       go : (o : Option ℕ) → next_awaited (node h r m) ≡ o → o ≡ Some time
       go None z = absurd (Contains-nil time (subst (λ l. Contains l time) (least_of_none _ z) there))
@@ -205,33 +245,41 @@ module _ (t : NodeTable) (made : IsTable t) where
           ap Some is
 
   -- a turn keeps what is known of what runs
-  alike_turn : (h : List Range) (r : List (Option Running)) (l : Option ℕ) (time : ℕ) → length r ≡ length t.own → All (TellsFew t.faults) r →
+  alike_turn : (h : List Range) (r : List (Option Running)) (l : Option ℕ) (time : ℕ) → length r ≡ length t.own →
+      All (TellsFew t.faults) r →
       Alike (turn (node h r l) time [] []).running (Some time) (Some time)
   alike_turn h r l time count few = record {
-    count = length_zip (running_after (ends_in_turn (node h r l) time []) (acts_of_turn (node h r l) time [] []) time) t.own r count;
+    count = length_zip (running_after (ends_in_turn (node h r l) time []) (acts_of_turn (node h r l) time [] []) time)
+        t.own r count;
     few =
         few_zip t.faults (running_after (ends_in_turn (node h r l) time []) (acts_of_turn (node h r l) time [] []) time)
-        (few_after t.faults (ends_in_turn (node h r l) time []) (acts_of_turn (node h r l) time [] []) time) t.own r few;
+        (few_after t.faults (ends_in_turn (node h r l) time []) (acts_of_turn (node h r l) time [] []) time) t.own r
+        few;
     reached = λ x c. refl;
   }
 
   -- a turn that is left out
-  alike_quiet : (h : List Range) (r : List (Option Running)) (l m : Option ℕ) (time : ℕ) → Alike r l m → next (node h r l) ≡ Some time → (Contains (awaited (node h r m)) time → ⊥) →
+  alike_quiet : (h : List Range) (r : List (Option Running)) (l m : Option ℕ) (time : ℕ) → Alike r l m →
+      next (node h r l) ≡ Some time →
+      (Contains (awaited (node h r m)) time → ⊥) →
       Alike r (Some time) m
   alike_quiet h r l m time a e out = record {
     count = a.count;
     few = a.few;
     reached = λ x c. same_truth (is_after (Some time) x) (is_after m x)
-        (λ z. sym (a.reached x c) ∙ after_floor l x (let f = floor_after l time (next_is (node h r l) time e).after in omega (arith, f, ltb-true time x z)))
+        (λ z. sym (a.reached x c) ∙ after_floor l x (let f = floor_after l time (next_is (node h r l) time e).after in
+        omega (arith, f, ltb-true time x z)))
         (λ z. let n = awaited_next h r l m a x c z in
         let same : n.0 ≡ time = same_Some _ _ (sym n.1 ∙ e) in
         elim (cases_eq x time) [
           | inl is ↦ absurd (out (subst (Contains (awaited (node h r m))) is c))
-          | inr ne ↦ lt-ltb time x (elim (cases_lt time x) [ inl less ↦ less | inr ge ↦ absurd (ne (omega (arith, n.2, same, ge))) ])
+          | inr ne ↦ lt-ltb time x
+              (elim (cases_lt time x) [ inl less ↦ less | inr ge ↦ absurd (ne (omega (arith, n.2, same, ge))) ])
         ]);
   }
 
-  left_out : (h : List Range) (r : List (Option Running)) (l m : Option ℕ) (a : List Act) (time : ℕ) → Alike r l m → (Contains (awaited (node h r m)) time → ⊥) →
+  left_out : (h : List Range) (r : List (Option Running)) (l m : Option ℕ) (a : List Act) (time : ℕ) → Alike r l m →
+      (Contains (awaited (node h r m)) time → ⊥) →
       take_turn time (prog h r l a) ≡ prog h r (Some time) a
   left_out h r l m a time k out =
       let q = quiet_turns (node h r l) time k.count (turns_left_out (node h r l) time out h) in
@@ -241,10 +289,13 @@ module _ (t : NodeTable) (made : IsTable t) where
   abbrev TurnsAlike : ℕ → ℕ → Type 0
   TurnsAlike n limit =
       (k : ℕ) (h : List Range) (r : List (Option Running)) (l m : Option ℕ)
-      (a : List Act) → Alike r l m → limit ≤ n + after_last l → limit ≤ k + after_last m → is_after l limit ≡ true → is_after m limit ≡ true →
+      (a : List Act) → Alike r l m → limit ≤ n + after_last l → limit ≤ k + after_last m → is_after l limit ≡ true →
+      is_after m limit ≡ true →
       Pair limit (turns_below n limit (prog h r l a)) (turns_awaited k limit (prog h r m a))
 
-  ended_alike : (n k limit : ℕ) (h : List Range) (r : List (Option Running)) (l m : Option ℕ) (a : List Act) → Alike r l m → is_after l limit ≡ true → is_after m limit ≡ true →
+  ended_alike : (n k limit : ℕ) (h : List Range) (r : List (Option Running)) (l m : Option ℕ) (a : List Act) →
+      Alike r l m → is_after l limit ≡ true →
+      is_after m limit ≡ true →
       NotBelow limit (next (node h r l)) →
       Pair limit (turns_below n limit (prog h r l a)) (turns_awaited k limit (prog h r m a))
   ended_alike n k limit h r l m a same f g z = record {
@@ -261,9 +312,12 @@ module _ (t : NodeTable) (made : IsTable t) where
   }
 
   -- a turn of both
-  both_turn : (n limit : ℕ) → TurnsAlike n limit → (k : ℕ) (h : List Range) (r : List (Option Running)) (l m : Option ℕ) (a : List Act) → Alike r l m → limit ≤ suc n + after_last l →
+  both_turn : (n limit : ℕ) → TurnsAlike n limit →
+      (k : ℕ) (h : List Range) (r : List (Option Running)) (l m : Option ℕ) (a : List Act) → Alike r l m →
+      limit ≤ suc n + after_last l →
       limit ≤ k + after_last m →
-      (b : Below limit (next (node h r l))) → Contains (awaited (node h r m)) b.time → Pair limit (turns_below n limit (take_turn b.time (prog h r l a))) (turns_awaited k limit (prog h r m a))
+      (b : Below limit (next (node h r l))) → Contains (awaited (node h r m)) b.time →
+      Pair limit (turns_below n limit (take_turn b.time (prog h r l a))) (turns_awaited k limit (prog h r m a))
   unfolding turns_awaited
   both_turn n limit ih zero h r l m a same p q b c =
       let passed : is_after m b.time ≡ true = sym (same.reached b.time c) ∙ (next_is (node h r l) b.time b.is).after in
@@ -271,27 +325,38 @@ module _ (t : NodeTable) (made : IsTable t) where
   both_turn n limit ih (suc k) h r l m a same p q b c =
       let passed : is_after m b.time ≡ true = sym (same.reached b.time c) ∙ (next_is (node h r l) b.time b.is).after in
       let found : instant_below limit (next_awaited (node h r m)) ≡ Some b.time =
-      ap (instant_below limit) (next_same h r l m b.time same b.is c) ∙ ap (λ z. cond z (Some b.time) None) (lt-ltb b.time limit b.less) in
+      ap (instant_below limit) (next_same h r l m b.time same b.is c)
+      ∙ ap (λ z. cond z (Some b.time) None) (lt-ltb b.time limit b.less) in
       let d : Dispatcher = node h r l in
       let f = floor_after l b.time (next_is (node h r l) b.time b.is).after in
       let g = floor_after m b.time passed in
-      subst (λ Q. Pair limit (turns_below n limit (take_turn b.time (prog h r l a))) (turns_awaited k limit Q)) (sym (ap (turn_if (prog h r m a)) found))
-      (ih k (heard_after d b.time [] []) (turn d b.time [] []).running (Some b.time) (Some b.time) (a ++ acts_of_turn d b.time [] []) (alike_turn h r l b.time same.count same.few)
+      subst (λ Q. Pair limit (turns_below n limit (take_turn b.time (prog h r l a))) (turns_awaited k limit Q))
+      (sym (ap (turn_if (prog h r m a)) found))
+      (ih k (heard_after d b.time [] []) (turn d b.time [] []).running (Some b.time) (Some b.time)
+      (a ++ acts_of_turn d b.time [] []) (alike_turn h r l b.time same.count same.few)
       (omega (arith, p, f)) (omega (arith, q, g)) (lt-ltb b.time limit b.less) (lt-ltb b.time limit b.less))
 
-  next_turn : (n limit : ℕ) → TurnsAlike n limit → (k : ℕ) (h : List Range) (r : List (Option Running)) (l m : Option ℕ) (a : List Act) → Alike r l m → limit ≤ suc n + after_last l →
+  next_turn : (n limit : ℕ) → TurnsAlike n limit →
+      (k : ℕ) (h : List Range) (r : List (Option Running)) (l m : Option ℕ) (a : List Act) → Alike r l m →
+      limit ≤ suc n + after_last l →
       limit ≤ k + after_last m → is_after m limit ≡ true →
-      (b : Below limit (next (node h r l))) → Pair limit (turns_below n limit (take_turn b.time (prog h r l a))) (turns_awaited k limit (prog h r m a))
-  next_turn n limit ih k h r l m a same p q g b = elim (cases_Bool (list_any (λ x. x == b.time) (awaited (node h r m)))) [
-    | inl there ↦
-        let c = list_any_parts (λ x. x == b.time) (awaited (node h r m)) there in
-        both_turn n limit ih k h r l m a same p q b (subst (Contains (awaited (node h r m))) (eqb-true c.0 b.time c.2) c.1)
-    | inr gone ↦
-        let out : Contains (awaited (node h r m)) b.time → ⊥ = λ c. true≢false (sym (eq-eqb b.time b.time refl) ∙ from_any_false (λ x. x == b.time) (awaited (node h r m)) b.time gone c) in
-        let f = floor_after l b.time (next_is (node h r l) b.time b.is).after in
-        subst (λ P. Pair limit (turns_below n limit P) (turns_awaited k limit (prog h r m a))) (sym (left_out h r l m a b.time same out))
-        (ih k h r (Some b.time) m a (alike_quiet h r l m b.time same b.is out) (omega (arith, p, f)) q (lt-ltb b.time limit b.less) g)
-  ]
+      (b : Below limit (next (node h r l))) →
+      Pair limit (turns_below n limit (take_turn b.time (prog h r l a))) (turns_awaited k limit (prog h r m a))
+  next_turn n limit ih k h r l m a same p q g b =
+      elim (cases_Bool (list_any (λ x. x == b.time) (awaited (node h r m)))) [
+        | inl there ↦
+            let c = list_any_parts (λ x. x == b.time) (awaited (node h r m)) there in
+            both_turn n limit ih k h r l m a same p q b
+            (subst (Contains (awaited (node h r m))) (eqb-true c.0 b.time c.2) c.1)
+        | inr gone ↦
+            let out : Contains (awaited (node h r m)) b.time → ⊥ = λ c. true≢false (sym (eq-eqb b.time b.time refl)
+            ∙ from_any_false (λ x. x == b.time) (awaited (node h r m)) b.time gone c) in
+            let f = floor_after l b.time (next_is (node h r l) b.time b.is).after in
+            subst (λ P. Pair limit (turns_below n limit P) (turns_awaited k limit (prog h r m a)))
+            (sym (left_out h r l m a b.time same out))
+            (ih k h r (Some b.time) m a (alike_quiet h r l m b.time same b.is out) (omega (arith, p, f)) q
+            (lt-ltb b.time limit b.less) g)
+      ]
 
   turns_alike : (n limit : ℕ) → TurnsAlike n limit
   unfolding turns_below
@@ -302,14 +367,17 @@ module _ (t : NodeTable) (made : IsTable t) where
   turns_alike (suc n) limit k h r l m a same p q f g = elim (below_or_not limit (next (node h r l))) [
     | inr z ↦ ended_alike (suc n) k limit h r l m a same f g z
     | inl b ↦
-        subst (λ P. Pair limit (turns_below n limit P) (turns_awaited k limit (prog h r m a))) (sym (ap (turn_if (prog h r l a)) b.found))
+        subst (λ P. Pair limit (turns_below n limit P) (turns_awaited k limit (prog h r m a)))
+        (sym (ap (turn_if (prog h r l a)) b.found))
         (next_turn n limit (turns_alike n limit) k h r l m a same p q g b)
   ]
 
   turned_alike : (limit : ℕ) (P Q : NodeProgress) → Pair limit P Q → Pair limit (turned limit P) (turned_fewer limit Q)
   turned_alike limit P Q k =
-      subst (λ P. Pair limit (turned limit P) (turned_fewer limit Q)) (sym k.one) (subst (λ Q. Pair limit (turned limit (prog k.heard k.runs k.l k.acts)) (turned_fewer limit Q)) (sym k.two)
-      (turns_alike limit limit limit k.heard k.runs k.l k.m k.acts k.alike (omega arith) (omega arith) k.before k.later))
+      subst (λ P. Pair limit (turned limit P) (turned_fewer limit Q)) (sym k.one)
+      (subst (λ Q. Pair limit (turned limit (prog k.heard k.runs k.l k.acts)) (turned_fewer limit Q)) (sym k.two)
+      (turns_alike limit limit limit k.heard k.runs k.l k.m k.acts k.alike (omega arith)
+      (omega arith) k.before k.later))
 
   after_more : (l : Option ℕ) (x y : ℕ) → x ≤ y → is_after l x ≡ true → is_after l y ≡ true
   after_more l x y le h = after_floor l y (let f = floor_after l x h in omega (arith, le, f))
@@ -336,14 +404,33 @@ module _ (t : NodeTable) (made : IsTable t) where
     pair : Pair limit s.progress z.progress
 
   -- a frame
-  arrived_alike : (time : ℕ) (f : Frame) (P Q : NodeProgress) → Pair time P Q → StepPair time (arrived time f P) (arrived time f Q)
+  arrived_alike : (time : ℕ) (f : Frame) (P Q : NodeProgress) → Pair time P Q →
+      StepPair time (arrived time f P) (arrived time f Q)
   arrived_alike time f P Q k =
-      subst (λ P. StepPair time (arrived time f P) (arrived time f Q)) (sym k.one) (subst (λ Q. StepPair time (arrived time f (prog k.heard k.runs k.l k.acts)) (arrived time f Q)) (sym k.two)
+      subst (λ P. StepPair time (arrived time f P) (arrived time f Q)) (sym k.one)
+      (subst (λ Q. StepPair time (arrived time f (prog k.heard k.runs k.l k.acts)) (arrived time f Q)) (sym k.two)
       (go (is_strange (node k.heard k.runs k.l) time f)))
     where
-      go : (b : Bool) → StepPair time (cond b (faulty (prog k.heard k.runs k.l k.acts) StrangeFrame) (lawful (prog (hear_frame t k.heard f) k.runs k.l k.acts)))
-          (cond b (faulty (prog k.heard k.runs k.m k.acts) StrangeFrame) (lawful (prog (hear_frame t k.heard f) k.runs k.m k.acts)))
-      go true = record { fault = refl; pair = record { heard = k.heard; runs = k.runs; acts = k.acts; l = k.l; m = k.m; one = refl; two = refl; alike = k.alike; before = k.before; later = k.later } }
+      go : (b : Bool) →
+          StepPair time (cond b (faulty (prog k.heard k.runs k.l k.acts) StrangeFrame)
+          (lawful (prog (hear_frame t k.heard f) k.runs k.l k.acts)))
+          (cond b (faulty (prog k.heard k.runs k.m k.acts) StrangeFrame)
+          (lawful (prog (hear_frame t k.heard f) k.runs k.m k.acts)))
+      go true = record {
+        fault = refl;
+        pair = record {
+          heard = k.heard;
+          runs = k.runs;
+          acts = k.acts;
+          l = k.l;
+          m = k.m;
+          one = refl;
+          two = refl;
+          alike = k.alike;
+          before = k.before;
+          later = k.later;
+        };
+      }
       go false =
           record {
             fault = refl;
@@ -363,38 +450,52 @@ module _ (t : NodeTable) (made : IsTable t) where
           }
 
   -- an end that may be told isn't due before it is told
-  in_time : (h : List Range) (r : List (Option Running)) (l : Option ℕ) (time : ℕ) (e : Ended) (o : Option Running) → may_end_now (node h r l) time e o ≡ true → (run : Running) →
+  in_time : (h : List Range) (r : List (Option Running)) (l : Option ℕ) (time : ℕ) (e : Ended) (o : Option Running) →
+      may_end_now (node h r l) time e o ≡ true →
+      (run : Running) →
       o ≡ Some run → time ≤ run.start + get_or (own_in t.own e.process).times e.faults 0
   in_time h r l time e None ok run is = absurd (none-some run is)
   in_time h r l time e (Some q) ok run is =
-      let parts = and_parts (is_none q.report && nat_lt q.start time) (nat_le time (q.start + time_of (node h r l) e.process e.faults)) ok in
-      subst (λ (run : Running). time ≤ run.start + get_or (own_in t.own e.process).times e.faults 0) (same_Some q run is) (leb-true time (q.start + time_of (node h r l) e.process e.faults) parts.1)
+      let parts = and_parts (is_none q.report && nat_lt q.start time)
+      (nat_le time (q.start + time_of (node h r l) e.process e.faults)) ok in
+      subst (λ (run : Running). time ≤ run.start + get_or (own_in t.own e.process).times e.faults 0)
+      (same_Some q run is) (leb-true time (q.start + time_of (node h r l) e.process e.faults) parts.1)
 
-  told_alike : (h : List Range) (r : List (Option Running)) (l m : Option ℕ) (time : ℕ) (e : Ended) → Alike r l m → is_after l time ≡ true → is_after m time ≡ true →
+  told_alike : (h : List Range) (r : List (Option Running)) (l m : Option ℕ) (time : ℕ) (e : Ended) → Alike r l m →
+      is_after l time ≡ true →
+      is_after m time ≡ true →
       may_end (node h r l) time e ≡ true → Alike (zip_with (with_report e) t.own r) l m
   told_alike h r l m time e a f g ok =
-      let parts = and_parts (may_tell (node h r l) e) (may_end_now (node h r l) time e (running_of (node h r l) e.process)) ok in
+      let parts = and_parts (may_tell (node h r l) e)
+      (may_end_now (node h r l) time e (running_of (node h r l) e.process)) ok in
       let some = and_parts (nat_le e.faults t.faults) _ parts.0 in
       record {
         count = length_zip (with_report e) t.own r a.count;
-        few = few_zip t.faults (with_report e) (few_report t.faults e (leb-true e.faults t.faults some.0)) t.own r a.few;
-        reached = λ x c. elim (Contains-append_cases (fixed_times t) (ends_in t.faults t.own (zip_with (with_report e) t.own r)) x c) [
-          | inl fixed ↦ a.reached x (Contains-append_left (fixed_times t) (ends_in t.faults t.own r) x fixed)
-          | inr end ↦ elim (moved t.faults time e t.own r (own_rise t made) (in_time h r l time e (running_of (node h r l) e.process) parts.1) x end) [
-            | inl old ↦ a.reached x (Contains-append_right (fixed_times t) (ends_in t.faults t.own r) x old)
-            | inr late ↦ after_more l time x late f ∙ sym (after_more m time x late g)
-          ]
-        ];
+        few =
+            few_zip t.faults (with_report e) (few_report t.faults e (leb-true e.faults t.faults some.0)) t.own r a.few;
+        reached = λ x c. elim (Contains-append_cases (fixed_times t)
+            (ends_in t.faults t.own (zip_with (with_report e) t.own r)) x c) [
+              | inl fixed ↦ a.reached x (Contains-append_left (fixed_times t) (ends_in t.faults t.own r) x fixed)
+              | inr end ↦ elim (moved t.faults time e t.own r (own_rise t made)
+                  (in_time h r l time e (running_of (node h r l) e.process) parts.1) x end) [
+                    | inl old ↦ a.reached x (Contains-append_right (fixed_times t) (ends_in t.faults t.own r) x old)
+                    | inr late ↦ after_more l time x late f ∙ sym (after_more m time x late g)
+                  ]
+            ];
       }
 
-  ended_step : (time : ℕ) (e : Ended) (P Q : NodeProgress) → Pair time P Q → StepPair time (ended time e P) (ended time e Q)
+  ended_step : (time : ℕ) (e : Ended) (P Q : NodeProgress) → Pair time P Q →
+      StepPair time (ended time e P) (ended time e Q)
   ended_step time e P Q k =
-      subst (λ P. StepPair time (ended time e P) (ended time e Q)) (sym k.one) (subst (λ Q. StepPair time (ended time e (prog k.heard k.runs k.l k.acts)) (ended time e Q)) (sym k.two)
+      subst (λ P. StepPair time (ended time e P) (ended time e Q)) (sym k.one)
+      (subst (λ Q. StepPair time (ended time e (prog k.heard k.runs k.l k.acts)) (ended time e Q)) (sym k.two)
       (go (may_end (node k.heard k.runs k.l) time e) refl))
     where
       go : (b : Bool) → may_end (node k.heard k.runs k.l) time e ≡ b →
-          StepPair time (cond b (lawful (prog k.heard (zip_with (with_report e) t.own k.runs) k.l k.acts)) (faulty (prog k.heard k.runs k.l k.acts) FalseEnd))
-          (cond b (lawful (prog k.heard (zip_with (with_report e) t.own k.runs) k.m k.acts)) (faulty (prog k.heard k.runs k.m k.acts) FalseEnd))
+          StepPair time (cond b (lawful (prog k.heard (zip_with (with_report e) t.own k.runs) k.l k.acts))
+          (faulty (prog k.heard k.runs k.l k.acts) FalseEnd))
+          (cond b (lawful (prog k.heard (zip_with (with_report e) t.own k.runs) k.m k.acts))
+          (faulty (prog k.heard k.runs k.m k.acts) FalseEnd))
       go true is = record {
         fault = refl;
         pair = record {
@@ -411,7 +512,21 @@ module _ (t : NodeTable) (made : IsTable t) where
         };
       }
       go false is =
-          record { fault = refl; pair = record { heard = k.heard; runs = k.runs; acts = k.acts; l = k.l; m = k.m; one = refl; two = refl; alike = k.alike; before = k.before; later = k.later } }
+          record {
+            fault = refl;
+            pair = record {
+              heard = k.heard;
+              runs = k.runs;
+              acts = k.acts;
+              l = k.l;
+              m = k.m;
+              one = refl;
+              two = refl;
+              alike = k.alike;
+              before = k.before;
+              later = k.later;
+            };
+          }
 
   -- how far the instants of turns may have come by a record
   abbrev bound : ℕ → Event → ℕ
@@ -419,10 +534,15 @@ module _ (t : NodeTable) (made : IsTable t) where
   bound time (Ending process faults value) = time
   bound time Close = time + 1
 
-  step_alike : (time : ℕ) (event : Event) (P Q : NodeProgress) → Pair time P Q → StepPair (bound time event) (step time event P) (step_fewer time event Q)
-  step_alike time (Arrival f) P Q k = arrived_alike time f (turned time P) (turned_fewer time Q) (turned_alike time P Q k)
-  step_alike time (Ending process faults value) P Q k = ended_step time (record { process = process; faults = faults; value = value }) (turned time P) (turned_fewer time Q) (turned_alike time P Q k)
-  step_alike time Close P Q k = record { fault = refl; pair = turned_alike (time + 1) P Q (pair_later time (time + 1) P Q (omega arith) k) }
+  step_alike : (time : ℕ) (event : Event) (P Q : NodeProgress) → Pair time P Q →
+      StepPair (bound time event) (step time event P) (step_fewer time event Q)
+  step_alike time (Arrival f) P Q k =
+      arrived_alike time f (turned time P) (turned_fewer time Q) (turned_alike time P Q k)
+  step_alike time (Ending process faults value) P Q k =
+      ended_step time (record { process = process; faults = faults; value = value }) (turned time P)
+      (turned_fewer time Q) (turned_alike time P Q k)
+  step_alike time Close P Q k =
+      record { fault = refl; pair = turned_alike (time + 1) P Q (pair_later time (time + 1) P Q (omega arith) k) }
 
   -- two streams
   record Twins (s z : LiveState) : Type 0 where
@@ -432,57 +552,79 @@ module _ (t : NodeTable) (made : IsTable t) where
     same : z ≡ record s { progress = z.progress }
 
   refused_twins : (s z : LiveState) (why : Why) → Twins s z → Twins (refused s why) (refused z why)
-  refused_twins s z why k = record { limit = k.limit; pair = k.pair; up_to = λ none _. absurd (none-some _ (sym none)); same = ap (λ z. refused z why) k.same }
+  refused_twins s z why k = record {
+    limit = k.limit;
+    pair = k.pair;
+    up_to = λ none _. absurd (none-some _ (sym none));
+    same = ap (λ z. refused z why) k.same;
+  }
 
-  settled_twins : (s : LiveState) (P Q : NodeProgress) (time : ℕ) (event : Event) (o : Option Why) → Pair (bound time event) P Q →
+  settled_twins : (s : LiveState) (P Q : NodeProgress) (time : ℕ) (event : Event) (o : Option Why) →
+      Pair (bound time event) P Q →
       Twins (settled (record s { progress = P }) time event o) (settled (record s { progress = Q }) time event o)
-  settled_twins s P Q time event None k = record { limit = bound time event; pair = k; up_to = λ _ more. far event more; same = refl }
+  settled_twins s P Q time event None k =
+      record { limit = bound time event; pair = k; up_to = λ _ more. far event more; same = refl }
     where
       far : (event : Event) → is_close event ≡ false → bound time event ≤ time
       far (Arrival f) e = omega arith
       far (Ending process faults value) e = omega arith
       far Close e = absurd (true≢false e)
-  settled_twins s P Q time event (Some why) k = record { limit = bound time event; pair = k; up_to = λ none _. absurd (none-some _ (sym none)); same = refl }
+  settled_twins s P Q time event (Some why) k =
+      record { limit = bound time event; pair = k; up_to = λ none _. absurd (none-some _ (sym none)); same = refl }
 
-  judged_twins : (s : LiveState) (Q : NodeProgress) (limit time : ℕ) (o : Option Event) → Pair limit s.progress Q → limit ≤ s.time → Twins s (record s { progress = Q }) →
+  judged_twins : (s : LiveState) (Q : NodeProgress) (limit time : ℕ) (o : Option Event) → Pair limit s.progress Q →
+      limit ≤ s.time →
+      Twins s (record s { progress = Q }) →
       Twins (judged s time o) (judged_fewer (record s { progress = Q }) time o)
   judged_twins s Q limit time None k le t = refused_twins s (record s { progress = Q }) Kind t
   judged_twins s Q limit time (Some event) k le t = go (nat_lt time s.time) refl
     where
-      go : (b : Bool) → nat_lt time s.time ≡ b → Twins (cond b (refused s Order) (stepped s time event (step time event s.progress)))
-          (cond b (refused (record s { progress = Q }) Order) (stepped (record s { progress = Q }) time event (step_fewer time event Q)))
+      go : (b : Bool) → nat_lt time s.time ≡ b →
+          Twins (cond b (refused s Order) (stepped s time event (step time event s.progress)))
+          (cond b (refused (record s { progress = Q }) Order)
+          (stepped (record s { progress = Q }) time event (step_fewer time event Q)))
       go true e = refused_twins s (record s { progress = Q }) Order t
       go false e =
-          let k' = step_alike time event s.progress Q (pair_later limit time s.progress Q (omega (arith, le, ltb-false time s.time e)) k) in
-          subst (λ o. Twins (stepped s time event (step time event s.progress)) (settled (record s { progress = (step_fewer time event Q).progress }) time event o)) (sym k'.fault)
-          (settled_twins s (step time event s.progress).progress (step_fewer time event Q).progress time event (step time event s.progress).fault k'.pair)
+          let k' = step_alike time event s.progress Q
+          (pair_later limit time s.progress Q (omega (arith, le, ltb-false time s.time e)) k) in
+          subst (λ o. Twins (stepped s time event (step time event s.progress))
+          (settled (record s { progress = (step_fewer time event Q).progress }) time event o)) (sym k'.fault)
+          (settled_twins s (step time event s.progress).progress (step_fewer time event Q).progress time event
+          (step time event s.progress).fault k'.pair)
 
   table_of : (limit : ℕ) (P Q : NodeProgress) → Pair limit P Q → Q.dispatcher.table ≡ P.dispatcher.table
-  table_of limit P Q k = ap (λ (p : NodeProgress). p.dispatcher.table) k.two ∙ sym (ap (λ (p : NodeProgress). p.dispatcher.table) k.one)
+  table_of limit P Q k =
+      ap (λ (p : NodeProgress). p.dispatcher.table) k.two ∙ sym (ap (λ (p : NodeProgress). p.dispatcher.table) k.one)
 
   is_none_of : {A : Type 0} (o : Option A) → is_some o ≡ false → o ≡ None
   is_none_of None e = refl
   is_none_of (Some x) e = absurd (true≢false e)
 
-  record_twins : (s : LiveState) (Q : NodeProgress) (bytes : List ℕ) → Twins s (record s { progress = Q }) → Twins (take_record s bytes) (take_record_fewer (record s { progress = Q }) bytes)
+  record_twins : (s : LiveState) (Q : NodeProgress) (bytes : List ℕ) → Twins s (record s { progress = Q }) →
+      Twins (take_record s bytes) (take_record_fewer (record s { progress = Q }) bytes)
   record_twins s Q bytes k = go (is_some s.bad) s.closed refl refl
     where
       go : (b c : Bool) → is_some s.bad ≡ b → s.closed ≡ c →
-          Twins (cond b s (cond c (refused s Length) (judged s (record_of bytes).time (event_of s.progress.dispatcher.table (record_of bytes)))))
+          Twins (cond b s (cond c (refused s Length)
+          (judged s (record_of bytes).time (event_of s.progress.dispatcher.table (record_of bytes)))))
           (cond b (record s { progress = Q }) (cond c (refused (record s { progress = Q }) Length)
-          (judged_fewer (record s { progress = Q }) (record_of bytes).time (event_of Q.dispatcher.table (record_of bytes)))))
+          (judged_fewer (record s { progress = Q }) (record_of bytes).time
+          (event_of Q.dispatcher.table (record_of bytes)))))
       go true c e f = k
       go false true e f = refused_twins s (record s { progress = Q }) Length k
       go false false e f =
           subst (λ t. Twins (judged s (record_of bytes).time (event_of s.progress.dispatcher.table (record_of bytes)))
           (judged_fewer (record s { progress = Q }) (record_of bytes).time (event_of t (record_of bytes))))
           (sym (table_of k.limit s.progress Q k.pair))
-          (judged_twins s Q k.limit (record_of bytes).time (event_of s.progress.dispatcher.table (record_of bytes)) k.pair (k.up_to (is_none_of s.bad e) f) k)
+          (judged_twins s Q k.limit (record_of bytes).time
+          (event_of s.progress.dispatcher.table (record_of bytes)) k.pair (k.up_to (is_none_of s.bad e) f) k)
 
-  twins_whole : (whole : List (List ℕ)) (s z : LiveState) → Twins s z → Twins (fold take_record s whole) (fold take_record_fewer z whole)
+  twins_whole : (whole : List (List ℕ)) (s z : LiveState) → Twins s z →
+      Twins (fold take_record s whole) (fold take_record_fewer z whole)
   twins_whole [] s z k = k
   twins_whole (bytes ∷ whole) s z k = twins_whole whole (take_record s bytes) (take_record_fewer z bytes)
-      (subst (λ z. Twins (take_record s bytes) (take_record_fewer z bytes)) (sym k.same) (record_twins s z.progress bytes (subst (Twins s) k.same k)))
+      (subst (λ z. Twins (take_record s bytes) (take_record_fewer z bytes)) (sym k.same)
+      (record_twins s z.progress bytes (subst (Twins s) k.same k)))
 
   none_few : (n : ℕ) → All (TellsFew t.faults) (replicate {A = Option Running} n None)
   none_few zero = All-nil (TellsFew t.faults)
@@ -499,7 +641,8 @@ module _ (t : NodeTable) (made : IsTable t) where
       m = None;
       one = refl;
       two = refl;
-      alike = record { count = length-replicate (length t.own) None; few = none_few (length t.own); reached = λ x c. refl };
+      alike =
+          record { count = length-replicate (length t.own) None; few = none_few (length t.own); reached = λ x c. refl };
       before = refl;
       later = refl;
     };
@@ -509,15 +652,23 @@ module _ (t : NodeTable) (made : IsTable t) where
 
   twin_is : (s z : LiveState) → Twins s z → z ≡ with_last s z.progress.dispatcher.last
   twin_is s z k = k.same ∙ ap (λ (p : NodeProgress). record s { progress = p })
-      (subst (λ P. z.progress ≡ record { dispatcher = record P.dispatcher { last = z.progress.dispatcher.last }; acts = P.acts }) (sym k.pair.one)
-      (subst (λ Q. Q ≡ record { dispatcher = record (node k.pair.heard k.pair.runs k.pair.l) { last = Q.dispatcher.last }; acts = k.pair.acts }) (sym k.pair.two) refl))
+      (subst (λ P. z.progress ≡ record {
+        dispatcher = record P.dispatcher { last = z.progress.dispatcher.last };
+        acts = P.acts;
+      }) (sym k.pair.one)
+      (subst (λ Q. Q ≡ record {
+        dispatcher = record (node k.pair.heard k.pair.runs k.pair.l) { last = Q.dispatcher.last };
+        acts = k.pair.acts;
+      }) (sym k.pair.two) refl))
 
 -- bytes behind the last record
-rest_last : (s : LiveState) (rest : List ℕ) (x : Option ℕ) → with_rest (with_last s x) rest ≡ with_last (with_rest s rest) x
+rest_last : (s : LiveState) (rest : List ℕ) (x : Option ℕ) →
+    with_rest (with_last s x) rest ≡ with_last (with_rest s rest) x
 rest_last s rest x = go (is_some s.bad) (s.closed && nat_lt 0 (length rest))
   where
     go : (b c : Bool) →
-        cond b (with_last s x) (cond c (refused (with_last s x) Length) (record (with_last s x) { rest = rest })) ≡ with_last (cond b s (cond c (refused s Length) (record s { rest = rest }))) x
+        cond b (with_last s x) (cond c (refused (with_last s x) Length) (record (with_last s x) { rest = rest }))
+        ≡ with_last (cond b s (cond c (refused s Length) (record s { rest = rest }))) x
     go true c = refl
     go false true = refl
     go false false = refl
@@ -534,6 +685,8 @@ pub turns_may_be_left_out : TurnsMayBeLeftOut
 turns_may_be_left_out table bytes made =
     let s : LiveState = fold take_record (open_stream table) (cut bytes).whole in
     let z : LiveState = fold take_record_fewer (open_stream table) (cut bytes).whole in
-    let is = twin_is table made s z (twins_whole table made (cut bytes).whole (open_stream table) (open_stream table) (twins_open table made)) in
+    let is = twin_is table made s z
+    (twins_whole table made (cut bytes).whole (open_stream table) (open_stream table) (twins_open table made)) in
     let last = ap (λ (p : NodeProgress). p.dispatcher.last) (rest_same z (cut bytes).rest) in
-    ap (λ z. with_rest z (cut bytes).rest) is ∙ rest_last s (cut bytes).rest z.progress.dispatcher.last ∙ ap (with_last (with_rest s (cut bytes).rest)) (sym last)
+    ap (λ z. with_rest z (cut bytes).rest) is ∙ rest_last s (cut bytes).rest z.progress.dispatcher.last
+    ∙ ap (with_last (with_rest s (cut bytes).rest)) (sym last)

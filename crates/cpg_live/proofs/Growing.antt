@@ -1,5 +1,6 @@
 -- What was done stays done: acts are added alone.
-use Rattle.std.proofs.Common.{◌≡◌, ℕ, zero, suc, ◌+◌, Bool, true, false, cond, List, [], ◌∷◌, ◌++◌, ◌==◌, length, Option, Some, None, refl, sym, ap, ◌∙◌}
+use Rattle.std.proofs.Common.{◌≡◌, ℕ, zero, suc, ◌+◌, Bool, true, false, cond, List, [], ◌∷◌, ◌++◌, ◌==◌, length}
+use Rattle.std.proofs.Common.{Option, Some, None, refl, sym, ap, ◌∙◌}
 use Rattle.std.specs.Prelude.{is_some, nat_lt}
 use Rattle.std.proofs.lemmas.List.{append_assoc, append-nil}
 use Rattle.cpg_node.specs.Dispatcher.{Act, Ended, next, acts_of_turn, is_strange, hear, finished}
@@ -8,7 +9,8 @@ use Rattle.cpg_live.specs.declared.bad.Why.TheVariants.{Length, Order, Frame as 
 use Rattle.cpg_live.specs.declared.event.Event.{Event}
 use Rattle.cpg_live.specs.declared.event.Event.TheVariants.{Frame as Arrival, End as Ending, Close}
 use Rattle.cpg_live.specs.Records.{record_of, event_of}
-use Rattle.cpg_live.specs.Stream.{NodeProgress, LiveState, faulty, lawful, instant_below, turn_if, turn_below, turns_below, turned, may_end, ended, step, refused, settled, stepped, judged}
+use Rattle.cpg_live.specs.Stream.{NodeProgress, LiveState, faulty, lawful, instant_below, turn_if, turn_below}
+use Rattle.cpg_live.specs.Stream.{turns_below, turned, may_end, ended, step, refused, settled, stepped, judged}
 use Rattle.cpg_live.specs.Stream.{take_record}
 use Rattle.cpg_live.specs.Feeding.{take_open, take_byte, take_bytes}
 use Rattle.cpg_live.specs.Laws.{Grows}
@@ -26,7 +28,8 @@ turn_grows p (Some time) = (acts_of_turn p.dispatcher time [] [], refl)
 turns_grow : (n limit : ℕ) (p : NodeProgress) → Grows p.acts (turns_below n limit p).acts
 unfolding turns_below
 turns_grow zero limit p = same p.acts
-turns_grow (suc n) limit p = grow_on p.acts (turn_below limit p).acts (turns_below n limit (turn_below limit p)).acts (turn_grows p (instant_below limit (next p.dispatcher)))
+turns_grow (suc n) limit p = grow_on p.acts (turn_below limit p).acts (turns_below n limit (turn_below limit p)).acts
+    (turn_grows p (instant_below limit (next p.dispatcher)))
     (turns_grow n limit (turn_below limit p))
 
 turned_grows : (limit : ℕ) (p : NodeProgress) → Grows p.acts (turned limit p).acts
@@ -35,7 +38,9 @@ turned_grows limit p = turns_grow limit limit p
 step_grows : (time : ℕ) (event : Event) (p : NodeProgress) → Grows p.acts (step time event p).progress.acts
 step_grows time (Arrival f) p = go (is_strange (turned time p).dispatcher time f)
   where
-    go : (b : Bool) → Grows p.acts (cond b (faulty (turned time p) StrangeFrame) (lawful (record (turned time p) { dispatcher = hear (turned time p).dispatcher f }))).progress.acts
+    go : (b : Bool) →
+        Grows p.acts (cond b (faulty (turned time p) StrangeFrame)
+        (lawful (record (turned time p) { dispatcher = hear (turned time p).dispatcher f }))).progress.acts
     go true = turned_grows time p
     go false = turned_grows time p
 step_grows time (Ending process faults value) p = go (record { process = process; faults = faults; value = value })
@@ -43,29 +48,41 @@ step_grows time (Ending process faults value) p = go (record { process = process
     go : (e : Ended) → Grows p.acts (ended time e (turned time p)).progress.acts
     go e = told (may_end (turned time p).dispatcher time e)
       where
-        told : (b : Bool) → Grows p.acts (cond b (lawful (record (turned time p) { dispatcher = finished (turned time p).dispatcher e })) (faulty (turned time p) FalseEnd)).progress.acts
+        told : (b : Bool) →
+            Grows p.acts
+            (cond b (lawful (record (turned time p) { dispatcher = finished (turned time p).dispatcher e }))
+            (faulty (turned time p) FalseEnd)).progress.acts
         told true = turned_grows time p
         told false = turned_grows time p
 step_grows time Close p = turned_grows (time + 1) p
 
-settled_acts : (s : LiveState) (time : ℕ) (event : Event) (why : Option Why) → (settled s time event why).progress.acts ≡ s.progress.acts
+settled_acts : (s : LiveState) (time : ℕ) (event : Event) (why : Option Why) →
+    (settled s time event why).progress.acts ≡ s.progress.acts
 settled_acts s time event None = refl
 settled_acts s time event (Some why) = refl
 
-judged_grows : (s : LiveState) (time : ℕ) (event : Option Event) → Grows s.progress.acts (judged s time event).progress.acts
+judged_grows : (s : LiveState) (time : ℕ) (event : Option Event) →
+    Grows s.progress.acts (judged s time event).progress.acts
 judged_grows s time None = same s.progress.acts
 judged_grows s time (Some event) = go (nat_lt time s.time)
   where
-    go : (b : Bool) → Grows s.progress.acts (cond b (refused s Order) (stepped s time event (step time event s.progress))).progress.acts
+    go : (b : Bool) →
+        Grows s.progress.acts
+        (cond b (refused s Order) (stepped s time event (step time event s.progress))).progress.acts
     go true = same s.progress.acts
     go false =
-        let g = step_grows time event s.progress in
-        (g.0, settled_acts (record s { progress = (step time event s.progress).progress }) time event (step time event s.progress).fault ∙ g.1)
+        let g = step_grows time event s.progress in (
+          g.0,
+          settled_acts (record s { progress = (step time event s.progress).progress }) time event
+              (step time event s.progress).fault ∙ g.1,
+        )
 
 record_grows : (s : LiveState) (bytes : List ℕ) → Grows s.progress.acts (take_record s bytes).progress.acts
 record_grows s bytes = go (is_some s.bad) s.closed
   where
-    go : (b c : Bool) → Grows s.progress.acts (cond b s (cond c (refused s Length) (judged s (record_of bytes).time (event_of s.progress.dispatcher.table (record_of bytes))))).progress.acts
+    go : (b c : Bool) →
+        Grows s.progress.acts (cond b s (cond c (refused s Length)
+        (judged s (record_of bytes).time (event_of s.progress.dispatcher.table (record_of bytes))))).progress.acts
     go true c = same s.progress.acts
     go false true = same s.progress.acts
     go false false = judged_grows s (record_of bytes).time (event_of s.progress.dispatcher.table (record_of bytes))
@@ -73,14 +90,17 @@ record_grows s bytes = go (is_some s.bad) s.closed
 open_grows : (s : LiveState) (bytes : List ℕ) → Grows s.progress.acts (take_open s bytes).progress.acts
 open_grows s bytes = go (length bytes == 14)
   where
-    go : (b : Bool) → Grows s.progress.acts (cond b (take_record (record s { rest = [] }) bytes) (record s { rest = bytes })).progress.acts
+    go : (b : Bool) →
+        Grows s.progress.acts
+        (cond b (take_record (record s { rest = [] }) bytes) (record s { rest = bytes })).progress.acts
     go true = record_grows (record s { rest = [] }) bytes
     go false = same s.progress.acts
 
 byte_grows : (s : LiveState) (byte : ℕ) → Grows s.progress.acts (take_byte s byte).progress.acts
 byte_grows s byte = go (is_some s.bad) s.closed
   where
-    go : (b c : Bool) → Grows s.progress.acts (cond b s (cond c (refused s Length) (take_open s (s.rest ++ byte ∷ [])))).progress.acts
+    go : (b c : Bool) →
+        Grows s.progress.acts (cond b s (cond c (refused s Length) (take_open s (s.rest ++ byte ∷ [])))).progress.acts
     go true c = same s.progress.acts
     go false true = same s.progress.acts
     go false false = open_grows s (s.rest ++ byte ∷ [])
@@ -88,4 +108,5 @@ byte_grows s byte = go (is_some s.bad) s.closed
 -- bytes add acts alone
 pub bytes_grow : (s : LiveState) (bytes : List ℕ) → Grows s.progress.acts (take_bytes s bytes).progress.acts
 bytes_grow s [] = same s.progress.acts
-bytes_grow s (byte ∷ bytes) = grow_on s.progress.acts (take_byte s byte).progress.acts (take_bytes (take_byte s byte) bytes).progress.acts (byte_grows s byte) (bytes_grow (take_byte s byte) bytes)
+bytes_grow s (byte ∷ bytes) = grow_on s.progress.acts (take_byte s byte).progress.acts
+    (take_bytes (take_byte s byte) bytes).progress.acts (byte_grows s byte) (bytes_grow (take_byte s byte) bytes)

@@ -1,5 +1,6 @@
 -- Events of one time lead to the same in any order.
-use Rattle.std.proofs.Common.{◌≡◌, ◌≢◌, ℕ, ◌≤◌, true, false, cond, ◌&&◌, List, [], ◌∷◌, ◌++◌, Option, Some, None, refl, sym, ap, ◌∙◌, subst, arith, inl, inr, le-ltb}
+use Rattle.std.proofs.Common.{◌≡◌, ◌≢◌, ℕ, ◌≤◌, true, false, cond, ◌&&◌, List, [], ◌∷◌, ◌++◌, Option, Some, None, refl}
+use Rattle.std.proofs.Common.{sym, ap, ◌∙◌, subst, arith, inl, inr, le-ltb}
 use Rattle.std.specs.Prelude.{IfSome}
 use Rattle.std.specs.List.{AllByRecursion}
 use Rattle.std.proofs.lemmas.Bool.{cases_eq, cases_Bool, and_parts}
@@ -10,7 +11,8 @@ use Rattle.cpg_node.proofs.Commuting.{next_same, other_running, reported_once, s
 use Rattle.cpg_live.specs.declared.bad.Why.TheVariants.{Frame as StrangeFrame, End as FalseEnd}
 use Rattle.cpg_live.specs.declared.event.Event.{Event}
 use Rattle.cpg_live.specs.declared.event.Event.TheVariants.{Frame as Arrival, End as Ending, Close}
-use Rattle.cpg_live.specs.Stream.{NodeProgress, Step, faulty, lawful, instant_below, turned, may_tell, may_end_now, may_end, arrived, ended, is_close}
+use Rattle.cpg_live.specs.Stream.{NodeProgress, Step, faulty, lawful, instant_below, turned, may_tell, may_end_now}
+use Rattle.cpg_live.specs.Stream.{may_end, arrived, ended, is_close}
 use Rattle.cpg_live.specs.Told.{follow_one, follow}
 use Rattle.cpg_live.specs.Spelling.{RiseWithin}
 use Rattle.cpg_live.specs.Reorder.{AreThoseOf, EventsOfOneTimeCommute}
@@ -33,9 +35,12 @@ module _ (time : ℕ) where
   ready p = left (next (turned time p).dispatcher) (turned_end time p)
 
   -- an event does to a node what it does after the turns before its time
-  settled : (p : NodeProgress) (e : Event) → is_close e ≡ false → follow_one (lawful p) (time, e) ≡ follow_one (lawful (turned time p)) (time, e)
+  settled : (p : NodeProgress) (e : Event) → is_close e ≡ false →
+      follow_one (lawful p) (time, e) ≡ follow_one (lawful (turned time p)) (time, e)
   settled p (Arrival f) open' = ap (arrived time f) (sym (turned_last time (turned time p) (ready p)))
-  settled p (Ending process faults value) open' = ap (ended time (record { process = process; faults = faults; value = value })) (sym (turned_last time (turned time p) (ready p)))
+  settled p (Ending process faults value) open' =
+      ap (ended time (record { process = process; faults = faults; value = value }))
+      (sym (turned_last time (turned time p) (ready p)))
   settled p Close open' = absurd (no open')
     where
       no : true ≡ false → ⊥
@@ -44,26 +49,36 @@ module _ (time : ℕ) where
   abbrev with_node : NodeProgress → Dispatcher → NodeProgress
   with_node p d = record { dispatcher = d; acts = p.acts }
 
-  hears : (p : NodeProgress) (f : Frame) → IsReady p.dispatcher → is_strange p.dispatcher time f ≡ false → follow_one (lawful p) (time, Arrival f) ≡ lawful (with_node p (hear p.dispatcher f))
-  hears p f r fine = ap (arrived time f) (turned_last time p r) ∙ ap (λ b. cond b (faulty p StrangeFrame) (lawful (with_node p (hear p.dispatcher f)))) fine
+  hears : (p : NodeProgress) (f : Frame) → IsReady p.dispatcher → is_strange p.dispatcher time f ≡ false →
+      follow_one (lawful p) (time, Arrival f) ≡ lawful (with_node p (hear p.dispatcher f))
+  hears p f r fine = ap (arrived time f) (turned_last time p r)
+      ∙ ap (λ b. cond b (faulty p StrangeFrame) (lawful (with_node p (hear p.dispatcher f)))) fine
 
-  hears_fine : (p : NodeProgress) (f : Frame) → IsReady p.dispatcher → (follow_one (lawful p) (time, Arrival f)).fault ≡ None → is_strange p.dispatcher time f ≡ false
+  hears_fine : (p : NodeProgress) (f : Frame) → IsReady p.dispatcher →
+      (follow_one (lawful p) (time, Arrival f)).fault ≡ None →
+      is_strange p.dispatcher time f ≡ false
   hears_fine p f r e = elim (cases_Bool (is_strange p.dispatcher time f)) [
     | inr fine ↦ fine
-    | inl strange ↦ absurd (none-some StrangeFrame (sym e ∙ ap (λ (s : Step). s.fault) (ap (arrived time f) (turned_last time p r))
+    | inl strange ↦
+        absurd (none-some StrangeFrame (sym e ∙ ap (λ (s : Step). s.fault) (ap (arrived time f) (turned_last time p r))
         ∙ ap (λ b. (cond b (faulty p StrangeFrame) (lawful (with_node p (hear p.dispatcher f)))).fault) strange))
   ]
 
   abbrev end_of : Ended → Event
   end_of e = Ending e.process e.faults e.value
 
-  notes : (p : NodeProgress) (e : Ended) → IsReady p.dispatcher → may_end p.dispatcher time e ≡ true → follow_one (lawful p) (time, end_of e) ≡ lawful (with_node p (finished p.dispatcher e))
-  notes p e r fine = ap (ended time e) (turned_last time p r) ∙ ap (λ b. cond b (lawful (with_node p (finished p.dispatcher e))) (faulty p FalseEnd)) fine
+  notes : (p : NodeProgress) (e : Ended) → IsReady p.dispatcher → may_end p.dispatcher time e ≡ true →
+      follow_one (lawful p) (time, end_of e) ≡ lawful (with_node p (finished p.dispatcher e))
+  notes p e r fine = ap (ended time e) (turned_last time p r)
+      ∙ ap (λ b. cond b (lawful (with_node p (finished p.dispatcher e))) (faulty p FalseEnd)) fine
 
-  notes_fine : (p : NodeProgress) (e : Ended) → IsReady p.dispatcher → (follow_one (lawful p) (time, end_of e)).fault ≡ None → may_end p.dispatcher time e ≡ true
+  notes_fine : (p : NodeProgress) (e : Ended) → IsReady p.dispatcher →
+      (follow_one (lawful p) (time, end_of e)).fault ≡ None →
+      may_end p.dispatcher time e ≡ true
   notes_fine p e r none = elim (cases_Bool (may_end p.dispatcher time e)) [
     | inl fine ↦ fine
-    | inr wrong ↦ absurd (none-some FalseEnd (sym none ∙ ap (λ (s : Step). s.fault) (ap (ended time e) (turned_last time p r))
+    | inr wrong ↦
+        absurd (none-some FalseEnd (sym none ∙ ap (λ (s : Step). s.fault) (ap (ended time e) (turned_last time p r))
         ∙ ap (λ b. (cond b (lawful (with_node p (finished p.dispatcher e))) (faulty p FalseEnd)).fault) wrong))
   ]
 
@@ -72,89 +87,118 @@ module _ (time : ℕ) where
 
   -- an end may be told whatever other processes have told
   may_still : (d : Dispatcher) (x y : Ended) → x.process ≢ y.process → may_end (finished d x) time y ≡ may_end d time y
-  may_still d x y ne = ap (λ o. may_tell d y && may_end_now d time y o) (other_running x y.process ne d.table.own d.running)
+  may_still d x y ne =
+      ap (λ o. may_tell d y && may_end_now d time y o) (other_running x y.process ne d.table.own d.running)
 
   -- an end may be told only once
   not_again : (d : Dispatcher) (x y : Ended) → x.process ≡ y.process → may_end (finished d x) time y ≡ true → ⊥
   not_again d x y same h =
-      let parts = and_parts (may_tell (finished d x) y) (may_end_now (finished d x) time y (running_of (finished d x) y.process)) h in
+      let parts = and_parts (may_tell (finished d x) y)
+      (may_end_now (finished d x) time y (running_of (finished d x) y.process)) h in
       let run = unreported (finished d x) time y (running_of (finished d x) y.process) parts.1 in
       reported_once d x run.run (ap (running_of (finished d x)) same ∙ run.runs) run.none
 
   module _ (p : NodeProgress) (r : IsReady p.dispatcher) where
-    two_frames : (x y : Frame) → is_strange p.dispatcher time x ≡ false → is_strange (hear p.dispatcher x) time y ≡ false →
-        follow_one (follow_one (lawful p) (time, Arrival x)) (time, Arrival y) ≡ follow_one (follow_one (lawful p) (time, Arrival y)) (time, Arrival x)
+    two_frames : (x y : Frame) → is_strange p.dispatcher time x ≡ false →
+        is_strange (hear p.dispatcher x) time y ≡ false →
+        follow_one (follow_one (lawful p) (time, Arrival x)) (time, Arrival y)
+        ≡ follow_one (follow_one (lawful p) (time, Arrival y)) (time, Arrival x)
     two_frames x y e f =
         let q = fine_either p.dispatcher time x y e f in
         ap (λ s. follow_one s (time, Arrival y)) (hears p x r e) ∙ hears (with_node p (hear p.dispatcher x)) y r f
         ∙ ap (λ d. lawful (with_node p d)) (hear_either p.dispatcher x y)
-        ∙ sym (ap (λ s. follow_one s (time, Arrival x)) (hears p y r q.0) ∙ hears (with_node p (hear p.dispatcher y)) x r q.1)
+        ∙ sym (ap (λ s. follow_one s (time, Arrival x)) (hears p y r q.0)
+        ∙ hears (with_node p (hear p.dispatcher y)) x r q.1)
 
-    frame_and_end : (x : Frame) (y : Ended) → is_strange p.dispatcher time x ≡ false → may_end p.dispatcher time y ≡ true →
-        follow_one (follow_one (lawful p) (time, Arrival x)) (time, end_of y) ≡ follow_one (follow_one (lawful p) (time, end_of y)) (time, Arrival x)
+    frame_and_end : (x : Frame) (y : Ended) → is_strange p.dispatcher time x ≡ false →
+        may_end p.dispatcher time y ≡ true →
+        follow_one (follow_one (lawful p) (time, Arrival x)) (time, end_of y)
+        ≡ follow_one (follow_one (lawful p) (time, end_of y)) (time, Arrival x)
     frame_and_end x y e f =
         ap (λ s. follow_one s (time, end_of y)) (hears p x r e) ∙ notes (with_node p (hear p.dispatcher x)) y r f
-        ∙ sym (ap (λ s. follow_one s (time, Arrival x)) (notes p y r f) ∙ hears (with_node p (finished p.dispatcher y)) x (still_ready p.dispatcher y r) e)
+        ∙ sym (ap (λ s. follow_one s (time, Arrival x)) (notes p y r f)
+        ∙ hears (with_node p (finished p.dispatcher y)) x (still_ready p.dispatcher y r) e)
 
     two_ends : (x y : Ended) → may_end p.dispatcher time x ≡ true → may_end (finished p.dispatcher x) time y ≡ true →
-        follow_one (follow_one (lawful p) (time, end_of x)) (time, end_of y) ≡ follow_one (follow_one (lawful p) (time, end_of y)) (time, end_of x)
+        follow_one (follow_one (lawful p) (time, end_of x)) (time, end_of y)
+        ≡ follow_one (follow_one (lawful p) (time, end_of y)) (time, end_of x)
     two_ends x y e f = elim (cases_eq x.process y.process) [
       | inl same ↦ absurd (not_again p.dispatcher x y same f)
       | inr ne ↦
           let first : may_end p.dispatcher time y ≡ true = sym (may_still p.dispatcher x y ne) ∙ f in
-          let second : may_end (finished p.dispatcher y) time x ≡ true = may_still p.dispatcher y x (λ s. ne (sym s)) ∙ e in
-          ap (λ s. follow_one s (time, end_of y)) (notes p x r e) ∙ notes (with_node p (finished p.dispatcher x)) y (still_ready p.dispatcher x r) f
+          let second : may_end (finished p.dispatcher y) time x ≡ true =
+          may_still p.dispatcher y x (λ s. ne (sym s)) ∙ e in
+          ap (λ s. follow_one s (time, end_of y)) (notes p x r e)
+          ∙ notes (with_node p (finished p.dispatcher x)) y (still_ready p.dispatcher x r) f
           ∙ ap (λ d. lawful (with_node p d)) (swap p.dispatcher x y ne)
-          ∙ sym (ap (λ s. follow_one s (time, end_of x)) (notes p y r first) ∙ notes (with_node p (finished p.dispatcher y)) x (still_ready p.dispatcher y r) second)
+          ∙ sym (ap (λ s. follow_one s (time, end_of x)) (notes p y r first)
+          ∙ notes (with_node p (finished p.dispatcher y)) x (still_ready p.dispatcher y r) second)
     ]
 
-    ready_swap : (a b : Event) → is_close a ≡ false → is_close b ≡ false → (follow_one (lawful p) (time, a)).fault ≡ None → (follow_one (follow_one (lawful p) (time, a)) (time, b)).fault ≡ None →
+    ready_swap : (a b : Event) → is_close a ≡ false → is_close b ≡ false →
+        (follow_one (lawful p) (time, a)).fault ≡ None →
+        (follow_one (follow_one (lawful p) (time, a)) (time, b)).fault ≡ None →
         follow_one (follow_one (lawful p) (time, a)) (time, b) ≡ follow_one (follow_one (lawful p) (time, b)) (time, a)
     ready_swap (Arrival x) (Arrival y) o q e f =
         let one = hears_fine p x r e in
-        two_frames x y one (hears_fine (with_node p (hear p.dispatcher x)) y r (sym (ap (λ s. (follow_one s (time, Arrival y)).fault) (hears p x r one)) ∙ f))
+        two_frames x y one (hears_fine (with_node p (hear p.dispatcher x)) y r
+        (sym (ap (λ s. (follow_one s (time, Arrival y)).fault) (hears p x r one)) ∙ f))
     ready_swap (Arrival x) (Ending process faults value) o q e f =
         let one = hears_fine p x r e in
         let y : Ended = record { process = process; faults = faults; value = value } in
-        frame_and_end x y one (notes_fine (with_node p (hear p.dispatcher x)) y r (sym (ap (λ s. (follow_one s (time, end_of y)).fault) (hears p x r one)) ∙ f))
+        frame_and_end x y one (notes_fine (with_node p (hear p.dispatcher x)) y r
+        (sym (ap (λ s. (follow_one s (time, end_of y)).fault) (hears p x r one)) ∙ f))
     ready_swap (Ending process faults value) (Arrival y) o q e f =
         let x : Ended = record { process = process; faults = faults; value = value } in
         let one = notes_fine p x r e in
-        sym (frame_and_end y x (hears_fine (with_node p (finished p.dispatcher x)) y (still_ready p.dispatcher x r) (sym (ap (λ s. (follow_one s (time, Arrival y)).fault) (notes p x r one)) ∙ f)) one)
+        sym (frame_and_end y x (hears_fine (with_node p (finished p.dispatcher x)) y (still_ready p.dispatcher x r)
+        (sym (ap (λ s. (follow_one s (time, Arrival y)).fault) (notes p x r one)) ∙ f)) one)
     ready_swap (Ending process faults value) (Ending other count truth) o q e f =
         let x : Ended = record { process = process; faults = faults; value = value } in
         let y : Ended = record { process = other; faults = count; value = truth } in
         let one = notes_fine p x r e in
-        two_ends x y one (notes_fine (with_node p (finished p.dispatcher x)) y (still_ready p.dispatcher x r) (sym (ap (λ s. (follow_one s (time, end_of y)).fault) (notes p x r one)) ∙ f))
+        two_ends x y one (notes_fine (with_node p (finished p.dispatcher x)) y (still_ready p.dispatcher x r)
+        (sym (ap (λ s. (follow_one s (time, end_of y)).fault) (notes p x r one)) ∙ f))
     ready_swap Close b o q e f = absurd (subst (λ b. cond b Unit ⊥) o tt)
     ready_swap (Arrival x) Close o q e f = absurd (subst (λ b. cond b Unit ⊥) q tt)
     ready_swap (Ending process faults value) Close o q e f = absurd (subst (λ b. cond b Unit ⊥) q tt)
 
-  event_swap : (p : NodeProgress) (a b : Event) → is_close a ≡ false → is_close b ≡ false → (follow_one (follow_one (lawful p) (time, a)) (time, b)).fault ≡ None →
+  event_swap : (p : NodeProgress) (a b : Event) → is_close a ≡ false → is_close b ≡ false →
+      (follow_one (follow_one (lawful p) (time, a)) (time, b)).fault ≡ None →
       follow_one (follow_one (lawful p) (time, a)) (time, b) ≡ follow_one (follow_one (lawful p) (time, b)) (time, a)
   event_swap p a b o q f =
       let here : follow_one (lawful p) (time, a) ≡ follow_one (lawful (turned time p)) (time, a) = settled p a o in
       let there : follow_one (lawful p) (time, b) ≡ follow_one (lawful (turned time p)) (time, b) = settled p b q in
-      let fine : (follow_one (follow_one (lawful (turned time p)) (time, a)) (time, b)).fault ≡ None = sym (ap (λ s. (follow_one s (time, b)).fault) here) ∙ f in
-      let first = ap (λ (s : Step). s.fault) (lawful_front ((time, b) ∷ []) (follow_one (lawful (turned time p)) (time, a)) fine) in
-      ap (λ s. follow_one s (time, b)) here ∙ ready_swap (turned time p) (ready p) a b o q first fine ∙ sym (ap (λ s. follow_one s (time, a)) there)
+      let fine : (follow_one (follow_one (lawful (turned time p)) (time, a)) (time, b)).fault ≡ None =
+      sym (ap (λ s. (follow_one s (time, b)).fault) here) ∙ f in
+      let first = ap (λ (s : Step). s.fault)
+      (lawful_front ((time, b) ∷ []) (follow_one (lawful (turned time p)) (time, a)) fine) in
+      ap (λ s. follow_one s (time, b)) here ∙ ready_swap (turned time p) (ready p) a b o q first fine
+      ∙ sym (ap (λ s. follow_one s (time, a)) there)
 
 -- An event goes to the front of events of its time.
 
 abbrev AreAt : ℕ → List (ℕ × Event) → Type 0
 AreAt time es = AllByRecursion (λ (e : ℕ × Event). (e.0 ≡ time) × (is_close e.1 ≡ false)) es
 
-to_front : (f : ℕ × Event) → is_close f.1 ≡ false → (before after : List (ℕ × Event)) (p : NodeProgress) → AreAt f.0 before → (follow (lawful p) (before ++ f ∷ after)).fault ≡ None →
+to_front : (f : ℕ × Event) → is_close f.1 ≡ false → (before after : List (ℕ × Event)) (p : NodeProgress) →
+    AreAt f.0 before →
+    (follow (lawful p) (before ++ f ∷ after)).fault ≡ None →
     follow (lawful p) (before ++ f ∷ after) ≡ follow (lawful p) (f ∷ (before ++ after))
 to_front f open' [] after p at fine = refl
 to_front f open' (b ∷ before) after p at fine =
-    let first : follow_one (lawful p) b ≡ lawful (follow_one (lawful p) b).progress = lawful_front (before ++ f ∷ after) (follow_one (lawful p) b) fine in
+    let first : follow_one (lawful p) b ≡ lawful (follow_one (lawful p) b).progress =
+    lawful_front (before ++ f ∷ after) (follow_one (lawful p) b) fine in
     let next : NodeProgress = (follow_one (lawful p) b).progress in
-    let moved = to_front f open' before after next at.1 (sym (ap (λ s. (follow s (before ++ f ∷ after)).fault) first) ∙ fine) in
-    let all : follow (lawful p) (b ∷ (before ++ f ∷ after)) ≡ follow (follow_one (follow_one (lawful p) b) f) (before ++ after) =
-    ap (λ s. follow s (before ++ f ∷ after)) first ∙ moved ∙ sym (ap (λ s. follow (follow_one s f) (before ++ after)) first) in
+    let moved =
+    to_front f open' before after next at.1 (sym (ap (λ s. (follow s (before ++ f ∷ after)).fault) first) ∙ fine) in
+    let all : follow (lawful p) (b ∷ (before ++ f ∷ after))
+    ≡ follow (follow_one (follow_one (lawful p) b) f) (before ++ after) =
+    ap (λ s. follow s (before ++ f ∷ after)) first ∙ moved
+    ∙ sym (ap (λ s. follow (follow_one s f) (before ++ after)) first) in
     let two : (follow_one (follow_one (lawful p) b) f).fault ≡ None =
-    ap (λ (s : Step). s.fault) (lawful_front (before ++ after) (follow_one (follow_one (lawful p) b) f) (sym (ap (λ (s : Step). s.fault) all) ∙ fine)) in
+    ap (λ (s : Step). s.fault) (lawful_front (before ++ after) (follow_one (follow_one (lawful p) b) f)
+    (sym (ap (λ (s : Step). s.fault) all) ∙ fine)) in
     let time : (b.0, b.1) ≡ (f.0, b.1) = ap (λ t. (t, b.1)) at.0.0 in
     let swapped : follow_one (follow_one (lawful p) b) f ≡ follow_one (follow_one (lawful p) f) b =
     ap (λ e. follow_one (follow_one (lawful p) e) f) time
@@ -175,57 +219,78 @@ not_before : (from to : ℕ) (es : List (ℕ × Event)) → RiseWithin from to e
 not_before from to [] h = tt
 not_before from to (e ∷ es) h = (h.0, later e.0 from es h.0 (not_before e.0 to es h.2))
 
-put_back : (P : ℕ × Event → Type 0) (f : ℕ × Event) → P f → (before after : List (ℕ × Event)) → AllByRecursion P (before ++ after) → AllByRecursion P (before ++ f ∷ after)
+put_back : (P : ℕ × Event → Type 0) (f : ℕ × Event) → P f → (before after : List (ℕ × Event)) →
+    AllByRecursion P (before ++ after) →
+    AllByRecursion P (before ++ f ∷ after)
 put_back P f h [] after k = (h, k)
 put_back P f h (b ∷ before) after k = (k.0, put_back P f h before after k.1)
 
-take_out : (P : ℕ × Event → Type 0) (f : ℕ × Event) (before after : List (ℕ × Event)) → AllByRecursion P (before ++ f ∷ after) → P f × AllByRecursion P (before ++ after)
+take_out : (P : ℕ × Event → Type 0) (f : ℕ × Event) (before after : List (ℕ × Event)) →
+    AllByRecursion P (before ++ f ∷ after) →
+    P f × AllByRecursion P (before ++ after)
 take_out P f [] after k = k
 take_out P f (b ∷ before) after k = let r = take_out P f before after k.1 in (r.0, (k.0, r.1))
 
 -- what holds of all events holds of them in another order
-pub all_of : (P : ℕ × Event → Type 0) (fs es : List (ℕ × Event)) → AreThoseOf fs es → AllByRecursion P es → AllByRecursion P fs
+pub all_of : (P : ℕ × Event → Type 0) (fs es : List (ℕ × Event)) → AreThoseOf fs es → AllByRecursion P es →
+    AllByRecursion P fs
 all_of P [] es r h = tt
-all_of P (f ∷ fs) es r h = let q = take_out P f r.0 r.1 (subst (AllByRecursion P) r.2 h) in (q.0, all_of P fs (r.0 ++ r.1) r.3 q.1)
+all_of P (f ∷ fs) es r h = let q = take_out P f r.0 r.1 (subst (AllByRecursion P) r.2 h) in
+    (q.0, all_of P fs (r.0 ++ r.1) r.3 q.1)
 
-of_all : (P : ℕ × Event → Type 0) (fs es : List (ℕ × Event)) → AreThoseOf fs es → AllByRecursion P fs → AllByRecursion P es
+of_all : (P : ℕ × Event → Type 0) (fs es : List (ℕ × Event)) → AreThoseOf fs es → AllByRecursion P fs →
+    AllByRecursion P es
 of_all P [] es r h = subst (AllByRecursion P) (sym r) tt
-of_all P (f ∷ fs) es r h = subst (AllByRecursion P) (sym r.2) (put_back P f h.0 r.0 r.1 (of_all P fs (r.0 ++ r.1) r.3 h.1))
+of_all P (f ∷ fs) es r h =
+    subst (AllByRecursion P) (sym r.2) (put_back P f h.0 r.0 r.1 (of_all P fs (r.0 ++ r.1) r.3 h.1))
 
 -- the events before an event that is among the first are at its time
-at_time : (f : ℕ × Event) (before after : List (ℕ × Event)) (from to : ℕ) → RiseWithin from to (before ++ f ∷ after) → NotBefore f.0 (before ++ after) → AreAt f.0 before
+at_time : (f : ℕ × Event) (before after : List (ℕ × Event)) (from to : ℕ) → RiseWithin from to (before ++ f ∷ after) →
+    NotBefore f.0 (before ++ after) →
+    AreAt f.0 before
 at_time f [] after from to h k = tt
 at_time f (b ∷ before) after from to h k =
-    let below = (take_out (λ (e : ℕ × Event). b.0 ≤ e.0) f before after (not_before b.0 to (before ++ f ∷ after) h.2)).0 in
+    let below =
+    (take_out (λ (e : ℕ × Event). b.0 ≤ e.0) f before after (not_before b.0 to (before ++ f ∷ after) h.2)).0 in
     ((omega (arith, below, k.0), h.1), at_time f before after b.0 to h.2 k.1)
 
 -- events that rise in time do so without any one of them, too
-without : (f : ℕ × Event) (before after : List (ℕ × Event)) (from to : ℕ) → RiseWithin from to (before ++ f ∷ after) → RiseWithin from to (before ++ after)
+without : (f : ℕ × Event) (before after : List (ℕ × Event)) (from to : ℕ) → RiseWithin from to (before ++ f ∷ after) →
+    RiseWithin from to (before ++ after)
 without f [] [] from to h = omega (arith, h.0, h.2)
 without f [] (a ∷ after) from to h = (omega (arith, h.0, h.2.0), h.2.1, h.2.2)
 without f (b ∷ before) after from to h = (h.0, h.1, without f before after b.0 to h.2)
 
-from_on : (from to time : ℕ) (es : List (ℕ × Event)) → time ≤ to → RiseWithin from to es → NotBefore time es → RiseWithin time to es
+from_on : (from to time : ℕ) (es : List (ℕ × Event)) → time ≤ to → RiseWithin from to es → NotBefore time es →
+    RiseWithin time to es
 from_on from to time [] le h k = le
 from_on from to time (e ∷ es) le h k = (k.0, h.1, h.2)
 
-reorder : (fs es : List (ℕ × Event)) (p : NodeProgress) (from to : ℕ) → RiseWithin from to es → RiseWithin from to fs → AreThoseOf fs es → (follow (lawful p) es).fault ≡ None →
+reorder : (fs es : List (ℕ × Event)) (p : NodeProgress) (from to : ℕ) → RiseWithin from to es → RiseWithin from to fs →
+    AreThoseOf fs es →
+    (follow (lawful p) es).fault ≡ None →
     follow (lawful p) fs ≡ follow (lawful p) es
 reorder [] es p from to r q those fine = ap (follow (lawful p)) (sym those)
 reorder (f ∷ fs) es p from to r q those fine =
     let before : List (ℕ × Event) = those.0 in
     let after : List (ℕ × Event) = those.1 in
     let rises : RiseWithin from to (before ++ f ∷ after) = subst (RiseWithin from to) those.2 r in
-    let lawful_all : (follow (lawful p) (before ++ f ∷ after)).fault ≡ None = sym (ap (λ l. (follow (lawful p) l).fault) those.2) ∙ fine in
-    let others : NotBefore f.0 (before ++ after) = of_all (λ (e : ℕ × Event). f.0 ≤ e.0) fs (before ++ after) those.3 (not_before f.0 to fs q.2) in
+    let lawful_all : (follow (lawful p) (before ++ f ∷ after)).fault ≡ None =
+    sym (ap (λ l. (follow (lawful p) l).fault) those.2) ∙ fine in
+    let others : NotBefore f.0 (before ++ after) =
+    of_all (λ (e : ℕ × Event). f.0 ≤ e.0) fs (before ++ after) those.3 (not_before f.0 to fs q.2) in
     let moved : follow (lawful p) (before ++ f ∷ after) ≡ follow (follow_one (lawful p) f) (before ++ after) =
     to_front f q.1 before after p (at_time f before after from to rises others) lawful_all in
-    let rest : (follow (follow_one (lawful p) f) (before ++ after)).fault ≡ None = sym (ap (λ (s : Step). s.fault) moved) ∙ lawful_all in
-    let first : follow_one (lawful p) f ≡ lawful (follow_one (lawful p) f).progress = lawful_front (before ++ after) (follow_one (lawful p) f) rest in
+    let rest : (follow (follow_one (lawful p) f) (before ++ after)).fault ≡ None =
+    sym (ap (λ (s : Step). s.fault) moved) ∙ lawful_all in
+    let first : follow_one (lawful p) f ≡ lawful (follow_one (lawful p) f).progress =
+    lawful_front (before ++ after) (follow_one (lawful p) f) rest in
     let tail = reorder fs (before ++ after) (follow_one (lawful p) f).progress f.0 to
-    (from_on from to f.0 (before ++ after) (within_le f.0 to fs q.2) (without f before after from to rises) others) q.2 those.3
+    (from_on from to f.0 (before ++ after) (within_le f.0 to fs q.2) (without f before after from to rises) others) q.2
+    those.3
     (sym (ap (λ s. (follow s (before ++ after)).fault) first) ∙ rest) in
-    ap (λ s. follow s fs) first ∙ tail ∙ sym (ap (λ s. follow s (before ++ after)) first) ∙ sym moved ∙ sym (ap (follow (lawful p)) those.2)
+    ap (λ s. follow s fs) first ∙ tail ∙ sym (ap (λ s. follow s (before ++ after)) first) ∙ sym moved
+    ∙ sym (ap (follow (lawful p)) those.2)
 
 pub events_commute : EventsOfOneTimeCommute
 events_commute p from to es fs r q those fine = reorder fs es p from to r q those fine

@@ -1,5 +1,6 @@
 -- Bytes that spell events are taken as these events.
-use Rattle.std.proofs.Common.{◌≡◌, ℕ, ◌+◌, ◌-◌, ◌<◌, ◌≤◌, ◌^◌, min, Bool, true, false, cond, ◌&&◌, ◌||◌, ◌==◌, List, [], ◌∷◌, ◌++◌, map, fold, Option, Some, None, refl, sym, ap, ◌∙◌, arith}
+use Rattle.std.proofs.Common.{◌≡◌, ℕ, ◌+◌, ◌-◌, ◌<◌, ◌≤◌, ◌^◌, min, Bool, true, false, cond, ◌&&◌, ◌||◌, ◌==◌, List, []}
+use Rattle.std.proofs.Common.{◌∷◌, ◌++◌, map, fold, Option, Some, None, refl, sym, ap, ◌∙◌, arith}
 use Rattle.std.proofs.Common.{append-nil, append_assoc, true≢false, ltb-true, le-ltb}
 use Rattle.std.specs.Prelude.{nat_lt}
 use Rattle.std.specs.List.{AllByRecursion}
@@ -16,22 +17,32 @@ use Rattle.cpg_live.specs.declared.bad.Why.TheVariants.{Order, Frame as StrangeF
 use Rattle.cpg_live.specs.declared.event.Event.{Event}
 use Rattle.cpg_live.specs.declared.event.Event.TheVariants.{Frame as Arrival, End as Ending, Close}
 use Rattle.cpg_live.specs.Records.{Cut, cut_byte, record_of, event_of}
-use Rattle.cpg_live.specs.Stream.{NodeProgress, Step, LiveState, faulty, lawful, turned, may_end, arrived, ended, step, start, is_close, refused, settled, stepped, judged, take_record, with_rest}
+use Rattle.cpg_live.specs.Stream.{NodeProgress, Step, LiveState, faulty, lawful, turned, may_end, arrived, ended, step}
+use Rattle.cpg_live.specs.Stream.{start, is_close, refused, settled, stepped, judged, take_record, with_rest}
 use Rattle.cpg_live.specs.Stream.{open_stream, outcome, after}
 use Rattle.cpg_live.specs.Told.{follow_if, follow}
-use Rattle.cpg_live.specs.Spelling.{bit, item_of, number_of, record_with, record_bytes, event_bytes, stream_bytes, HasRoom, RiseWithin, closed_at, BytesSpellEvents}
+use Rattle.cpg_live.specs.Spelling.{bit, item_of, number_of, record_with, record_bytes, event_bytes, stream_bytes}
+use Rattle.cpg_live.specs.Spelling.{HasRoom, RiseWithin, closed_at, BytesSpellEvents}
 use Rattle.cpg_live.proofs.Turns.{turned_table}
 
 -- The numbers of a record are read from its bytes.
 
 number_8 : (n : ℕ) → n < 2 ^ 64 → big_number 8 (big_bytes 8 n) ≡ n
-number_8 n fits = let same : big_number 8 (to_be_bytes w64 n) ≡ from_be_bytes w64 (to_be_bytes w64 n) = omega arith in same ∙ from_be_bytes-to_be_bytes_8 n fits
+number_8 n fits = let same : big_number 8 (to_be_bytes w64 n) ≡ from_be_bytes w64 (to_be_bytes w64 n) = omega arith in
+    same ∙ from_be_bytes-to_be_bytes_8 n fits
 
 number_2 : (n : ℕ) → n < 2 ^ 16 → big_number 2 (big_bytes 2 n) ≡ n
-number_2 n fits = let same : big_number 2 (to_be_bytes w16 n) ≡ from_be_bytes w16 (to_be_bytes w16 n) = omega arith in same ∙ from_be_bytes-to_be_bytes_2 n fits
+number_2 n fits = let same : big_number 2 (to_be_bytes w16 n) ≡ from_be_bytes w16 (to_be_bytes w16 n) = omega arith in
+    same ∙ from_be_bytes-to_be_bytes_2 n fits
 
 numbers : (r : Record) → r.time < 2 ^ 64 → r.item < 2 ^ 16 → r.number < 2 ^ 16 → record_of (record_bytes r) ≡ r
-numbers r t i n = λ j. record { kind = r.kind; time = number_8 r.time t j; item = number_2 r.item i j; number = number_2 r.number n j; value = r.value }
+numbers r t i n = λ j. record {
+  kind = r.kind;
+  time = number_8 r.time t j;
+  item = number_2 r.item i j;
+  number = number_2 r.number n j;
+  value = r.value;
+}
 
 item_fits : (table : NodeTable) (e : Event) → HasRoom table e → item_of e < 2 ^ 16
 item_fits table (Arrival f) h = h.0
@@ -45,10 +56,12 @@ number_fits table Close h = omega arith
 
 -- the numbers of a record tell the event
 told_back : (table : NodeTable) (time : ℕ) (e : Event) → HasRoom table e → event_of table (record_with time e) ≡ Some e
-told_back table time (Arrival f) h = go f.value (nat_lt f.item table.first_broadcast) (λ b. h.2 (ltb-true f.item table.first_broadcast b))
+told_back table time (Arrival f) h =
+    go f.value (nat_lt f.item table.first_broadcast) (λ b. h.2 (ltb-true f.item table.first_broadcast b))
   where
     go : (v b : Bool) → (b ≡ true → v ≡ false) →
-        cond (false || nat_lt 1 (bit v) || false || (true && b && (bit v == 1))) None (Some (Arrival (record { item = f.item; column = f.column; value = bit v == 1 })))
+        cond (false || nat_lt 1 (bit v) || false || (true && b && (bit v == 1))) None
+        (Some (Arrival (record { item = f.item; column = f.column; value = bit v == 1 })))
         ≡ Some (Arrival (record { item = f.item; column = f.column; value = v }))
     go true true plain = absurd (true≢false (plain refl))
     go true false plain = refl
@@ -59,32 +72,44 @@ told_back table time (Ending process faults false) h = refl
 told_back table time Close h = refl
 
 -- Bytes are cut into the records that they spell.
-cut_records : (before : List (List ℕ)) (es : List (ℕ × Event)) → fold cut_byte (record { whole = before; rest = [] }) (stream_bytes es) ≡ record { whole = before ++ map event_bytes es; rest = [] }
+cut_records : (before : List (List ℕ)) (es : List (ℕ × Event)) →
+    fold cut_byte (record { whole = before; rest = [] }) (stream_bytes es)
+    ≡ record { whole = before ++ map event_bytes es; rest = [] }
 cut_records before [] = ap (λ (w : List (List ℕ)). record { whole = w; rest = [] }) (sym (append-nil before))
 cut_records before (e ∷ es) =
     fold-append cut_byte (record { whole = before; rest = [] }) (event_bytes e) (stream_bytes es)
     ∙ cut_records (before ++ (event_bytes e ∷ [])) es
-    ∙ ap (λ (w : List (List ℕ)). record { whole = w; rest = [] }) (append_assoc before (event_bytes e ∷ []) (map event_bytes es))
+    ∙ ap (λ (w : List (List ℕ)). record { whole = w; rest = [] })
+    (append_assoc before (event_bytes e ∷ []) (map event_bytes es))
 
 -- Events leave the table.
 
-arrived_table : (time : ℕ) (f : Frame) (p : NodeProgress) → (arrived time f p).progress.dispatcher.table ≡ p.dispatcher.table
+arrived_table : (time : ℕ) (f : Frame) (p : NodeProgress) →
+    (arrived time f p).progress.dispatcher.table ≡ p.dispatcher.table
 arrived_table time f p = go (is_strange p.dispatcher time f)
   where
-    go : (b : Bool) → (cond b (faulty p StrangeFrame) (lawful (record p { dispatcher = hear p.dispatcher f }))).progress.dispatcher.table ≡ p.dispatcher.table
+    go : (b : Bool) →
+        (cond b (faulty p StrangeFrame)
+        (lawful (record p { dispatcher = hear p.dispatcher f }))).progress.dispatcher.table ≡ p.dispatcher.table
     go true = refl
     go false = refl
 
-ended_table : (time : ℕ) (e : Ended) (p : NodeProgress) → (ended time e p).progress.dispatcher.table ≡ p.dispatcher.table
+ended_table : (time : ℕ) (e : Ended) (p : NodeProgress) →
+    (ended time e p).progress.dispatcher.table ≡ p.dispatcher.table
 ended_table time e p = go (may_end p.dispatcher time e)
   where
-    go : (b : Bool) → (cond b (lawful (record p { dispatcher = finished p.dispatcher e })) (faulty p FalseEnd)).progress.dispatcher.table ≡ p.dispatcher.table
+    go : (b : Bool) →
+        (cond b (lawful (record p { dispatcher = finished p.dispatcher e }))
+        (faulty p FalseEnd)).progress.dispatcher.table ≡ p.dispatcher.table
     go true = refl
     go false = refl
 
-pub step_table : (time : ℕ) (event : Event) (p : NodeProgress) → (step time event p).progress.dispatcher.table ≡ p.dispatcher.table
+pub step_table : (time : ℕ) (event : Event) (p : NodeProgress) →
+    (step time event p).progress.dispatcher.table ≡ p.dispatcher.table
 step_table time (Arrival f) p = arrived_table time f (turned time p) ∙ turned_table time p
-step_table time (Ending process faults value) p = ended_table time (record { process = process; faults = faults; value = value }) (turned time p) ∙ turned_table time p
+step_table time (Ending process faults value) p =
+    ended_table time (record { process = process; faults = faults; value = value }) (turned time p)
+    ∙ turned_table time p
 step_table time Close p = turned_table (time + 1) p
 
 -- A lawful front.
@@ -110,35 +135,48 @@ abbrev state : NodeProgress → ℕ → ℕ → Bool → LiveState
 state p taken time closed = record { progress = p; taken = taken; time = time; rest = []; closed = closed; bad = None }
 
 module _ (table : NodeTable) where
-  takes_one : (p : NodeProgress) (taken time : ℕ) (e : ℕ × Event) → p.dispatcher.table ≡ table → time ≤ e.0 → e.0 < 2 ^ 64 → HasRoom table e.1 → (step e.0 e.1 p).fault ≡ None →
-      take_record (state p taken time false) (event_bytes e) ≡ state (step e.0 e.1 p).progress (min (taken + 1) (2 ^ 64 - 1)) e.0 (is_close e.1)
+  takes_one : (p : NodeProgress) (taken time : ℕ) (e : ℕ × Event) → p.dispatcher.table ≡ table → time ≤ e.0 →
+      e.0 < 2 ^ 64 → HasRoom table e.1 →
+      (step e.0 e.1 p).fault ≡ None →
+      take_record (state p taken time false) (event_bytes e)
+      ≡ state (step e.0 e.1 p).progress (min (taken + 1) (2 ^ 64 - 1)) e.0 (is_close e.1)
   takes_one p taken time e same later small room fine =
       let s : LiveState = state p taken time false in
-      ap (λ (r : Record). judged s r.time (event_of p.dispatcher.table r)) (numbers (record_with e.0 e.1) small (item_fits table e.1 room) (number_fits table e.1 room))
+      ap (λ (r : Record). judged s r.time (event_of p.dispatcher.table r))
+      (numbers (record_with e.0 e.1) small (item_fits table e.1 room) (number_fits table e.1 room))
       ∙ ap (λ t. judged s e.0 (event_of t (record_with e.0 e.1))) same
       ∙ ap (judged s e.0) (told_back table e.0 e.1 room)
       ∙ ap (λ b. cond b (refused s Order) (stepped s e.0 e.1 (step e.0 e.1 p))) (le-ltb e.0 time later)
       ∙ ap (settled (record s { progress = (step e.0 e.1 p).progress }) e.0 e.1) fine
 
-  takes_all : (close : ℕ) → close < 2 ^ 64 → (es : List (ℕ × Event)) (p : NodeProgress) (taken time : ℕ) → p.dispatcher.table ≡ table → RiseWithin time close es →
+  takes_all : (close : ℕ) → close < 2 ^ 64 → (es : List (ℕ × Event)) (p : NodeProgress) (taken time : ℕ) →
+      p.dispatcher.table ≡ table →
+      RiseWithin time close es →
       AllByRecursion (λ (e : ℕ × Event). HasRoom table e.1) es →
       (follow (lawful p) es).fault ≡ None →
-      (count : ℕ) × (fold take_record (state p taken time false) (map event_bytes (closed_at es close)) ≡ state (follow (lawful p) (closed_at es close)).progress count close true)
-  takes_all close small [] p taken time same rise room fine = (min (taken + 1) (2 ^ 64 - 1), takes_one p taken time (close, Close) same rise small tt refl)
+      (count : ℕ) × (fold take_record (state p taken time false) (map event_bytes (closed_at es close))
+      ≡ state (follow (lawful p) (closed_at es close)).progress count close true)
+  takes_all close small [] p taken time same rise room fine =
+      (min (taken + 1) (2 ^ 64 - 1), takes_one p taken time (close, Close) same rise small tt refl)
   takes_all close small (e ∷ es) p taken time same rise room fine =
       let most = within_le e.0 close es rise.2 in
       let whole : step e.0 e.1 p ≡ lawful (step e.0 e.1 p).progress = lawful_front es (step e.0 e.1 p) fine in
       let next : NodeProgress = (step e.0 e.1 p).progress in
-      let one = takes_one p taken time e same rise.0 (omega (arith, most, small)) room.0 (ap (λ (s : Step). s.fault) whole) in
-      let rest = takes_all close small es next (min (taken + 1) (2 ^ 64 - 1)) e.0 (step_table e.0 e.1 p ∙ same) rise.2 room.1 (sym (ap (λ s. (follow s es).fault) whole) ∙ fine) in (
+      let one =
+      takes_one p taken time e same rise.0 (omega (arith, most, small)) room.0 (ap (λ (s : Step). s.fault) whole) in
+      let rest = takes_all close small es next (min (taken + 1) (2 ^ 64 - 1)) e.0
+      (step_table e.0 e.1 p ∙ same) rise.2 room.1 (sym (ap (λ s. (follow s es).fault) whole) ∙ fine) in (
         rest.0,
-        ap (λ z. fold take_record z (map event_bytes (closed_at es close))) (one ∙ ap (state next (min (taken + 1) (2 ^ 64 - 1)) e.0) rise.1)
+        ap (λ z. fold take_record z (map event_bytes (closed_at es close)))
+            (one ∙ ap (state next (min (taken + 1) (2 ^ 64 - 1)) e.0) rise.1)
             ∙ rest.1 ∙ sym (ap (λ s. state (follow s (closed_at es close)).progress rest.0 close true) whole),
       )
 
 pub bytes_spell : BytesSpellEvents
 bytes_spell table es close small rise room fine =
     let q = takes_all table close small es (start table) 0 0 refl rise room fine in
-    let is : after table (stream_bytes (closed_at es close)) ≡ state (follow (lawful (start table)) (closed_at es close)).progress q.0 close true =
-    ap (λ (c : Cut). with_rest (fold take_record (open_stream table) c.whole) c.rest) (cut_records [] (closed_at es close)) ∙ ap (λ s. with_rest s []) q.1 in
+    let is : after table (stream_bytes (closed_at es close))
+    ≡ state (follow (lawful (start table)) (closed_at es close)).progress q.0 close true =
+    ap (λ (c : Cut). with_rest (fold take_record (open_stream table) c.whole) c.rest)
+    (cut_records [] (closed_at es close)) ∙ ap (λ s. with_rest s []) q.1 in
     record { ends = ap outcome is; comes = ap (λ (s : LiveState). s.progress) is }

@@ -1,17 +1,20 @@
 -- What a turn and an event make of a node.
-use Rattle.std.proofs.Common.{◌≡◌, ℕ, ◌+◌, ◌<◌, ◌≤◌, Bool, true, false, cond, ◌&&◌, ◌||◌, List, [], ◌++◌, length, Option, Some, None, refl, sym, ap, ap₂, ◌∙◌, subst, arith, true≢false, ltb-true}
+use Rattle.std.proofs.Common.{◌≡◌, ℕ, ◌+◌, ◌<◌, ◌≤◌, Bool, true, false, cond, ◌&&◌, ◌||◌, List, [], ◌++◌, length}
+use Rattle.std.proofs.Common.{Option, Some, None, refl, sym, ap, ap₂, ◌∙◌, subst, arith, true≢false, ltb-true}
 use Rattle.std.proofs.Common.{leb-true}
 use Rattle.std.specs.Prelude.{IfSome, is_some, is_none, not, nat_lt, nat_le}
 use Rattle.std.proofs.lemmas.Bool.{and_parts}
 use Rattle.std.proofs.lemmas.Option.{none-some}
-use Rattle.cpg_node.specs.Dispatcher.{Dispatcher, Act, Ended, Frame, Running, next, turn, acts_of_turn, is_after, is_strange, hear, finished, own_of}
+use Rattle.cpg_node.specs.Dispatcher.{Dispatcher, Act, Ended, Frame, Running, next, turn, acts_of_turn, is_after}
+use Rattle.cpg_node.specs.Dispatcher.{is_strange, hear, finished, own_of}
 use Rattle.cpg_node.specs.State.{NodeState, MayFinish, running_of, time_of}
 use Rattle.cpg_node.specs.Instants.{entries_left}
 use Rattle.cpg_node.proofs.Rooms.{room_turn}
 use Rattle.cpg_live.specs.declared.event.Event.{Event}
 use Rattle.cpg_live.specs.declared.event.Event.TheVariants.{Frame as Arrival, End as Ending, Close}
 use Rattle.cpg_live.specs.declared.bad.Why.TheVariants.{Frame as StrangeFrame, End as FalseEnd}
-use Rattle.cpg_live.specs.Stream.{NodeProgress, faulty, lawful, take_turn, turned, may_end, may_end_now, may_tell, arrived, ended, step, is_close}
+use Rattle.cpg_live.specs.Stream.{NodeProgress, faulty, lawful, take_turn, turned, may_end, may_end_now, may_tell}
+use Rattle.cpg_live.specs.Stream.{arrived, ended, step, is_close}
 use Rattle.cpg_live.specs.Feeding.{IsTurned}
 use Rattle.cpg_live.proofs.Turns.{turned_after}
 
@@ -24,24 +27,33 @@ abbrev progress_at : Dispatcher → List Act → NodeProgress
 progress_at d acts = record { dispatcher = d; acts = acts }
 
 -- the node's turn and the acts that are added are the turn
-pub turn_taken : (p : NodeProgress) (before after : NodeState) (time : ℕ) (items more all : List Act) → progress_at before.dispatcher items ≡ p → next p.dispatcher ≡ Some time →
-    IfSome (next before.dispatcher) (λ t. after.dispatcher ≡ turn before.dispatcher t [] []) → IfSome (next before.dispatcher) (λ t. after.acts ≡ acts_of_turn before.dispatcher t [] []) →
+pub turn_taken : (p : NodeProgress) (before after : NodeState) (time : ℕ) (items more all : List Act) →
+    progress_at before.dispatcher items ≡ p →
+    next p.dispatcher ≡ Some time →
+    IfSome (next before.dispatcher) (λ t. after.dispatcher ≡ turn before.dispatcher t [] []) →
+    IfSome (next before.dispatcher) (λ t. after.acts ≡ acts_of_turn before.dispatcher t [] []) →
     more ≡ after.acts → all ≡ items ++ more → progress_at after.dispatcher all ≡ take_turn time p
 turn_taken p before after time items more all view comes d a m l =
     let here : next before.dispatcher ≡ Some time = ap (λ (p : NodeProgress). next p.dispatcher) view ∙ comes in
-    ap₂ progress_at (at_some (next before.dispatcher) time (λ t. after.dispatcher ≡ turn before.dispatcher t [] []) here d)
-    (l ∙ ap (λ l. items ++ l) (m ∙ at_some (next before.dispatcher) time (λ t. after.acts ≡ acts_of_turn before.dispatcher t [] []) here a))
+    ap₂ progress_at
+    (at_some (next before.dispatcher) time (λ t. after.dispatcher ≡ turn before.dispatcher t [] []) here d)
+    (l ∙ ap (λ l. items ++ l)
+    (m ∙ at_some (next before.dispatcher) time (λ t. after.acts ≡ acts_of_turn before.dispatcher t [] []) here a))
     ∙ ap (take_turn time) view
 
 -- there is room for the acts that are added and for those that are left
 pub room_taken : (before after : NodeState) (time n room : ℕ) (more : List Act) → next before.dispatcher ≡ Some time →
-    IfSome (next before.dispatcher) (λ t. after.dispatcher ≡ turn before.dispatcher t [] []) → IfSome (next before.dispatcher) (λ t. after.acts ≡ acts_of_turn before.dispatcher t [] []) →
-    more ≡ after.acts → n + length (entries_left before.dispatcher) ≤ room → n + length more + length (entries_left after.dispatcher) ≤ room
+    IfSome (next before.dispatcher) (λ t. after.dispatcher ≡ turn before.dispatcher t [] []) →
+    IfSome (next before.dispatcher) (λ t. after.acts ≡ acts_of_turn before.dispatcher t [] []) →
+    more ≡ after.acts → n + length (entries_left before.dispatcher) ≤ room →
+    n + length more + length (entries_left after.dispatcher) ≤ room
 room_taken before after time n room more here d a m l = omega (
   arith,
   room_turn before.dispatcher time [] here,
-  ap (λ (l : List Act). length l) (m ∙ at_some (next before.dispatcher) time (λ t. after.acts ≡ acts_of_turn before.dispatcher t [] []) here a),
-  ap (λ (d : Dispatcher). length (entries_left d)) (at_some (next before.dispatcher) time (λ t. after.dispatcher ≡ turn before.dispatcher t [] []) here d),
+  ap (λ (l : List Act). length l)
+      (m ∙ at_some (next before.dispatcher) time (λ t. after.acts ≡ acts_of_turn before.dispatcher t [] []) here a),
+  ap (λ (d : Dispatcher). length (entries_left d))
+      (at_some (next before.dispatcher) time (λ t. after.dispatcher ≡ turn before.dispatcher t [] []) here d),
   l,
 )
 
@@ -58,12 +70,20 @@ none_is : {A : Type 0} (o : Option A) → is_none o ≡ true → o ≡ None
 none_is None e = refl
 none_is (Some x) e = absurd (true≢false (sym e))
 
-pub unreported : (d : Dispatcher) (time : ℕ) (e : Ended) (o : Option Running) → may_end_now d time e o ≡ true → Unreported o time (time_of d e.process e.faults)
+pub unreported : (d : Dispatcher) (time : ℕ) (e : Ended) (o : Option Running) → may_end_now d time e o ≡ true →
+    Unreported o time (time_of d e.process e.faults)
 unreported d time e None h = absurd (true≢false (sym h))
 unreported d time e (Some run) h =
-    let a = and_parts (is_none run.report && nat_lt run.start time) (nat_le time (run.start + time_of d e.process e.faults)) h in
+    let a = and_parts (is_none run.report && nat_lt run.start time)
+    (nat_le time (run.start + time_of d e.process e.faults)) h in
     let b = and_parts (is_none run.report) (nat_lt run.start time) a.0 in
-    record { run = run; runs = refl; none = none_is run.report b.0; started = ltb-true run.start time b.1; in_time = leb-true time (run.start + time_of d e.process e.faults) a.1 }
+    record {
+      run = run;
+      runs = refl;
+      none = none_is run.report b.0;
+      started = ltb-true run.start time b.1;
+      in_time = leb-true time (run.start + time_of d e.process e.faults) a.1;
+    }
 
 plain_is : (o : Option ℕ) (value : Bool) → (is_some o || not value) ≡ true → o ≡ None → value ≡ false
 plain_is None true h e = absurd (true≢false (sym h))
@@ -71,10 +91,13 @@ plain_is None false h e = refl
 plain_is (Some c) value h e = absurd (none-some c (sym e))
 
 -- an end that may be told is one that the node may note
-pub may_finish : (d : Dispatcher) (time : ℕ) (e : Ended) → IsTurned d time → is_after d.last time ≡ true → may_end d time e ≡ true → MayFinish d time e
+pub may_finish : (d : Dispatcher) (time : ℕ) (e : Ended) → IsTurned d time → is_after d.last time ≡ true →
+    may_end d time e ≡ true →
+    MayFinish d time e
 may_finish d time e before later h =
     let parts = and_parts (may_tell d e) (may_end_now d time e (running_of d e.process)) h in
-    let told = and_parts (nat_le e.faults d.table.faults) (is_some (own_of d.table e.process).condition || not e.value) parts.0 in
+    let told = and_parts (nat_le e.faults d.table.faults)
+    (is_some (own_of d.table e.process).condition || not e.value) parts.0 in
     let r = unreported d time e (running_of d e.process) parts.1 in
     record {
       run = r.run;
@@ -90,21 +113,30 @@ may_finish d time e before later h =
 
 -- The last turn stays before the time of the record.
 
-arrived_after : (time : ℕ) (f : Frame) (p : NodeProgress) → is_after p.dispatcher.last time ≡ true → is_after (arrived time f p).progress.dispatcher.last time ≡ true
+arrived_after : (time : ℕ) (f : Frame) (p : NodeProgress) → is_after p.dispatcher.last time ≡ true →
+    is_after (arrived time f p).progress.dispatcher.last time ≡ true
 arrived_after time f p h = go (is_strange p.dispatcher time f)
   where
-    go : (b : Bool) → is_after (cond b (faulty p StrangeFrame) (lawful (record p { dispatcher = hear p.dispatcher f }))).progress.dispatcher.last time ≡ true
+    go : (b : Bool) →
+        is_after (cond b (faulty p StrangeFrame)
+        (lawful (record p { dispatcher = hear p.dispatcher f }))).progress.dispatcher.last time ≡ true
     go true = h
     go false = h
 
-ended_after : (time : ℕ) (e : Ended) (p : NodeProgress) → is_after p.dispatcher.last time ≡ true → is_after (ended time e p).progress.dispatcher.last time ≡ true
+ended_after : (time : ℕ) (e : Ended) (p : NodeProgress) → is_after p.dispatcher.last time ≡ true →
+    is_after (ended time e p).progress.dispatcher.last time ≡ true
 ended_after time e p h = go (may_end p.dispatcher time e)
   where
-    go : (b : Bool) → is_after (cond b (lawful (record p { dispatcher = finished p.dispatcher e })) (faulty p FalseEnd)).progress.dispatcher.last time ≡ true
+    go : (b : Bool) →
+        is_after (cond b (lawful (record p { dispatcher = finished p.dispatcher e }))
+        (faulty p FalseEnd)).progress.dispatcher.last time ≡ true
     go true = h
     go false = h
 
-pub step_after : (time : ℕ) (event : Event) (p : NodeProgress) → is_after p.dispatcher.last time ≡ true → is_close event ≡ false → is_after (step time event p).progress.dispatcher.last time ≡ true
+pub step_after : (time : ℕ) (event : Event) (p : NodeProgress) → is_after p.dispatcher.last time ≡ true →
+    is_close event ≡ false →
+    is_after (step time event p).progress.dispatcher.last time ≡ true
 step_after time (Arrival f) p h o = arrived_after time f (turned time p) (turned_after time p h)
-step_after time (Ending process faults value) p h o = ended_after time (record { process = process; faults = faults; value = value }) (turned time p) (turned_after time p h)
+step_after time (Ending process faults value) p h o = ended_after time
+    (record { process = process; faults = faults; value = value }) (turned time p) (turned_after time p h)
 step_after time Close p h o = absurd (true≢false o)

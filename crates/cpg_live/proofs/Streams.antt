@@ -1,5 +1,6 @@
 -- How a stream ends, by the part of it that was read.
-use Rattle.std.proofs.Common.{◌≡◌, ◌≢◌, ℕ, ◌+◌, ◌<◌, ◌≤◌, Bool, true, false, cond, ◌&&◌, List, ◌++◌, length, take, drop, Some, None, refl, sym, ap, ap₂, ◌∙◌, subst, arith, inl, inr, append-nil}
+use Rattle.std.proofs.Common.{◌≡◌, ◌≢◌, ℕ, ◌+◌, ◌<◌, ◌≤◌, Bool, true, false, cond, ◌&&◌, List, ◌++◌, length, take, drop}
+use Rattle.std.proofs.Common.{Some, None, refl, sym, ap, ap₂, ◌∙◌, subst, arith, inl, inr, append-nil}
 use Rattle.std.proofs.Common.{lt-ltb, le-ltb, true≢false}
 use Rattle.std.specs.Prelude.{is_none, nat_lt, Result, Ok, Err}
 use Rattle.std.proofs.Math.Seq.{take-append-add, drop-append_seam}
@@ -21,21 +22,28 @@ use Rattle.cpg_live.proofs.Growing.{bytes_grow}
 use Rattle.cpg_live.specs.declared.following.StreamFault.{StreamFault}
 use Rattle.cpg_live.specs.declared.following.StreamFault.TheVariants.{Lawless, Long}
 use Rattle.cpg_live.specs.declared.following.TheConstants.{STREAM_LIMIT}
-use Rattle.cpg_live.specs.Streams.{act_line, act_lines, closed_line, read_part, end_by, end_of, stream_end, close_of, stream_lines, IsClosed, IsRefused, IsCutOff, IsTooLong}
+use Rattle.cpg_live.specs.Streams.{act_line, act_lines, closed_line, read_part, end_by, end_of, stream_end, close_of}
+use Rattle.cpg_live.specs.Streams.{stream_lines, IsClosed, IsRefused, IsCutOff, IsTooLong}
 
 -- ---- what a sink took
 
 -- a proper front of some bytes is one of more
 pub took_more : (a b : List ℕ) (p q : List ℕ) → TookPrefix a b p → TookPrefix a b (p ++ q)
 took_more a b p q took =
-    let n = took.0 in
-    (n, omega (arith, took.1, length-append p q), subst (Took a b) (sym (take-append-le n p q (omega (arith, took.1)))) took.2)
+    let n = took.0 in (
+      n,
+      omega (arith, took.1, length-append p q),
+      subst (Took a b) (sym (take-append-le n p q (omega (arith, took.1)))) took.2,
+    )
 
 -- a proper front of some bytes, taken behind bytes that were taken whole, is one of both
 pub took_after : (a b c : List ℕ) (p q : List ℕ) → Took a b p → TookPrefix b c q → TookPrefix a c (p ++ q)
 took_after a b c p q whole took =
-    let n = took.0 in
-    (length p + n, omega (arith, took.1, length-append p q), subst (Took a c) (sym (take-append-add p q n)) (Took-trans a b c p (take n q) whole took.2))
+    let n = took.0 in (
+      length p + n,
+      omega (arith, took.1, length-append p q),
+      subst (Took a c) (sym (take-append-add p q n)) (Took-trans a b c p (take n q) whole took.2),
+    )
 
 -- ---- more bytes of a stream
 
@@ -43,7 +51,8 @@ pub after_more : (table : NodeTable) (fed more : List ℕ) → after table (fed 
 after_more table fed more = sym (feeds (after table fed) (take_bytes (after table fed) more) more refl table fed refl)
 
 -- more bytes of a stream add acts alone
-pub acts_more : (table : NodeTable) (fed more : List ℕ) → Grows (after table fed).progress.acts (after table (fed ++ more)).progress.acts
+pub acts_more : (table : NodeTable) (fed more : List ℕ) →
+    Grows (after table fed).progress.acts (after table (fed ++ more)).progress.acts
 acts_more table fed more =
     let g = bytes_grow (after table fed) more in
     (g.0, ap (λ (s : LiveState). s.progress.acts) (after_more table fed more) ∙ g.1)
@@ -71,14 +80,17 @@ not_long bad e = true≢false (ap is_lawless e)
     is_lawless Long = false
 
 -- all lines, if the state is known
-lines_of : (h : Head) (table : NodeTable) (bytes : List ℕ) (s : LiveState) (ends : Result ℕ StreamFault) → after table (read_part bytes) ≡ s → stream_end table bytes ≡ ends →
+lines_of : (h : Head) (table : NodeTable) (bytes : List ℕ) (s : LiveState) (ends : Result ℕ StreamFault) →
+    after table (read_part bytes) ≡ s →
+    stream_end table bytes ≡ ends →
     stream_lines h table bytes ≡ act_lines h s.progress.acts ++ close_of ends
 lines_of h table bytes s ends same e = ap₂ (λ (t : LiveState) r. act_lines h t.progress.acts ++ close_of r) same e
 
 some_none : (bad : Bad) → Some bad ≡ None → ⊥
 some_none bad e = true≢false (sym (ap is_none e))
 
-module _ (h : Head) (table : NodeTable) (fetch : Fetch) (sound : fetch.failed ≡ false) (few : length fetch.given ≤ STREAM_LIMIT + 1) where
+module _ (h : Head) (table : NodeTable) (fetch : Fetch) (sound : fetch.failed ≡ false)
+    (few : length fetch.given ≤ STREAM_LIMIT + 1) where
   -- all bytes that came are of the part that is read
   read_all : read_part fetch.given ≡ fetch.given
   read_all = take_all (STREAM_LIMIT + 1) fetch.given few
@@ -86,42 +98,55 @@ module _ (h : Head) (table : NodeTable) (fetch : Fetch) (sound : fetch.failed �
   ends_as : stream_end table fetch.given ≡ end_of (after table fetch.given) (length fetch.given)
   ends_as = ap (λ bytes. end_of (after table bytes) (length bytes)) read_all
 
-  refused_by : (fault : StreamFault) → (fault ≡ Long → IsTooLong table fetch.given) → (fault ≢ Long → (after table fetch.given).bad ≡ None → fetch.ended ≡ true) →
-      stream_end table fetch.given ≡ Err fault → IsRefused h table fetch fault (act_lines h (after table fetch.given).progress.acts)
+  refused_by : (fault : StreamFault) → (fault ≡ Long → IsTooLong table fetch.given) →
+      (fault ≢ Long → (after table fetch.given).bad ≡ None → fetch.ended ≡ true) →
+      stream_end table fetch.given ≡ Err fault →
+      IsRefused h table fetch fault (act_lines h (after table fetch.given).progress.acts)
   refused_by fault long all ends = record {
     sound = sound;
     few = few;
     ends = ends;
     long = long;
     all = all;
-    spelled = sym (lines_of h table fetch.given (after table fetch.given) (Err fault) (ap (after table) read_all) ends ∙ append-nil (act_lines h (after table fetch.given).progress.acts));
+    spelled = sym (lines_of h table fetch.given (after table fetch.given) (Err fault) (ap (after table) read_all) ends
+        ∙ append-nil (act_lines h (after table fetch.given).progress.acts));
   }
 
   -- by a lawless record that was fed
-  pub lawless : (bad : Bad) → (after table fetch.given).bad ≡ Some bad → IsRefused h table fetch (Lawless bad) (act_lines h (after table fetch.given).progress.acts)
-  lawless bad e = refused_by (Lawless bad) (λ e. absurd (not_long bad e)) (λ other none. absurd (some_none bad (sym e ∙ none))) (ends_as ∙ end_bad (after table fetch.given) (length fetch.given) bad e)
+  pub lawless : (bad : Bad) → (after table fetch.given).bad ≡ Some bad →
+      IsRefused h table fetch (Lawless bad) (act_lines h (after table fetch.given).progress.acts)
+  lawless bad e =
+      refused_by (Lawless bad) (λ e. absurd (not_long bad e)) (λ other none. absurd (some_none bad (sym e ∙ none)))
+      (ends_as ∙ end_bad (after table fetch.given) (length fetch.given) bad e)
 
   -- as too long
-  pub too_long : (after table fetch.given).bad ≡ None → STREAM_LIMIT < length fetch.given → IsRefused h table fetch Long (act_lines h (after table fetch.given).progress.acts)
+  pub too_long : (after table fetch.given).bad ≡ None → STREAM_LIMIT < length fetch.given →
+      IsRefused h table fetch Long (act_lines h (after table fetch.given).progress.acts)
   too_long e l =
-      let within = within_record table fetch.given 16777216 1 e (omega (arith, l, few)) (omega arith) (omega arith) (omega arith) in
+      let within = within_record table fetch.given 16777216 1 e (omega (arith, l, few)) (omega arith) (omega arith)
+      (omega arith) in
       let long : IsTooLong table fetch.given = record {
         more = l;
         lawful = ap (λ bytes. (after table bytes).bad) read_all ∙ e;
         taken = ap (λ bytes. (after table bytes).taken) read_all ∙ within.taken;
         not_closed = ap (λ bytes. (after table bytes).closed) read_all ∙ within.not_closed;
       } in
-      refused_by Long (λ _. long) (λ other none. absurd (other refl)) (ends_as ∙ end_long (after table fetch.given) (length fetch.given) e l)
+      refused_by Long (λ _. long) (λ other none. absurd (other refl))
+      (ends_as ∙ end_long (after table fetch.given) (length fetch.given) e l)
 
   -- at its end
-  module _ (ended : fetch.ended ≡ true) (lawful : (after table fetch.given).bad ≡ None) (short : length fetch.given ≤ STREAM_LIMIT) where
+  module _ (ended : fetch.ended ≡ true) (lawful : (after table fetch.given).bad ≡ None)
+      (short : length fetch.given ≤ STREAM_LIMIT) where
     ends_short : stream_end table fetch.given ≡ end_by (outcome (after table fetch.given))
     ends_short = ends_as ∙ end_short (after table fetch.given) (length fetch.given) lawful short
 
-    pub unclosed : (bad : Bad) → outcome (after table fetch.given) ≡ Err bad → IsRefused h table fetch (Lawless bad) (act_lines h (after table fetch.given).progress.acts)
-    unclosed bad e = refused_by (Lawless bad) (λ e. absurd (not_long bad e)) (λ other none. ended) (ends_short ∙ ap end_by e)
+    pub unclosed : (bad : Bad) → outcome (after table fetch.given) ≡ Err bad →
+        IsRefused h table fetch (Lawless bad) (act_lines h (after table fetch.given).progress.acts)
+    unclosed bad e =
+        refused_by (Lawless bad) (λ e. absurd (not_long bad e)) (λ other none. ended) (ends_short ∙ ap end_by e)
 
-    pub closed : (time : ℕ) → outcome (after table fetch.given) ≡ Ok time → IsClosed h table fetch (act_lines h (after table fetch.given).progress.acts ++ closed_line time)
+    pub closed : (time : ℕ) → outcome (after table fetch.given) ≡ Ok time →
+        IsClosed h table fetch (act_lines h (after table fetch.given).progress.acts ++ closed_line time)
     closed time e =
         let ends : stream_end table fetch.given ≡ Ok time = ends_short ∙ ap end_by e in
         record {
@@ -135,19 +160,36 @@ module _ (h : Head) (table : NodeTable) (fetch : Fetch) (sound : fetch.failed �
         }
 
   -- where a sink took a front of the lines so far
-  pub cut_off : (a b : List ℕ) → TookPrefix a b (act_lines h (after table fetch.given).progress.acts) → IsCutOff h table fetch a b
+  pub cut_off : (a b : List ℕ) → TookPrefix a b (act_lines h (after table fetch.given).progress.acts) →
+      IsCutOff h table fetch a b
   cut_off a b took =
       let lines = act_lines h (after table fetch.given).progress.acts in
       let all : stream_lines h table fetch.given ≡ lines ++ close_of (stream_end table fetch.given) =
-      ap (λ (bytes : List ℕ). act_lines h (after table bytes).progress.acts ++ close_of (stream_end table fetch.given)) read_all in
-      record { sound = sound; few = few; front = subst (TookPrefix a b) (sym all) (took_more a b lines (close_of (stream_end table fetch.given)) took); so_far = inr took }
+      ap (λ (bytes : List ℕ). act_lines h (after table bytes).progress.acts ++ close_of (stream_end table fetch.given))
+      read_all in
+      record {
+        sound = sound;
+        few = few;
+        front = subst (TookPrefix a b) (sym all) (took_more a b lines (close_of (stream_end table fetch.given)) took);
+        so_far = inr took;
+      }
 
 -- a front of all lines, in the last of which the sink met a fault
-pub cut_closed : (h : Head) (table : NodeTable) (fetch : Fetch) (a b : List ℕ) (lines : List ℕ) → IsClosed h table fetch lines → TookPrefix a b lines → IsCutOff h table fetch a b
+pub cut_closed : (h : Head) (table : NodeTable) (fetch : Fetch) (a b : List ℕ) (lines : List ℕ) →
+    IsClosed h table fetch lines → TookPrefix a b lines →
+    IsCutOff h table fetch a b
 cut_closed h table fetch a b lines closed took = let s = closed.short in
-    record { sound = closed.sound; few = omega (arith, s); front = subst (TookPrefix a b) closed.spelled took; so_far = inl closed.ended }
+    record {
+      sound = closed.sound;
+      few = omega (arith, s);
+      front = subst (TookPrefix a b) closed.spelled took;
+      so_far = inl closed.ended;
+    }
 
 -- the lines of acts that are added
-pub lines_more : (h : Head) (acts more all : List Act) → all ≡ acts ++ more → act_lines h all ≡ act_lines h acts ++ act_lines h (drop (length acts) all)
+pub lines_more : (h : Head) (acts more all : List Act) → all ≡ acts ++ more →
+    act_lines h all ≡ act_lines h acts ++ act_lines h (drop (length acts) all)
 lines_more h acts more all e =
-    ap (act_lines h) e ∙ flat_map-append (act_line h) acts more ∙ ap (λ (done : List Act). act_lines h acts ++ act_lines h done) (sym (ap (drop (length acts)) e ∙ drop-append_seam acts more))
+    ap (act_lines h) e ∙ flat_map-append (act_line h) acts more
+    ∙ ap (λ (done : List Act). act_lines h acts ++ act_lines h done)
+    (sym (ap (drop (length acts)) e ∙ drop-append_seam acts more))

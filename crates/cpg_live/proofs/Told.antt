@@ -1,17 +1,21 @@
 -- A turn of a play is followed on the records of what it takes.
-use Rattle.std.proofs.Common.{◌≡◌, ℕ, zero, suc, ◌+◌, ◌≤◌, Bool, true, false, cond, not, ◌||◌, List, [], ◌∷◌, ◌++◌, map, Option, Some, None, refl, sym, ap, ap₂, ◌∙◌, subst, arith, inl, inr, lt-ltb}
+use Rattle.std.proofs.Common.{◌≡◌, ℕ, zero, suc, ◌+◌, ◌≤◌, Bool, true, false, cond, not, ◌||◌, List, [], ◌∷◌, ◌++◌, map}
+use Rattle.std.proofs.Common.{Option, Some, None, refl, sym, ap, ap₂, ◌∙◌, subst, arith, inl, inr, lt-ltb}
 use Rattle.std.proofs.Common.{le-ltb, le-leb}
 use Rattle.std.specs.Prelude.{IfSome, is_none, is_some, nat_le}
 use Rattle.std.proofs.lemmas.Bool.{and_from}
 use Rattle.std.proofs.lemmas.List.Sums.{fold-append}
-use Rattle.cpg_node.specs.Dispatcher.{Dispatcher, Act, Ended, Frame, next, finished, hear, hear_all, is_strange, AllFine, turn, own_of}
+use Rattle.cpg_node.specs.Dispatcher.{Dispatcher, Act, Ended, Frame, next, finished, hear, hear_all, is_strange}
+use Rattle.cpg_node.specs.Dispatcher.{AllFine, turn, own_of}
 use Rattle.cpg_node.specs.State.{MayFinish, running_of, time_of}
 use Rattle.cpg_node.proofs.HeardFirst.{hearing_first_is_the_same}
 use Rattle.cpg_node.proofs.Next.{next_is}
 use Rattle.cpg_node.proofs.Turning.{next_reported}
 use Rattle.cpg_live.specs.declared.bad.Why.TheVariants.{Frame as StrangeFrame, End as FalseEnd}
-use Rattle.cpg_live.specs.Stream.{NodeProgress, Step, faulty, lawful, take_turn, instant_below, turn_if, turns_below, turned, may_tell, may_end_now, may_end, arrived, ended}
-use Rattle.cpg_live.specs.Told.{end_event, frame_event, follow_one, follow, after_last, HasCome, MayReport, after_reports, turn_events, TurnsAreFollowed, ClosesAreFollowed}
+use Rattle.cpg_live.specs.Stream.{NodeProgress, Step, faulty, lawful, take_turn, instant_below, turn_if, turns_below}
+use Rattle.cpg_live.specs.Stream.{turned, may_tell, may_end_now, may_end, arrived, ended}
+use Rattle.cpg_live.specs.Told.{end_event, frame_event, follow_one, follow, after_last, HasCome, MayReport}
+use Rattle.cpg_live.specs.Told.{after_reports, turn_events, TurnsAreFollowed, ClosesAreFollowed}
 use Rattle.cpg_live.proofs.Turns.{floor_after, below_or_not, still, turned_next, turned_last}
 
 -- turns below an earlier limit are among those below a later one
@@ -21,13 +25,15 @@ further zero x y p le = refl
 further (suc n) x y p le = elim (below_or_not x (next p.dispatcher)) [
   | inr z ↦ ap (turned y) (still (suc n) x p z.none)
   | inl b ↦ ap (λ q. turned y (turns_below n x (turn_if p q))) b.found ∙ further n x y (take_turn b.time p) le
-      ∙ turned_next y p b.time (ap (instant_below y) b.is ∙ ap (λ c. cond c (Some b.time) None) (lt-ltb b.time y (omega (arith, b.less, le))))
+      ∙ turned_next y p b.time (ap (instant_below y) b.is
+      ∙ ap (λ c. cond c (Some b.time) None) (lt-ltb b.time y (omega (arith, b.less, le))))
 ]
 
 abbrev at : Dispatcher → List Act → NodeProgress
 at d acts = record { dispatcher = d; acts = acts }
 
-none_before : (d : Dispatcher) (time limit : ℕ) → next d ≡ Some time → limit ≤ time → instant_below limit (next d) ≡ None
+none_before : (d : Dispatcher) (time limit : ℕ) → next d ≡ Some time → limit ≤ time →
+    instant_below limit (next d) ≡ None
 none_before d time limit e le = ap (instant_below limit) e ∙ ap (λ c. cond c (Some time) None) (le-ltb time limit le)
 
 module _ (time : ℕ) (acts : List Act) where
@@ -41,7 +47,8 @@ module _ (time : ℕ) (acts : List Act) where
 
   come : (p : NodeProgress) (d : Dispatcher) → HasCome p d acts → next d ≡ Some time → Holds (after_last d.last) p d
   unfolding Holds
-  come p d h e r le most = sym (further (after_last d.last) (after_last d.last) r p le) ∙ ap (turned r) h ∙ turned_last r (at d acts) (none_before d time r e most)
+  come p d h e r le most = sym (further (after_last d.last) (after_last d.last) r p le) ∙ ap (turned r) h
+      ∙ turned_last r (at d acts) (none_before d time r e most)
 
   -- what a list of events leaves
   record Told (s : Step) (d : Dispatcher) : Type 0 where
@@ -53,47 +60,62 @@ module _ (time : ℕ) (acts : List Act) where
 
   may_end_is : (d : Dispatcher) (moment : ℕ) (e : Ended) → MayFinish d moment e → may_end d moment e ≡ true
   may_end_is d moment e m = and_from (may_tell d e) (may_end_now d moment e (running_of d e.process))
-      (and_from (nat_le e.faults d.table.faults) _ (le-leb e.faults d.table.faults m.few) (plain (own_of d.table e.process).condition e.value m.plain))
-      (ap (may_end_now d moment e) m.runs ∙ and_from _ _ (and_from _ _ (ap is_none m.unreported) (lt-ltb m.run.start moment m.started))
+      (and_from (nat_le e.faults d.table.faults) _ (le-leb e.faults d.table.faults m.few)
+      (plain (own_of d.table e.process).condition e.value m.plain))
+      (ap (may_end_now d moment e) m.runs
+      ∙ and_from _ _ (and_from _ _ (ap is_none m.unreported) (lt-ltb m.run.start moment m.started))
       (le-leb moment (m.run.start + time_of d e.process e.faults) m.in_time))
     where
       plain : (o : Option ℕ) (value : Bool) → (o ≡ None → value ≡ false) → (is_some o || not value) ≡ true
       plain None value h = ap (λ v. false || not v) (h refl)
       plain (Some c) value h = refl
 
-  tell_end : (from : ℕ) (p : NodeProgress) (d : Dispatcher) (e : ℕ × Ended) → Holds from p d → next d ≡ Some time → from ≤ e.0 → MayFinish d e.0 e.1 →
+  tell_end : (from : ℕ) (p : NodeProgress) (d : Dispatcher) (e : ℕ × Ended) → Holds from p d → next d ≡ Some time →
+      from ≤ e.0 →
+      MayFinish d e.0 e.1 →
       follow_one (lawful p) (end_event e) ≡ lawful (at (finished d e.1) acts)
   unfolding Holds
   tell_end from p d e h n le m =
       let most : e.0 ≤ time = subst (λ o. IfSome o (λ n. e.0 ≤ n)) n m.before in
-      ap (ended e.0 e.1) (h e.0 le most) ∙ ap (λ b. cond b (lawful (at (finished d e.1) acts)) (faulty (at d acts) FalseEnd)) (may_end_is d e.0 e.1 m)
+      ap (ended e.0 e.1) (h e.0 le most)
+      ∙ ap (λ b. cond b (lawful (at (finished d e.1) acts)) (faulty (at d acts) FalseEnd)) (may_end_is d e.0 e.1 m)
 
-  tell_ends : (es : List (ℕ × Ended)) (from : ℕ) (p : NodeProgress) (d : Dispatcher) → Holds from p d → next d ≡ Some time → from ≤ time → MayReport d from es →
+  tell_ends : (es : List (ℕ × Ended)) (from : ℕ) (p : NodeProgress) (d : Dispatcher) → Holds from p d →
+      next d ≡ Some time → from ≤ time →
+      MayReport d from es →
       Told (follow (lawful p) (map end_event es)) (after_reports d es)
   tell_ends [] from p d h n le m = record { fault = refl; comes = n; from = from; within = le; hold = h }
   tell_ends (e ∷ es) from p d h n le m =
       let most : e.0 ≤ time = subst (λ o. IfSome o (λ n. e.0 ≤ n)) n (m.1.before) in
       let after : next (finished d e.1) ≡ Some time = next_reported e.1 d.table d.heard d.running d.last ∙ n in
-      subst (λ s. Told (follow s (map end_event es)) (after_reports (finished d e.1) es)) (sym (tell_end from p d e h n m.0 m.1))
+      subst (λ s. Told (follow s (map end_event es)) (after_reports (finished d e.1) es))
+      (sym (tell_end from p d e h n m.0 m.1))
       (tell_ends es e.0 (at (finished d e.1) acts) (finished d e.1) (itself e.0 (finished d e.1) after) after most m.2)
 
-  tell_frame : (from : ℕ) (p : NodeProgress) (d : Dispatcher) (f : Frame) → Holds from p d → from ≤ time → is_strange d time f ≡ false →
+  tell_frame : (from : ℕ) (p : NodeProgress) (d : Dispatcher) (f : Frame) → Holds from p d → from ≤ time →
+      is_strange d time f ≡ false →
       follow_one (lawful p) (frame_event time f) ≡ lawful (at (hear d f) acts)
   unfolding Holds
-  tell_frame from p d f h le fine = ap (arrived time f) (h time le (omega arith)) ∙ ap (λ b. cond b (faulty (at d acts) StrangeFrame) (lawful (at (hear d f) acts))) fine
+  tell_frame from p d f h le fine = ap (arrived time f) (h time le (omega arith))
+      ∙ ap (λ b. cond b (faulty (at d acts) StrangeFrame) (lawful (at (hear d f) acts))) fine
 
-  tell_frames : (fs : List Frame) (from : ℕ) (p : NodeProgress) (d : Dispatcher) → Holds from p d → next d ≡ Some time → from ≤ time → AllFine d time fs →
+  tell_frames : (fs : List Frame) (from : ℕ) (p : NodeProgress) (d : Dispatcher) → Holds from p d → next d ≡ Some time →
+      from ≤ time →
+      AllFine d time fs →
       Told (follow (lawful p) (map (frame_event time) fs)) (hear_all d fs)
   tell_frames [] from p d h n le m = record { fault = refl; comes = n; from = from; within = le; hold = h }
   tell_frames (f ∷ fs) from p d h n le m =
-      subst (λ s. Told (follow s (map (frame_event time) fs)) (hear_all (hear d f) fs)) (sym (tell_frame from p d f h le m.0))
+      subst (λ s. Told (follow s (map (frame_event time) fs)) (hear_all (hear d f) fs))
+      (sym (tell_frame from p d f h le m.0))
       (tell_frames fs from (at (hear d f) acts) (hear d f) (itself from (hear d f) n) n le m.1)
 
   -- a step without a fault
   whole : (s : Step) → s.fault ≡ None → lawful s.progress ≡ s
   whole s e = ap (λ o. record { progress = s.progress; fault = o }) (sym e)
 
-  tell_all : (p : NodeProgress) (d : Dispatcher) (reports : List (ℕ × Ended)) (frames : List Frame) → HasCome p d acts → next d ≡ Some time → MayReport d (after_last d.last) reports →
+  tell_all : (p : NodeProgress) (d : Dispatcher) (reports : List (ℕ × Ended)) (frames : List Frame) → HasCome p d acts →
+      next d ≡ Some time →
+      MayReport d (after_last d.last) reports →
       AllFine (after_reports d reports) time frames →
       Told (follow (lawful p) (turn_events time reports frames)) (hear_all (after_reports d reports) frames)
   tell_all p d reports frames h n may fine =
@@ -104,20 +126,24 @@ module _ (time : ℕ) (acts : List Act) where
       let joined : follow (lawful p) (turn_events time reports frames) ≡ follow s (map (frame_event time) frames) =
       fold-append follow_one (lawful p) (map end_event reports) (map (frame_event time) frames) in
       subst (λ z. Told z (hear_all (after_reports d reports) frames)) (sym joined)
-      (subst (λ s. Told (follow s (map (frame_event time) frames)) (hear_all (after_reports d reports) frames)) (whole s one.fault) two)
+      (subst (λ s. Told (follow s (map (frame_event time) frames)) (hear_all (after_reports d reports) frames))
+      (whole s one.fault) two)
 
   -- after a step without a fault the turn comes
   turn_comes : (s : Step) (d : Dispatcher) → Told s d → turned (time + 1) s.progress ≡ take_turn time (at d acts)
   unfolding Holds
   turn_comes s d k =
-      sym (further time time (time + 1) s.progress (omega arith)) ∙ ap (turned (time + 1)) (k.hold time k.within (omega arith))
-      ∙ sym (turned_next (time + 1) (at d acts) time (ap (instant_below (time + 1)) k.comes ∙ ap (λ c. cond c (Some time) None) (lt-ltb time (time + 1) (omega arith))))
+      sym (further time time (time + 1) s.progress (omega arith))
+      ∙ ap (turned (time + 1)) (k.hold time k.within (omega arith))
+      ∙ sym (turned_next (time + 1) (at d acts) time (ap (instant_below (time + 1)) k.comes
+      ∙ ap (λ c. cond c (Some time) None) (lt-ltb time (time + 1) (omega arith))))
       ∙ turned_last (time + 1) (take_turn time (at d acts)) past
     where
       past : instant_below (time + 1) (next (turn d time [] [])) ≡ None
       past = elim (below_or_not (time + 1) (next (turn d time [] []))) [
         | inr z ↦ z.none
-        | inl b ↦ absurd (omega (arith, b.less, floor_after (Some time) b.time (next_is (turn d time [] []) b.time b.is).after))
+        | inl b ↦ absurd
+            (omega (arith, b.less, floor_after (Some time) b.time (next_is (turn d time [] []) b.time b.is).after))
       ]
 
 pub turns_are_followed : TurnsAreFollowed
@@ -127,9 +153,11 @@ turns_are_followed p d acts time reports frames h n may fine fit =
     let law = hearing_first_is_the_same (after_reports d reports) time [] frames fine fit in
     record {
       none = k.fault;
-      comes = turn_comes time acts s (hear_all (after_reports d reports) frames) k ∙ ap₂ at law.0 (ap (λ (more : List Act). acts ++ more) law.1);
+      comes = turn_comes time acts s (hear_all (after_reports d reports) frames) k
+          ∙ ap₂ at law.0 (ap (λ (more : List Act). acts ++ more) law.1);
     }
 
 pub closes_are_followed : ClosesAreFollowed
 closes_are_followed p d acts time h n late =
-    ap lawful (sym (further (after_last d.last) (after_last d.last) (time + 1) p late) ∙ ap (turned (time + 1)) h ∙ turned_last (time + 1) (at d acts) (ap (instant_below (time + 1)) n))
+    ap lawful (sym (further (after_last d.last) (after_last d.last) (time + 1) p late) ∙ ap (turned (time + 1)) h
+    ∙ turned_last (time + 1) (at d acts) (ap (instant_below (time + 1)) n))

@@ -1,5 +1,6 @@
 -- Turns below a limit: their instants rise, so that none is left after as many as the limit.
-use Rattle.std.proofs.Common.{◌≡◌, ℕ, zero, suc, ◌+◌, ◌<◌, ◌≤◌, true, cond, Option, Some, None, refl, sym, ap, ◌∙◌, subst, arith, inl, inr, ◌⊎◌, lt-ltb, ltb-true, le-ltb}
+use Rattle.std.proofs.Common.{◌≡◌, ℕ, zero, suc, ◌+◌, ◌<◌, ◌≤◌, true, cond, Option, Some, None, refl, sym, ap, ◌∙◌}
+use Rattle.std.proofs.Common.{subst, arith, inl, inr, ◌⊎◌, lt-ltb, ltb-true, le-ltb}
 use Rattle.std.specs.Prelude.{IfSome}
 use Rattle.std.proofs.lemmas.Bool.{cases_lt}
 use Rattle.std.proofs.lemmas.Option.{none-some, same_Some}
@@ -49,13 +50,15 @@ found_is limit o t e = elim (below_or_not limit o) [
 ]
 
 -- if no instant is below the limit, more turns change nothing
-pub still : (n limit : ℕ) (p : NodeProgress) → instant_below limit (next p.dispatcher) ≡ None → turns_below n limit p ≡ p
+pub still : (n limit : ℕ) (p : NodeProgress) → instant_below limit (next p.dispatcher) ≡ None →
+    turns_below n limit p ≡ p
 unfolding turns_below
 still zero limit p e = refl
 still (suc n) limit p e = ap (λ o. turns_below n limit (turn_if p o)) e ∙ still n limit p e
 
 -- more turns change nothing if enough turns for the limit are allowed
-no_more : (n limit : ℕ) (p : NodeProgress) → limit ≤ n + after_last p.dispatcher.last → turns_below n limit p ≡ turns_below (suc n) limit p
+no_more : (n limit : ℕ) (p : NodeProgress) → limit ≤ n + after_last p.dispatcher.last →
+    turns_below n limit p ≡ turns_below (suc n) limit p
 unfolding turns_below
 no_more zero limit p h = elim (below_or_not limit (next p.dispatcher)) [
   | inl b ↦ absurd (omega (arith, h, b.less, next_floor p.dispatcher b.time b.is))
@@ -63,23 +66,27 @@ no_more zero limit p h = elim (below_or_not limit (next p.dispatcher)) [
 ]
 no_more (suc n) limit p h = elim (below_or_not limit (next p.dispatcher)) [
   | inl b ↦ no_more n limit (turn_below limit p)
-      (subst (λ (q : NodeProgress). limit ≤ n + after_last q.dispatcher.last) (sym (ap (turn_if p) b.found)) (omega (arith, h, next_floor p.dispatcher b.time b.is)))
+      (subst (λ (q : NodeProgress). limit ≤ n + after_last q.dispatcher.last) (sym (ap (turn_if p) b.found))
+      (omega (arith, h, next_floor p.dispatcher b.time b.is)))
   | inr m ↦ ap (λ o. turns_below n limit (turn_if p o)) m.none ∙ still n limit p m.none
       ∙ sym (ap (λ o. turns_below (suc n) limit (turn_if p o)) m.none ∙ still (suc n) limit p m.none)
 ]
 
 -- a turn that a loop takes
-pub turned_next : (limit : ℕ) (p : NodeProgress) (t : ℕ) → instant_below limit (next p.dispatcher) ≡ Some t → turned limit (take_turn t p) ≡ turned limit p
+pub turned_next : (limit : ℕ) (p : NodeProgress) (t : ℕ) → instant_below limit (next p.dispatcher) ≡ Some t →
+    turned limit (take_turn t p) ≡ turned limit p
 unfolding turns_below
 turned_next zero p t e = absurd (omega (arith, (found_is zero (next p.dispatcher) t e).1))
-turned_next (suc m) p t e = sym (no_more m (suc m) (take_turn t p) (omega arith)) ∙ sym (ap (λ o. turns_below m (suc m) (turn_if p o)) e)
+turned_next (suc m) p t e =
+    sym (no_more m (suc m) (take_turn t p) (omega arith)) ∙ sym (ap (λ o. turns_below m (suc m) (turn_if p o)) e)
 
 -- a loop of turns ends when no instant is below the limit
 pub turned_last : (limit : ℕ) (p : NodeProgress) → instant_below limit (next p.dispatcher) ≡ None → turned limit p ≡ p
 turned_last limit p e = still limit limit p e
 
 -- after them no instant is left below the limit
-turns_end : (n limit : ℕ) (p : NodeProgress) → limit ≤ n + after_last p.dispatcher.last → IsTurned (turns_below n limit p).dispatcher limit
+turns_end : (n limit : ℕ) (p : NodeProgress) → limit ≤ n + after_last p.dispatcher.last →
+    IsTurned (turns_below n limit p).dispatcher limit
 unfolding turns_below
 turns_end zero limit p h = elim (below_or_not limit (next p.dispatcher)) [
   | inl b ↦ absurd (omega (arith, h, b.less, next_floor p.dispatcher b.time b.is))
@@ -87,7 +94,8 @@ turns_end zero limit p h = elim (below_or_not limit (next p.dispatcher)) [
 ]
 turns_end (suc n) limit p h = elim (below_or_not limit (next p.dispatcher)) [
   | inl b ↦ turns_end n limit (turn_below limit p)
-      (subst (λ (q : NodeProgress). limit ≤ n + after_last q.dispatcher.last) (sym (ap (turn_if p) b.found)) (omega (arith, h, next_floor p.dispatcher b.time b.is)))
+      (subst (λ (q : NodeProgress). limit ≤ n + after_last q.dispatcher.last) (sym (ap (turn_if p) b.found))
+      (omega (arith, h, next_floor p.dispatcher b.time b.is)))
   | inr m ↦ subst (λ (q : NodeProgress). IsTurned q.dispatcher limit) (sym (still (suc n) limit p m.none)) m.past
 ]
 
@@ -95,15 +103,19 @@ pub turned_end : (limit : ℕ) (p : NodeProgress) → IsTurned (turned limit p).
 turned_end limit p = turns_end limit limit p (omega arith)
 
 -- the last turn is before the limit, if it was
-turns_after : (n limit : ℕ) (p : NodeProgress) → is_after p.dispatcher.last limit ≡ true → is_after (turns_below n limit p).dispatcher.last limit ≡ true
+turns_after : (n limit : ℕ) (p : NodeProgress) → is_after p.dispatcher.last limit ≡ true →
+    is_after (turns_below n limit p).dispatcher.last limit ≡ true
 unfolding turns_below
 turns_after zero limit p h = h
 turns_after (suc n) limit p h = elim (below_or_not limit (next p.dispatcher)) [
-  | inl b ↦ turns_after n limit (turn_below limit p) (subst (λ (q : NodeProgress). is_after q.dispatcher.last limit ≡ true) (sym (ap (turn_if p) b.found)) (lt-ltb b.time limit b.less))
+  | inl b ↦
+      turns_after n limit (turn_below limit p) (subst (λ (q : NodeProgress). is_after q.dispatcher.last limit ≡ true)
+      (sym (ap (turn_if p) b.found)) (lt-ltb b.time limit b.less))
   | inr m ↦ subst (λ (q : NodeProgress). is_after q.dispatcher.last limit ≡ true) (sym (still (suc n) limit p m.none)) h
 ]
 
-pub turned_after : (limit : ℕ) (p : NodeProgress) → is_after p.dispatcher.last limit ≡ true → is_after (turned limit p).dispatcher.last limit ≡ true
+pub turned_after : (limit : ℕ) (p : NodeProgress) → is_after p.dispatcher.last limit ≡ true →
+    is_after (turned limit p).dispatcher.last limit ≡ true
 turned_after limit p h = turns_after limit limit p h
 
 -- turns leave the table
@@ -120,7 +132,9 @@ pub turned_table : (limit : ℕ) (p : NodeProgress) → (turned limit p).dispatc
 turned_table limit p = turns_table limit limit p
 
 -- one turn after others is one more
-pub turns_more : (n limit : ℕ) (p : NodeProgress) (t : ℕ) → instant_below limit (next (turns_below n limit p).dispatcher) ≡ Some t → take_turn t (turns_below n limit p) ≡ turns_below (suc n) limit p
+pub turns_more : (n limit : ℕ) (p : NodeProgress) (t : ℕ) →
+    instant_below limit (next (turns_below n limit p).dispatcher) ≡ Some t →
+    take_turn t (turns_below n limit p) ≡ turns_below (suc n) limit p
 unfolding turns_below
 turns_more zero limit p t e = sym (ap (turn_if p) e)
 turns_more (suc n) limit p t e = turns_more n limit (turn_below limit p) t e
@@ -131,13 +145,16 @@ unfolding turns_below
 few_none limit p = record { turns = 0; few = omega arith; is = refl }
 
 -- turns that a loop has taken, and the next one, which leaves fewer
-pub few_next : (limit : ℕ) (before now after : NodeProgress) (t : ℕ) → AreFewTurns limit before now → instant_below limit (next now.dispatcher) ≡ Some t → after ≡ take_turn t now →
+pub few_next : (limit : ℕ) (before now after : NodeProgress) (t : ℕ) → AreFewTurns limit before now →
+    instant_below limit (next now.dispatcher) ≡ Some t →
+    after ≡ take_turn t now →
     instants_left after.dispatcher < instants_left now.dispatcher →
     AreFewTurns limit before after
 few_next limit before now after t h e is less = record {
   turns = suc h.turns;
   few = omega (arith, h.few, less);
-  is = is ∙ ap (take_turn t) h.is ∙ turns_more h.turns limit before t (ap (λ (p : NodeProgress). instant_below limit (next p.dispatcher)) (sym h.is) ∙ e);
+  is = is ∙ ap (take_turn t) h.is ∙ turns_more h.turns limit before t
+      (ap (λ (p : NodeProgress). instant_below limit (next p.dispatcher)) (sym h.is) ∙ e);
 }
 
 -- no turn is below 0

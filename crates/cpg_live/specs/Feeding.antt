@@ -21,8 +21,8 @@ take_bytes s bytes = fold take_byte s bytes
 abbrev pub IsTurned : Dispatcher → ℕ → Type 0
 IsTurned d time = IfSome (next d) (λ instant. time ≤ instant)
 
--- Turns were taken, and the instants that are left are fewer by at least their number. So there are no more turns than instants
--- that the node could come to, and the entries of its table bound those.
+-- Turns were taken, and the instants that are left are fewer by at least their number. So there are no more turns than
+-- instants that the node could come to, and the entries of its table bound those.
 pub record AreFewTurns (limit : ℕ) (before after : NodeProgress) : Type 0 where
   pub turns : ℕ
   pub few : turns + instants_left after.dispatcher ≤ instants_left before.dispatcher

@@ -1,4 +1,5 @@
--- A live node that takes no more turns than it must: only those at the times of its columns and at the ends that it awaits.
+-- A live node that takes no more turns than it must: only those at the times of its columns and at the ends that it
+-- awaits.
 use Rattle.std.specs.Prelude.{ℕ, zero, suc, ◌+◌, ◌≡◌, nat_lt, if◌then◌else◌, List, fold, Option, Some, None, is_some}
 use Rattle.cpg_table.specs.Table.{NodeTable}
 use Rattle.cpg_table.specs.Lawful.{IsTable}
@@ -7,7 +8,8 @@ use Rattle.cpg_live.specs.declared.event.Event.{Event}
 use Rattle.cpg_live.specs.declared.event.Event.TheVariants.{Frame as Arrival, End as Ending, Close}
 use Rattle.cpg_live.specs.declared.bad.Why.TheVariants.{Length, Kind, Order}
 use Rattle.cpg_live.specs.Records.{Cut, cut, record_of, event_of}
-use Rattle.cpg_live.specs.Stream.{NodeProgress, Step, LiveState, instant_below, turn_if, arrived, ended, lawful, refused, stepped, with_rest, open_stream, after}
+use Rattle.cpg_live.specs.Stream.{NodeProgress, Step, LiveState, instant_below, turn_if, arrived, ended, lawful}
+use Rattle.cpg_live.specs.Stream.{refused, stepped, with_rest, open_stream, after}
 
 -- the turn of the next awaited instant, if that is below a limit
 abbrev pub turn_awaited : ℕ → NodeProgress → NodeProgress
@@ -25,13 +27,15 @@ turned_fewer limit p = turns_awaited limit limit p
 -- the step of an event after these turns alone
 abbrev pub step_fewer : ℕ → Event → NodeProgress → Step
 step_fewer time (Arrival f) p = arrived time f (turned_fewer time p)
-step_fewer time (Ending process faults value) p = ended time (record { process = process; faults = faults; value = value }) (turned_fewer time p)
+step_fewer time (Ending process faults value) p =
+    ended time (record { process = process; faults = faults; value = value }) (turned_fewer time p)
 step_fewer time Close p = lawful (turned_fewer (time + 1) p)
 
 -- the state after a record, by its kind and its time
 abbrev pub judged_fewer : LiveState → ℕ → Option Event → LiveState
 judged_fewer s time None = refused s Kind
-judged_fewer s time (Some event) = if nat_lt time s.time then refused s Order else stepped s time event (step_fewer time event s.progress)
+judged_fewer s time (Some event) = if nat_lt time s.time then refused s Order
+    else stepped s time event (step_fewer time event s.progress)
 
 -- the state after one more record
 abbrev pub take_record_fewer : LiveState → List ℕ → LiveState
@@ -47,9 +51,11 @@ after_fewer table bytes = after_cut_fewer table (cut bytes)
 
 -- a state with another instant of the last turn
 abbrev pub with_last : LiveState → Option ℕ → LiveState
-with_last s last = record s { progress = record { dispatcher = record s.progress.dispatcher { last = last }; acts = s.progress.acts } }
+with_last s last =
+    record s { progress = record { dispatcher = record s.progress.dispatcher { last = last }; acts = s.progress.acts } }
 
--- Leaving turns out changes nothing but the instant of the last turn. The acts are the same, and so is the answer to each
--- stream, lawful or not.
+-- Leaving turns out changes nothing but the instant of the last turn. The acts are the same, and so is the answer to
+-- each stream, lawful or not.
 abbrev pub TurnsMayBeLeftOut : Type 0
-TurnsMayBeLeftOut = (table : NodeTable) (bytes : List ℕ) → IsTable table → after_fewer table bytes ≡ with_last (after table bytes) (after_fewer table bytes).progress.dispatcher.last
+TurnsMayBeLeftOut = (table : NodeTable) (bytes : List ℕ) → IsTable table →
+    after_fewer table bytes ≡ with_last (after table bytes) (after_fewer table bytes).progress.dispatcher.last

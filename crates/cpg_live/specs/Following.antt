@@ -36,14 +36,14 @@ pub record TakesAndTells (shelf rest : ShelfState) (old new : Follower) : Type 0
   pub piece : TakesPiece shelf rest old fed count
   pub told : new ≡ record fed { told = length fed.live.progress.acts }
 
--- What a call for the next piece leaves of a follower: it took the piece and wrote its lines or, if the shelf met a fault, is
--- as it was.
+-- What a call for the next piece leaves of a follower: it took the piece and wrote its lines or, if the shelf met a
+-- fault, is as it was.
 abbrev pub IsLeftBy : Result ℕ Broken → ShelfState → ShelfState → Follower → Follower → Type 0
 IsLeftBy (Err Shelf) shelf rest old new = new ≡ old
 IsLeftBy other shelf rest old new = TakesAndTells shelf rest old new
 
--- A follower along a stream. What the shelf gave of its name, in one fetch more than before, was fed and is lawful, and all its
--- lines are written.
+-- A follower along a stream. What the shelf gave of its name, in one fetch more than before, was fed and is lawful, and
+-- all its lines are written.
 pub record IsAlong (name : List ℕ) (past history : List Fetch) (start now : List ℕ) (f : Follower) : Type 0 where
   pub fetch : Fetch
   pub named : fetch.name ≡ name
@@ -57,11 +57,13 @@ pub record IsAlong (name : List ℕ) (past history : List Fetch) (start now : Li
   pub wrote : Took start now (act_lines f.head f.live.progress.acts)
 
 -- a follower along a stream, after a piece of this many bytes; a piece of no bytes is the end of the stream
-pub record IsAlongAt (count : ℕ) (name : List ℕ) (past history : List Fetch) (start now : List ℕ) (f : Follower) : Type 0 where
+pub record IsAlongAt (count : ℕ) (name : List ℕ) (past history : List Fetch) (start now : List ℕ)
+    (f : Follower) : Type 0 where
   pub along : IsAlong name past history start now f
   pub end : count ≡ 0 → along.fetch.ended ≡ true
 
--- what a run sees of a stream and of `out`: what the fetch gave, and the count of faults and what was taken, before and after
+-- what a run sees of a stream and of `out`: what the fetch gave, and the count of faults and what was taken, before and
+-- after
 pub record Stream : Type 0 where
   pub fetch : Fetch
   pub before : ℕ
@@ -85,24 +87,29 @@ Breaks h table s Sink = Rose s.before s.now × IsCutOff h table s.fetch s.old s.
 Breaks h table s (Refused fault) = (lines : List ℕ) × IsRefused h table s.fetch fault lines × AreWritten s lines
 
 -- the fact holds of the stream of the name, which was fetched once, with what was taken since a start
-pub record IsStreamed (Is : Stream → Type 0) (name : List ℕ) (past history : List Fetch) (start : List ℕ) (old new : SinkState) : Type 0 where
+pub record IsStreamed (Is : Stream → Type 0) (name : List ℕ) (past history : List Fetch) (start : List ℕ)
+    (old new : SinkState) : Type 0 where
   pub fetch : Fetch
   pub named : fetch.name ≡ name
   pub history_is : history ≡ fetch ∷ past
   pub is : Is (record { fetch = fetch; before = old.faults; now = new.faults; old = start; new = new.taken })
 
--- What an answer says of each stream that a follower was along, by its start, its name and what was fetched before. At Ok it is
--- the given fact; at Err it is how the stream broke.
+-- What an answer says of each stream that a follower was along, by its start, its name and what was fetched before. At
+-- Ok it is the given fact; at Err it is how the stream broke.
 abbrev pub GoesOn : {T : Type 0} → Follower → ShelfState → ShelfState → SinkState → SinkState →
     (T → List ℕ → List ℕ → List Fetch → Type 0) → Result T Broken → Type 0
-GoesOn f shelf rest old new Is result = (start name : List ℕ) (past : List Fetch) → IsAlong name past shelf.history start old.taken f →
-    MatchResult result (λ x. Is x start name past) (λ broken. IsStreamed (λ s. Breaks f.head f.table s broken) name past rest.history start old new)
+GoesOn f shelf rest old new Is result =
+    (start name : List ℕ) (past : List Fetch) → IsAlong name past shelf.history start old.taken f →
+    MatchResult result (λ x. Is x start name past)
+    (λ broken. IsStreamed (λ s. Breaks f.head f.table s broken) name past rest.history start old new)
 
--- A stream that has no more bytes ends: its close is written, or it is refused. The counts of the faults of `out` are before
--- and now.
+-- A stream that has no more bytes ends: its close is written, or it is refused. The counts of the faults of `out` are
+-- before and now.
 abbrev pub Closes : Follower → ℕ → ℕ → List ℕ → List ℕ → Result Unit Broken → Type 0
-Closes f before now old new (Ok done) = (time : ℕ) × (outcome f.live ≡ Ok time) × Took old new (closed_line time) × (now ≡ before)
-Closes f before now old new (Err Sink) = Rose before now × ((time : ℕ) × (outcome f.live ≡ Ok time) × TookPrefix old new (closed_line time))
+Closes f before now old new (Ok done) =
+    (time : ℕ) × (outcome f.live ≡ Ok time) × Took old new (closed_line time) × (now ≡ before)
+Closes f before now old new (Err Sink) =
+    Rose before now × ((time : ℕ) × (outcome f.live ≡ Ok time) × TookPrefix old new (closed_line time))
 Closes f before now old new (Err (Refused (Lawless bad))) = (outcome f.live ≡ Err bad) × (new ≡ old) × (now ≡ before)
 Closes f before now old new (Err (Refused Long)) = ⊥
 Closes f before now old new (Err Shelf) = ⊥

@@ -7,9 +7,17 @@ use Rattle.cpg_live.specs.Stream.{LiveState}
 
 -- the state that the fields stand for
 abbrev pub live_of : Inside → LiveState
-live_of l = record { progress = l.progress; taken = l.taken; time = l.time; rest = l.rest.items; closed = l.closed; bad = l.bad }
+live_of l = record {
+  progress = l.progress;
+  taken = l.taken;
+  time = l.time;
+  rest = l.rest.items;
+  closed = l.closed;
+  bad = l.bad;
+}
 
--- There is room for a record, and the bytes so far aren't a whole one. The last turn was before the time of the next record.
+-- There is room for a record, and the bytes so far aren't a whole one. The last turn was before the time of the next
+-- record.
 pub record IsReady (l : Inside) : Type 0 where
   pub part : vec_len l.rest < 14
   pub room : 14 ≤ vec_capacity l.rest

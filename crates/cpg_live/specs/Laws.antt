@@ -6,7 +6,8 @@ use Rattle.cpg_live.specs.Stream.{LiveState, after}
 
 -- a piece leads from a state after bytes to the state after the bytes and the piece together
 abbrev pub Feeds : LiveState → List ℕ → LiveState → Type 0
-Feeds before piece now = (table : NodeTable) (fed : List ℕ) → before ≡ after table fed → now ≡ after table (fed ++ piece)
+Feeds before piece now =
+    (table : NodeTable) (fed : List ℕ) → before ≡ after table fed → now ≡ after table (fed ++ piece)
 
 -- acts are only added
 abbrev pub Grows : List Act → List Act → Type 0

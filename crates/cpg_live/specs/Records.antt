@@ -1,5 +1,6 @@
 -- The records of a stream, from which a node learns what happens.
-use Rattle.std.specs.Prelude.{ℕ, ◌+◌, Bool, not, ◌&&◌, ◌||◌, ◌==◌, nat_lt, if◌then◌else◌, List, [], ◌∷◌, ◌++◌, Option, Some, None, fold, length, drop, slice_index}
+use Rattle.std.specs.Prelude.{ℕ, ◌+◌, Bool, not, ◌&&◌, ◌||◌, ◌==◌, nat_lt, if◌then◌else◌, List, [], ◌∷◌, ◌++◌, Option}
+use Rattle.std.specs.Prelude.{Some, None, fold, length, drop, slice_index}
 use Rattle.byteorder.specs.Endian.{big_number}
 use Rattle.cpg_table.specs.Table.{NodeTable}
 use Rattle.cpg_live.specs.declared.reading.Record.{Record}

@@ -36,7 +36,8 @@ value_of Close = 0
 
 -- the record of an event at a time
 abbrev pub record_with : ℕ → Event → Record
-record_with time event = record { kind = kind_of event; time = time; item = item_of event; number = number_of event; value = value_of event }
+record_with time event =
+    record { kind = kind_of event; time = time; item = item_of event; number = number_of event; value = value_of event }
 
 -- the record's 14 bytes, each number with its highest byte first
 abbrev pub record_bytes : Record → List ℕ
@@ -67,9 +68,11 @@ closed_at es close = es ++ ((close, Close) ∷ [])
 -- The bytes are a lawful stream to its close, and the node does on them what it does on the events.
 pub record AreTaken (table : NodeTable) (es : List (ℕ × Event)) (close : ℕ) : Type 0 where
   pub ends : outcome (after table (stream_bytes (closed_at es close))) ≡ Ok close
-  pub comes : (after table (stream_bytes (closed_at es close))).progress ≡ (follow (lawful (start table)) (closed_at es close)).progress
+  pub comes : (after table (stream_bytes (closed_at es close))).progress
+      ≡ (follow (lawful (start table)) (closed_at es close)).progress
 
 -- This holds for the bytes of all events that are lawful one after another, rise in time and have room.
 abbrev pub BytesSpellEvents : Type 0
-BytesSpellEvents = (table : NodeTable) (es : List (ℕ × Event)) (close : ℕ) → close < 2 ^ 64 → RiseWithin 0 close es → AllByRecursion (λ (e : ℕ × Event). HasRoom table e.1) es →
+BytesSpellEvents = (table : NodeTable) (es : List (ℕ × Event)) (close : ℕ) → close < 2 ^ 64 → RiseWithin 0 close es →
+    AllByRecursion (λ (e : ℕ × Event). HasRoom table e.1) es →
     (follow (lawful (start table)) es).fault ≡ None → AreTaken table es close

@@ -1,7 +1,10 @@
 -- One node on a stream of records: what it does, and which record is the first unlawful one.
-use Rattle.std.specs.Prelude.{ℕ, zero, suc, ◌+◌, ◌-◌, ◌^◌, min, Bool, true, false, not, ◌&&◌, ◌||◌, nat_lt, nat_le, if◌then◌else◌, List, [], ◌++◌, Option, Some, None, is_some, is_none, fold, length, Result, Ok, Err}
+use Rattle.std.specs.Prelude.{ℕ, zero, suc, ◌+◌, ◌-◌, ◌^◌, min, Bool, true, false, not, ◌&&◌, ◌||◌, nat_lt, nat_le}
+use Rattle.std.specs.Prelude.{if◌then◌else◌, List, [], ◌++◌, Option, Some, None, is_some, is_none, fold, length, Result}
+use Rattle.std.specs.Prelude.{Ok, Err}
 use Rattle.cpg_table.specs.Table.{NodeTable}
-use Rattle.cpg_node.specs.Dispatcher.{Dispatcher, Act, Ended, Frame, Running, initial_dispatcher, next, turn, acts_of_turn, hear, is_strange, finished, own_of}
+use Rattle.cpg_node.specs.Dispatcher.{Dispatcher, Act, Ended, Frame, Running, initial_dispatcher, next, turn}
+use Rattle.cpg_node.specs.Dispatcher.{acts_of_turn, hear, is_strange, finished, own_of}
 use Rattle.cpg_node.specs.State.{running_of, time_of}
 use Rattle.cpg_live.specs.declared.event.Event.{Event}
 use Rattle.cpg_live.specs.declared.event.Event.TheVariants.{Frame as Arrival, End as Ending, Close}
@@ -22,7 +25,8 @@ start table = record { dispatcher = initial_dispatcher table; acts = [] }
 -- A turn that is given no ends and no frames, since the node has taken them before.
 
 abbrev pub take_turn : ℕ → NodeProgress → NodeProgress
-take_turn time p = record { dispatcher = turn p.dispatcher time [] []; acts = p.acts ++ acts_of_turn p.dispatcher time [] [] }
+take_turn time p =
+    record { dispatcher = turn p.dispatcher time [] []; acts = p.acts ++ acts_of_turn p.dispatcher time [] [] }
 
 -- the instant, if it is below a limit
 abbrev pub instant_below : ℕ → Option ℕ → Option ℕ
@@ -64,7 +68,8 @@ lawful p = record { progress = p; fault = None }
 -- an execution that hasn't reported may end at this time: after its start, and not later than planned
 abbrev pub may_end_now : Dispatcher → ℕ → Ended → Option Running → Bool
 may_end_now d time e None = false
-may_end_now d time e (Some run) = is_none run.report && nat_lt run.start time && nat_le time (run.start + time_of d e.process e.faults)
+may_end_now d time e (Some run) =
+    is_none run.report && nat_lt run.start time && nat_le time (run.start + time_of d e.process e.faults)
 
 -- the end has no more faults than are allowed, and a true value only if the process has a condition
 abbrev pub may_tell : Dispatcher → Ended → Bool
@@ -76,16 +81,19 @@ may_end d time e = may_tell d e && may_end_now d time e (running_of d e.process)
 
 -- a frame arrives at a time
 abbrev pub arrived : ℕ → Frame → NodeProgress → Step
-arrived time f p = if is_strange p.dispatcher time f then faulty p StrangeFrame else lawful (record p { dispatcher = hear p.dispatcher f })
+arrived time f p = if is_strange p.dispatcher time f then faulty p StrangeFrame
+    else lawful (record p { dispatcher = hear p.dispatcher f })
 
 -- an end is reported at a time
 abbrev pub ended : ℕ → Ended → NodeProgress → Step
-ended time e p = if may_end p.dispatcher time e then lawful (record p { dispatcher = finished p.dispatcher e }) else faulty p FalseEnd
+ended time e p = if may_end p.dispatcher time e then lawful (record p { dispatcher = finished p.dispatcher e })
+    else faulty p FalseEnd
 
 -- The turns come first: those before the time and, at a close, also those at the time.
 abbrev pub step : ℕ → Event → NodeProgress → Step
 step time (Arrival f) p = arrived time f (turned time p)
-step time (Ending process faults value) p = ended time (record { process = process; faults = faults; value = value }) (turned time p)
+step time (Ending process faults value) p =
+    ended time (record { process = process; faults = faults; value = value }) (turned time p)
 step time Close p = lawful (turned (time + 1) p)
 
 -- The stream.
@@ -133,7 +141,8 @@ stepped s time event q = settled (record s { progress = q.progress }) time event
 -- the state after a record, by its kind and its time
 abbrev pub judged : LiveState → ℕ → Option Event → LiveState
 judged s time None = refused s Kind
-judged s time (Some event) = if nat_lt time s.time then refused s Order else stepped s time event (step time event s.progress)
+judged s time (Some event) = if nat_lt time s.time then refused s Order
+    else stepped s time event (step time event s.progress)
 
 -- The state after one more record. After an unlawful record nothing changes, and after a close any record is unlawful.
 abbrev pub take_record : LiveState → List ℕ → LiveState
@@ -142,7 +151,8 @@ take_record s bytes = if is_some s.bad then s else if s.closed then refused s Le
 
 -- the state with the bytes of the next record so far; after a close there may be none
 abbrev pub with_rest : LiveState → List ℕ → LiveState
-with_rest s rest = if is_some s.bad then s else if s.closed && nat_lt 0 (length rest) then refused s Length else record s { rest = rest }
+with_rest s rest = if is_some s.bad then s else if s.closed && nat_lt 0 (length rest) then refused s Length
+    else record s { rest = rest }
 
 -- the state after whole records, with the bytes of the next one so far
 abbrev pub after_cut : NodeTable → Cut → LiveState

@@ -1,5 +1,6 @@
 -- A stream that a node of a pack follows: the lines of what the node does, and how the stream ends.
-use Rattle.std.specs.Prelude.{ℕ, ◌+◌, ◌≡◌, ◌≢◌, ◌<◌, ◌≤◌, ◌⊎◌, true, false, ◌&&◌, nat_lt, if◌then◌else◌, List, [], ◌++◌, None, is_none, Result, Ok, Err, codes, length, take}
+use Rattle.std.specs.Prelude.{ℕ, ◌+◌, ◌≡◌, ◌≢◌, ◌<◌, ◌≤◌, ◌⊎◌, true, false, ◌&&◌, nat_lt, if◌then◌else◌, List, [], ◌++◌}
+use Rattle.std.specs.Prelude.{None, is_none, Result, Ok, Err, codes, length, take}
 use Rattle.std.specs.List.{flat_map}
 use Rattle.std.specs.Fmt.{decimal}
 use Rattle.cpg_history.specs.Fetch.{Fetch}
@@ -53,7 +54,8 @@ abbrev pub end_by : Result ℕ Bad → Result ℕ StreamFault
 end_by (Ok time) = Ok time
 end_by (Err bad) = Err (Lawless bad)
 
--- How a stream ends in a state after this many bytes. If no record was unlawful, more bytes than the limit are too many.
+-- How a stream ends in a state after this many bytes. If no record was unlawful, more bytes than the limit are too
+-- many.
 abbrev pub end_of : LiveState → ℕ → Result ℕ StreamFault
 end_of s count = if is_none s.bad && nat_lt STREAM_LIMIT count then Err Long else end_by (outcome s)
 
@@ -66,10 +68,11 @@ abbrev pub close_of : Result ℕ StreamFault → List ℕ
 close_of (Ok time) = closed_line time
 close_of (Err fault) = []
 
--- All lines of a stream: those of the acts for the records before the first unlawful one and, if the stream is lawful to its
--- end, that of its close.
+-- All lines of a stream: those of the acts for the records before the first unlawful one and, if the stream is lawful
+-- to its end, that of its close.
 abbrev pub stream_lines : Head → NodeTable → List ℕ → List ℕ
-stream_lines h table bytes = act_lines h (after table (read_part bytes)).progress.acts ++ close_of (stream_end table bytes)
+stream_lines h table bytes =
+    act_lines h (after table (read_part bytes)).progress.acts ++ close_of (stream_end table bytes)
 
 -- a stream that was read to its end and is lawful to it, with all its lines
 pub record IsClosed (h : Head) (table : NodeTable) (fetch : Fetch) (lines : List ℕ) : Type 0 where
@@ -87,9 +90,10 @@ pub record IsTooLong (table : NodeTable) (bytes : List ℕ) : Type 0 where
   pub taken : (after table (read_part bytes)).taken ≡ 16777216
   pub not_closed : (after table (read_part bytes)).closed ≡ false
 
--- A stream is rejected because of the bytes that came; these are the lines of the records before. The bytes have an unlawful
--- record, are too many, or are all that there are.
-pub record IsRefused (h : Head) (table : NodeTable) (fetch : Fetch) (fault : StreamFault) (lines : List ℕ) : Type 0 where
+-- A stream is rejected because of the bytes that came; these are the lines of the records before. The bytes have an
+-- unlawful record, are too many, or are all that there are.
+pub record IsRefused (h : Head) (table : NodeTable) (fetch : Fetch) (fault : StreamFault)
+    (lines : List ℕ) : Type 0 where
   pub sound : fetch.failed ≡ false
   pub few : length fetch.given ≤ STREAM_LIMIT + 1
   pub ends : stream_end table fetch.given ≡ Err fault
@@ -104,8 +108,8 @@ pub record IsLawfulSoFar (h : Head) (table : NodeTable) (fetch : Fetch) (lines :
   pub lawful : (after table fetch.given).bad ≡ None
   pub spelled : lines ≡ act_lines h (after table fetch.given).progress.acts
 
--- A proper prefix of all lines of the bytes that came was written. It has a part of the close's line only if the bytes came to
--- their end.
+-- A proper prefix of all lines of the bytes that came was written. It has a part of the close's line only if the bytes
+-- came to their end.
 pub record IsCutOff (h : Head) (table : NodeTable) (fetch : Fetch) (old new : List ℕ) : Type 0 where
   pub sound : fetch.failed ≡ false
   pub few : length fetch.given ≤ STREAM_LIMIT + 1

@@ -1,7 +1,8 @@
--- What a node hears and reports in a play, as records: on these, a node on a stream follows each turn that takes reports and
--- frames.
+-- What a node hears and reports in a play, as records: on these, a node on a stream follows each turn that takes
+-- reports and frames.
 use Rattle.std.specs.Prelude.{ℕ, ◌+◌, ◌≡◌, ◌≤◌, List, [], ◌∷◌, ◌++◌, Option, Some, None, map, fold, Contains}
-use Rattle.cpg_node.specs.Dispatcher.{Dispatcher, Act, Ended, Frame, next, finished, hear_all, AllFine, EndFits, due_reports, turn, acts_of_turn}
+use Rattle.cpg_node.specs.Dispatcher.{Dispatcher, Act, Ended, Frame, next, finished, hear_all, AllFine, EndFits}
+use Rattle.cpg_node.specs.Dispatcher.{due_reports, turn, acts_of_turn}
 use Rattle.cpg_node.specs.State.{MayFinish}
 use Rattle.cpg_live.specs.declared.event.Event.{Event}
 use Rattle.cpg_live.specs.declared.event.Event.TheVariants.{Frame as Arrival, End as Ending, Close}
@@ -51,18 +52,23 @@ abbrev pub turn_events : ℕ → List (ℕ × Ended) → List Frame → List (�
 turn_events time reports frames = map end_event reports ++ map (frame_event time) frames
 
 -- the events are lawful, and lead to the node after the turn and to its acts
-pub record IsFollowed (p : NodeProgress) (d : Dispatcher) (acts : List Act) (time : ℕ) (reports : List (ℕ × Ended)) (frames : List Frame) : Type 0 where
+pub record IsFollowed (p : NodeProgress) (d : Dispatcher) (acts : List Act) (time : ℕ) (reports : List (ℕ × Ended))
+    (frames : List Frame) : Type 0 where
   pub none : (follow (lawful p) (turn_events time reports frames)).fault ≡ None
-  pub comes : HasCome (follow (lawful p) (turn_events time reports frames)).progress (turn (after_reports d reports) time [] frames) (acts ++ acts_of_turn (after_reports d reports) time [] frames)
+  pub comes : HasCome (follow (lawful p) (turn_events time reports frames)).progress
+      (turn (after_reports d reports) time [] frames) (acts ++ acts_of_turn (after_reports d reports) time [] frames)
 
 -- This holds for each turn whose reports the node may take, and whose frames aren't strange and contradict no end.
 abbrev pub TurnsAreFollowed : Type 0
-TurnsAreFollowed = (p : NodeProgress) (d : Dispatcher) (acts : List Act) (time : ℕ) (reports : List (ℕ × Ended)) (frames : List Frame) → HasCome p d acts → next d ≡ Some time →
+TurnsAreFollowed = (p : NodeProgress) (d : Dispatcher) (acts : List Act) (time : ℕ) (reports : List (ℕ × Ended))
+    (frames : List Frame) → HasCome p d acts → next d ≡ Some time →
     MayReport d (after_last d.last) reports → AllFine (after_reports d reports) time frames →
-    ((e : Ended) → Contains (due_reports (after_reports d reports) time) e → EndFits (after_reports d reports).table (hear_all (after_reports d reports) frames).heard e) →
+    ((e : Ended) → Contains (due_reports (after_reports d reports) time) e →
+    EndFits (after_reports d reports).table (hear_all (after_reports d reports) frames).heard e) →
     IsFollowed p d acts time reports frames
 
 -- A close that isn't before the last turn of a node with no next instant leaves just that node.
 abbrev pub ClosesAreFollowed : Type 0
-ClosesAreFollowed = (p : NodeProgress) (d : Dispatcher) (acts : List Act) (time : ℕ) → HasCome p d acts → next d ≡ None → after_last d.last ≤ time + 1 →
+ClosesAreFollowed = (p : NodeProgress) (d : Dispatcher) (acts : List Act) (time : ℕ) → HasCome p d acts →
+    next d ≡ None → after_last d.last ≤ time + 1 →
     step time Close p ≡ lawful (record { dispatcher = d; acts = acts })

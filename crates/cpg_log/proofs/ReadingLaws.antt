@@ -1,5 +1,6 @@
 -- Logs line by line.
-use Rattle.std.proofs.Common.{ℕ, zero, suc, ◌+◌, ◌<◌, ◌≡◌, ◌≢◌, ◌==◌, ◌^◌, List, [], ◌∷◌, ◌++◌, length, map, get_or, take, drop, codes, All, AllPairs, Contains, Some, None, arith, refl, sym, ap, ◌∙◌}
+use Rattle.std.proofs.Common.{ℕ, zero, suc, ◌+◌, ◌<◌, ◌≡◌, ◌≢◌, ◌==◌, ◌^◌, List, [], ◌∷◌, ◌++◌, length, map, get_or}
+use Rattle.std.proofs.Common.{take, drop, codes, All, AllPairs, Contains, Some, None, arith, refl, sym, ap, ◌∙◌}
 use Rattle.std.proofs.Common.{subst, inl, inr, eq-eqb, ne_eqb}
 use Rattle.std.specs.Fmt.{decimal}
 use Rattle.std.proofs.lemmas.Bool.{cases_eq, cond-true, cond-false}
@@ -17,24 +18,35 @@ use Rattle.cpg_log.proofs.LineLaws.{same_parts, decimal_spaceless}
 use Rattle.cpg_log.proofs.TextLaws.{spaced, same_line}
 
 -- an act's line is parted after its time
-pub act_parts : (g : Graph) (line digits text : List ℕ) (act : Logged) → IsParted 32 line digits text → act.time < 2 ^ 60 → line ≡ act_line g act → (digits ≡ decimal act.time) ×
+pub act_parts : (g : Graph) (line digits text : List ℕ) (act : Logged) → IsParted 32 line digits text →
+    act.time < 2 ^ 60 → line ≡ act_line g act →
+    (digits ≡ decimal act.time) ×
     (text ≡ act_text g act.item)
-act_parts g line digits text act p early e = same_parts 32 digits (decimal act.time) text (act_text g act.item) p.first (decimal_spaceless act.time early)
+act_parts g line digits text act p early e =
+    same_parts 32 digits (decimal act.time) text (act_text g act.item) p.first (decimal_spaceless act.time early)
     (sym p.whole ∙ e ∙ spaced (decimal act.time) (act_text g act.item))
 
 -- the first line is parted after its word
-pub until_parts : (line word digits : List ℕ) (until : ℕ) → IsParted 32 line word digits → line ≡ until_line until → (word ≡ codes "until") × (digits ≡ decimal until)
-until_parts line word digits until p e = same_parts 32 word (codes "until") digits (decimal until) p.first refl (sym p.whole ∙ e)
+pub until_parts : (line word digits : List ℕ) (until : ℕ) → IsParted 32 line word digits → line ≡ until_line until →
+    (word ≡ codes "until") × (digits ≡ decimal until)
+until_parts line word digits until p e =
+    same_parts 32 word (codes "until") digits (decimal until) p.first refl (sym p.whole ∙ e)
 
 -- an item that isn't logged is none of those that are
-unlogged : (ls : List Logged) (x : ℕ) → logged_time ls x ≡ None → (k : ℕ) (d : Logged) → k < length ls → (get_or ls k d).item ≢ x
+unlogged : (ls : List Logged) (x : ℕ) → logged_time ls x ≡ None → (k : ℕ) (d : Logged) → k < length ls →
+    (get_or ls k d).item ≢ x
 unlogged [] x e k d l = absurd (omega arith)
 unlogged (m ∷ ls) x e k d l = elim (cases_eq m.item x) [
-  | inl is ↦ absurd (none-some m.time (sym e ∙ cond-true (m.item == x) (Some m.time) (logged_time ls x) (eq-eqb m.item x is)))
-  | inr other ↦ at (unlogged ls x (sym (cond-false (m.item == x) (Some m.time) (logged_time ls x) (ne_eqb m.item x other)) ∙ e)) other k l
+  | inl is ↦
+      absurd (none-some m.time (sym e ∙ cond-true (m.item == x) (Some m.time) (logged_time ls x) (eq-eqb m.item x is)))
+  | inr other ↦
+      at (unlogged ls x (sym (cond-false (m.item == x) (Some m.time) (logged_time ls x) (ne_eqb m.item x other)) ∙ e))
+      other k l
 ]
   where
-    at : ((j : ℕ) (f : Logged) → j < length ls → (get_or ls j f).item ≢ x) → m.item ≢ x → (k : ℕ) → k < length (m ∷ ls) → (get_or (m ∷ ls) k d).item ≢ x
+    at : ((j : ℕ) (f : Logged) → j < length ls → (get_or ls j f).item ≢ x) → m.item ≢ x → (k : ℕ) →
+        k < length (m ∷ ls) →
+        (get_or (m ∷ ls) k d).item ≢ x
     at rest other zero l = other
     at rest other (suc j) l = rest j d (omega arith)
 
@@ -45,11 +57,13 @@ all_push P (x ∷ xs) y h p zero d l = h 0 d (omega arith)
 all_push P (x ∷ xs) y h p (suc k) d l = all_push P xs y (λ j e m. h (suc j) e (omega arith)) p k d (omega arith)
 
 -- a log with an act more
-pub log_more : (g : Graph) (log : Log) (act : Logged) → IsLog g log → MayGoOn g log act → IsLog g (record { until = log.until; acts = log.acts ++ act ∷ [] })
+pub log_more : (g : Graph) (log : Log) (act : Logged) → IsLog g log → MayGoOn g log act →
+    IsLog g (record { until = log.until; acts = log.acts ++ act ∷ [] })
 log_more g log act is may = record {
   until = is.until;
   acts = all_push (IsActBy g log.until) log.acts act is.acts may.act;
-  apart = all_pairs_push (λ (a b : Logged). a.item ≢ b.item) log.acts act is.apart (λ k d l. unlogged log.acts act.item may.new k d l);
+  apart = all_pairs_push (λ (a b : Logged). a.item ≢ b.item) log.acts act is.apart
+      (λ k d l. unlogged log.acts act.item may.new k d l);
 }
 
 take_front : {X : Type 0} (xs ys : List X) → take (length xs) (xs ++ ys) ≡ xs
@@ -64,9 +78,11 @@ shifted : {X : Type 0} (xs : List X) (y : X) (ys : List X) → xs ++ y ∷ ys �
 shifted [] y ys = refl
 shifted (x ∷ xs) y ys = ap (λ zs. x ∷ zs) (shifted xs y ys)
 
-module _ (g : Graph) (ls : List (List ℕ)) (log : Log) (rest : List ℕ) (is : IsLog g log) (spelled : ls ≡ log_lines g log ++ lines rest) where
+module _ (g : Graph) (ls : List (List ℕ)) (log : Log) (rest : List ℕ) (is : IsLog g log)
+    (spelled : ls ≡ log_lines g log ++ lines rest) where
   -- after a line that is an act's
-  pub line_read : (new : Log) (after : List ℕ) → IsLineRead g log rest new after → IsLog g new × (ls ≡ log_lines g new ++ lines after)
+  pub line_read : (new : Log) (after : List ℕ) → IsLineRead g log rest new after →
+      IsLog g new × (ls ≡ log_lines g new ++ lines after)
   line_read new after read = let more = read.goes_on in (
     subst (IsLog g) (sym more.added) (log_more g log more.act is more.may),
     spelled ∙ ap (λ xs. log_lines g log ++ xs) (read.first ∙ ap (λ line. line ∷ lines after) more.spelled)
@@ -86,42 +102,53 @@ lack_bad g ls lack = record { none = λ log is e. at ls lack log is.until e; bef
   where
     at : (ls : List (List ℕ)) → LackTime ls → (log : Log) → log.until < 2 ^ 60 → take (0 + 1) ls ≡ log_lines g log → ⊥
     at [] lack log early e = let f = ap length e in omega (arith, f)
-    at (line ∷ rest) lack log early e = lack log.until rest early (ap (λ l. l ∷ rest) (head_of_cons line (until_line log.until) _ _ e))
+    at (line ∷ rest) lack log early e =
+        lack log.until rest early (ap (λ l. l ∷ rest) (head_of_cons line (until_line log.until) _ _ e))
 
 -- the acts of lines that begin with those of a log
-module _ (g : Graph) (limits : IsWithinLimits g) (named : HaveNames g (item_count g)) (until later : ℕ) (early : until < 2 ^ 60) (soon : later < 2 ^ 60) (line : List ℕ) where
-  one_more : (xs ys : List Logged) → All (IsActBy g later) xs → All (IsActBy g until) ys → map (act_line g) xs ≡ map (act_line g) ys ++ line ∷ [] → (l : Logged) × (xs ≡ ys ++ l ∷ []) ×
+module _ (g : Graph) (limits : IsWithinLimits g) (named : HaveNames g (item_count g)) (until later : ℕ)
+    (early : until < 2 ^ 60) (soon : later < 2 ^ 60) (line : List ℕ) where
+  one_more : (xs ys : List Logged) → All (IsActBy g later) xs → All (IsActBy g until) ys →
+      map (act_line g) xs ≡ map (act_line g) ys ++ line ∷ [] →
+      (l : Logged) × (xs ≡ ys ++ l ∷ []) ×
       (act_line g l ≡ line)
   one_more [] [] by is e = absurd (let f = ap length e in omega (arith, f))
   one_more [] (a ∷ ys) by is e = absurd (let f = ap length e in omega (arith, f))
   one_more (b ∷ []) [] by is e = (b, refl, head_of_cons (act_line g b) line [] [] e)
   one_more (b ∷ c ∷ xs) [] by is e = absurd (let f = ap length e in omega (arith, f))
   one_more (b ∷ xs) (a ∷ ys) by is e =
-      let same = same_line g limits named later until soon early b a (by 0 b (omega arith)) (is 0 a (omega arith)) (head_of_cons (act_line g b) (act_line g a) _ _ e) in
-      let r = one_more xs ys (λ k d l. by (suc k) d (omega arith)) (λ k d l. is (suc k) d (omega arith)) (ap (drop 1) e) in
+      let same = same_line g limits named later until soon early b a (by 0 b (omega arith)) (is 0 a (omega arith))
+      (head_of_cons (act_line g b) (act_line g a) _ _ e) in
+      let r =
+      one_more xs ys (λ k d l. by (suc k) d (omega arith)) (λ k d l. is (suc k) d (omega arith)) (ap (drop 1) e) in
       (r.0, (λ i. same i ∷ r.1 i), r.2)
 
 -- an item that is logged last isn't logged before
-before_last : (ls : List Logged) (l : Logged) → AllPairs (λ (a b : Logged). a.item ≢ b.item) (ls ++ l ∷ []) → logged_time ls l.item ≡ None
+before_last : (ls : List Logged) (l : Logged) → AllPairs (λ (a b : Logged). a.item ≢ b.item) (ls ++ l ∷ []) →
+    logged_time ls l.item ≡ None
 before_last [] l pairs = refl
 before_last (m ∷ ls) l pairs = cond-false (m.item == l.item) (Some m.time) (logged_time ls l.item)
-    (ne_eqb m.item l.item (λ same. pairs 0 (suc (length ls)) l (omega arith) (omega (arith, long_front ls (l ∷ []))) (same ∙ sym (ap (λ (z : Logged). z.item) (at_end ls l)))))
+    (ne_eqb m.item l.item (λ same. pairs 0 (suc (length ls)) l (omega arith) (omega (arith, long_front ls (l ∷ [])))
+    (same ∙ sym (ap (λ (z : Logged). z.item) (at_end ls l)))))
     ∙ before_last ls l (λ i j d a b. pairs (suc i) (suc j) d (omega arith) (omega arith))
   where
     at_end : (xs : List Logged) (x : Logged) → get_or (xs ++ x ∷ []) (length xs) l ≡ x
     at_end [] x = refl
     at_end (y ∷ xs) x = at_end xs x
 
-module _ (g : Graph) (limits : IsWithinLimits g) (named : HaveNames g (item_count g)) (ls : List (List ℕ)) (log : Log) (rest : List ℕ) (is : IsLog g log)
+module _ (g : Graph) (limits : IsWithinLimits g) (named : HaveNames g (item_count g)) (ls : List (List ℕ)) (log : Log)
+    (rest : List ℕ) (is : IsLog g log)
     (spelled : ls ≡ log_lines g log ++ lines rest) where
   pub line_strange : (place : ℕ) → IsLineStrange g log rest place → IsBadLine g ls place
   line_strange place odd = record {
     none = λ other by e. strange other by (sym with_line ∙
-        ap (λ n. take n ls) (let n : length (log_lines g log ++ odd.line ∷ []) ≡ place + 1 = omega (arith, odd.here, long, long_front (log_lines g log) (odd.line ∷ [])) in n) ∙ e);
+        ap (λ n. take n ls) (let n : length (log_lines g log ++ odd.line ∷ []) ≡ place + 1 =
+        omega (arith, odd.here, long, long_front (log_lines g log) (odd.line ∷ [])) in n) ∙ e);
     before = λ some. (
       log,
       is,
-      ap (λ n. take n ls) (let n : place ≡ length (log_lines g log) = omega (arith, odd.here, long) in n) ∙ ap (take (length (log_lines g log))) spelled ∙
+      ap (λ n. take n ls) (let n : place ≡ length (log_lines g log) = omega (arith, odd.here, long) in n)
+          ∙ ap (take (length (log_lines g log))) spelled ∙
           take_front (log_lines g log) (lines rest),
     );
   }
@@ -133,14 +160,18 @@ module _ (g : Graph) (limits : IsWithinLimits g) (named : HaveNames g (item_coun
       whole = spelled ∙ ap (λ xs. log_lines g log ++ xs) odd.first ∙ shifted (log_lines g log) odd.line (lines odd.rest)
 
       with_line : take (length (log_lines g log ++ odd.line ∷ [])) ls ≡ log_lines g log ++ odd.line ∷ []
-      with_line = ap (take (length (log_lines g log ++ odd.line ∷ []))) whole ∙ take_front (log_lines g log ++ odd.line ∷ []) (lines odd.rest)
+      with_line = ap (take (length (log_lines g log ++ odd.line ∷ []))) whole
+          ∙ take_front (log_lines g log ++ odd.line ∷ []) (lines odd.rest)
 
       -- a log of these lines would go on with an act of the last
       strange : (other : Log) → IsLog g other → log_lines g log ++ odd.line ∷ [] ≡ log_lines g other → ⊥
       strange other by e =
-          let until = decimal_injective log.until other.until (omega (arith, is.until)) (omega (arith, by.until)) (ap (drop 6) (head_of_cons (until_line log.until) (until_line other.until) _ _ e)) in
-          let r = one_more g limits named log.until other.until is.until by.until odd.line other.acts log.acts by.acts is.acts (sym (ap (drop 1) e)) in
-          let last = All-contains (IsActBy g other.until) other.acts r.0 by.acts (subst (λ xs. Contains xs r.0) (sym r.1) (Contains-push log.acts r.0)) in
+          let until = decimal_injective log.until other.until (omega (arith, is.until)) (omega (arith, by.until))
+          (ap (drop 6) (head_of_cons (until_line log.until) (until_line other.until) _ _ e)) in
+          let r = one_more g limits named log.until other.until is.until by.until odd.line other.acts log.acts by.acts
+          is.acts (sym (ap (drop 1) e)) in
+          let last = All-contains (IsActBy g other.until) other.acts r.0 by.acts
+          (subst (λ xs. Contains xs r.0) (sym r.1) (Contains-push log.acts r.0)) in
           odd.strange r.0 (record {
             act = record { item = last.item; time = omega (arith, last.time, until) };
             new = before_last log.acts r.0 (subst (AllPairs (λ (a b : Logged). a.item ≢ b.item)) r.1 by.apart);
@@ -148,13 +179,17 @@ module _ (g : Graph) (limits : IsWithinLimits g) (named : HaveNames g (item_coun
 
 -- ---- a log's file has no bad line
 
-apart_take : (ls : List Logged) (n : ℕ) → AllPairs (λ (a b : Logged). a.item ≢ b.item) ls → AllPairs (λ (a b : Logged). a.item ≢ b.item) (take n ls)
+apart_take : (ls : List Logged) (n : ℕ) → AllPairs (λ (a b : Logged). a.item ≢ b.item) ls →
+    AllPairs (λ (a b : Logged). a.item ≢ b.item) (take n ls)
 apart_take ls n pairs i j d a b e =
     let long = length-take n ls in
-    pairs i j d a (omega (arith, long, b)) (sym (ap (λ (l : Logged). l.item) (get_or-take n ls i d (omega (arith, long, a, b)))) ∙ e ∙
+    pairs i j d a (omega (arith, long, b))
+    (sym (ap (λ (l : Logged). l.item) (get_or-take n ls i d (omega (arith, long, a, b)))) ∙ e ∙
     ap (λ (l : Logged). l.item) (get_or-take n ls j d (omega (arith, long, b))))
 
-pub no_bad_line : (g : Graph) (bytes : List ℕ) (log : Log) → IsLogOf g bytes log → (n : ℕ) → IsBadLine g (lines bytes) n → ⊥
+pub no_bad_line : (g : Graph) (bytes : List ℕ) (log : Log) → IsLogOf g bytes log → (n : ℕ) →
+    IsBadLine g (lines bytes) n → ⊥
 no_bad_line g bytes log is n bad = bad.none (record { until = log.until; acts = take n log.acts })
     (record { until = is.lawful.until; acts = All-take (IsActBy g log.until) n log.acts is.lawful.acts; apart = apart_take log.acts n is.lawful.apart })
-    (ap (λ m. take m (lines bytes)) (let m : n + 1 ≡ suc n = omega arith in m) ∙ ap (take (suc n)) is.spelled ∙ ap (λ xs. until_line log.until ∷ xs) (take-map (act_line g) n log.acts))
+    (ap (λ m. take m (lines bytes)) (let m : n + 1 ≡ suc n = omega arith in m) ∙ ap (take (suc n)) is.spelled
+    ∙ ap (λ xs. until_line log.until ∷ xs) (take-map (act_line g) n log.acts))

@@ -1,5 +1,6 @@
 -- The texts of acts, by number of the item.
-use Rattle.std.proofs.Common.{ℕ, ◌+◌, ◌<◌, ◌≡◌, ◌^◌, ◌==◌, Bool, true, false, ◌&&◌, ◌||◌, List, [], ◌∷◌, ◌++◌, codes, length, map, get_or, drop, arith, refl, sym, ap, ◌∙◌, subst, ◌⊎◌, inl, inr}
+use Rattle.std.proofs.Common.{ℕ, ◌+◌, ◌<◌, ◌≡◌, ◌^◌, ◌==◌, Bool, true, false, ◌&&◌, ◌||◌, List, [], ◌∷◌, ◌++◌, codes}
+use Rattle.std.proofs.Common.{length, map, get_or, drop, arith, refl, sym, ap, ◌∙◌, subst, ◌⊎◌, inl, inr}
 use Rattle.std.proofs.Common.{ne_eqb, true≢false, String, Global, string_bytes}
 use Rattle.std.specs.Prelude.{nat_lt}
 use Rattle.std.specs.Fmt.{decimal}
@@ -12,7 +13,8 @@ use Rattle.std.proofs.lemmas.List.FromFn.{length-map-range_with_len}
 use Rattle.cpg_base.specs.Numbers.{numbers_below}
 use Rattle.cpg_base.specs.Name.{IsName, is_name_byte}
 use Rattle.cpg_base.specs.Limits.{IsWithinLimits}
-use Rattle.cpg_base.specs.Graph.{Graph, process_count, condition_count, item_count, item_at, is_sent, home, process_at, process_of}
+use Rattle.cpg_base.specs.Graph.{Graph, process_count, condition_count, item_count, item_at, is_sent, home, process_at}
+use Rattle.cpg_base.specs.Graph.{process_of}
 use Rattle.cpg_base.specs.declared.item.Item.{Item}
 use Rattle.cpg_base.proofs.Items.{ItemCases, item_cases, same_condition, process_of_below}
 use Rattle.cpg_base.proofs.Lists.{get_or-map-below, list_any_false}
@@ -35,12 +37,15 @@ act_within g x e = elim (or_cases (nat_lt x (process_count g)) (nat_lt x (item_c
 ]
 
 -- the texts of all items
-module _ (g : Graph) (texts : List (String Global)) (are : map string_bytes texts ≡ map (act_text g) (numbers_below (item_count g))) where
+module _ (g : Graph) (texts : List (String Global))
+    (are : map string_bytes texts ≡ map (act_text g) (numbers_below (item_count g))) where
   pub texts_long : length texts ≡ item_count g
-  texts_long = sym (length-map texts string_bytes) ∙ ap length are ∙ length-map-range_with_len (act_text g) 0 (item_count g)
+  texts_long =
+      sym (length-map texts string_bytes) ∙ ap length are ∙ length-map-range_with_len (act_text g) 0 (item_count g)
 
   pub text_at : (x : ℕ) (d : String Global) → x < item_count g → string_bytes (get_or texts x d) ≡ act_text g x
-  text_at x d l = sym (get_or-map string_bytes texts x d [] (omega (arith, texts_long, l))) ∙ ap (λ ts. get_or ts x []) are ∙ get_or-map-below (act_text g) (item_count g) x [] l
+  text_at x d l = sym (get_or-map string_bytes texts x d [] (omega (arith, texts_long, l)))
+      ∙ ap (λ ts. get_or ts x []) are ∙ get_or-map-below (act_text g) (item_count g) x [] l
 
 -- one item more
 pub names_more : (g : Graph) (n : ℕ) → HaveNames g n → IsName (get_or g.nodes (home g n) []) → HaveNames g (n + 1)
@@ -60,50 +65,66 @@ pub spaced : (a t : List ℕ) → a ++ codes " " ++ t ≡ a ++ 32 ∷ t
 spaced a t = append_assoc a (32 ∷ []) t
 
 module _ (g : Graph) (limits : IsWithinLimits g) where
-  same_process : (p q : ℕ) → p < process_count g → q < process_count g → (process_at g p).name ≡ (process_at g q).name → p ≡ q
+  same_process : (p q : ℕ) → p < process_count g → q < process_count g → (process_at g p).name ≡ (process_at g q).name →
+      p ≡ q
   same_process p q l h e = elim (cases_order p q) [
     | inl is ↦ is
     | inr (inl below) ↦ absurd (limits.process_names p q _ below h e)
     | inr (inr above) ↦ absurd (limits.process_names q p _ above l (sym e))
   ]
 
-  same_label : (p q : ℕ) → p < process_count g → q < process_count g → process_name (labels_of g) p ≡ process_name (labels_of g) q → p ≡ q
+  same_label : (p q : ℕ) → p < process_count g → q < process_count g →
+      process_name (labels_of g) p ≡ process_name (labels_of g) q → p ≡ q
   same_label p q l h e = same_process p q l h (sym (process_called g p) ∙ e ∙ process_called g q)
 
-  same_teller : (c d : ℕ) → c < condition_count g → d < condition_count g → condition_name (labels_of g) c ≡ condition_name (labels_of g) d → c ≡ d
+  same_teller : (c d : ℕ) → c < condition_count g → d < condition_count g →
+      condition_name (labels_of g) c ≡ condition_name (labels_of g) d → c ≡ d
   same_teller c d l h e = same_condition g c d l h
-      (same_process (process_of g c) (process_of g d) (process_of_below g c l) (process_of_below g d h) (sym (condition_called g c l) ∙ e ∙ condition_called g d h))
+      (same_process (process_of g c) (process_of g d) (process_of_below g c l) (process_of_below g d h)
+      (sym (condition_called g c l) ∙ e ∙ condition_called g d h))
 
   abbrev text : Item → List ℕ
   text = done_text (labels_of g)
 
   same_item : (x y : ℕ) → ItemCases g x → ItemCases g y → text (item_at g x) ≡ text (item_at g y) → x ≡ y
   same_item x y (inl a) (inl b) e = same_label x y a.0 b.0 (ap (drop 6) (sym (ap text a.1) ∙ e ∙ ap text b.1))
-  same_item x y (inl a) (inr (inl b)) e = absurd (let f = ap (λ t. get_or t 1 0) (sym (ap text a.1) ∙ e ∙ ap text b.3) in omega (arith, f))
-  same_item x y (inl a) (inr (inr b)) e = absurd (let f = ap (λ t. get_or t 0 0) (sym (ap text a.1) ∙ e ∙ ap text b.3) in omega (arith, f))
-  same_item x y (inr (inl a)) (inl b) e = absurd (let f = ap (λ t. get_or t 1 0) (sym (ap text a.3) ∙ e ∙ ap text b.1) in omega (arith, f))
+  same_item x y (inl a) (inr (inl b)) e =
+      absurd (let f = ap (λ t. get_or t 1 0) (sym (ap text a.1) ∙ e ∙ ap text b.3) in omega (arith, f))
+  same_item x y (inl a) (inr (inr b)) e =
+      absurd (let f = ap (λ t. get_or t 0 0) (sym (ap text a.1) ∙ e ∙ ap text b.3) in omega (arith, f))
+  same_item x y (inr (inl a)) (inl b) e =
+      absurd (let f = ap (λ t. get_or t 1 0) (sym (ap text a.3) ∙ e ∙ ap text b.1) in omega (arith, f))
   same_item x y (inr (inl a)) (inr (inl b)) e =
-      let f = decimal_injective a.0 b.0 (omega (arith, a.1, limits.few_edges)) (omega (arith, b.1, limits.few_edges)) (ap (drop 6) (sym (ap text a.3) ∙ e ∙ ap text b.3)) in
+      let f = decimal_injective a.0 b.0 (omega (arith, a.1, limits.few_edges)) (omega (arith, b.1, limits.few_edges))
+      (ap (drop 6) (sym (ap text a.3) ∙ e ∙ ap text b.3)) in
       omega (arith, f, a.2, b.2)
-  same_item x y (inr (inl a)) (inr (inr b)) e = absurd (let f = ap (λ t. get_or t 0 0) (sym (ap text a.3) ∙ e ∙ ap text b.3) in omega (arith, f))
-  same_item x y (inr (inr a)) (inl b) e = absurd (let f = ap (λ t. get_or t 0 0) (sym (ap text a.3) ∙ e ∙ ap text b.1) in omega (arith, f))
-  same_item x y (inr (inr a)) (inr (inl b)) e = absurd (let f = ap (λ t. get_or t 0 0) (sym (ap text a.3) ∙ e ∙ ap text b.3) in omega (arith, f))
+  same_item x y (inr (inl a)) (inr (inr b)) e =
+      absurd (let f = ap (λ t. get_or t 0 0) (sym (ap text a.3) ∙ e ∙ ap text b.3) in omega (arith, f))
+  same_item x y (inr (inr a)) (inl b) e =
+      absurd (let f = ap (λ t. get_or t 0 0) (sym (ap text a.3) ∙ e ∙ ap text b.1) in omega (arith, f))
+  same_item x y (inr (inr a)) (inr (inl b)) e =
+      absurd (let f = ap (λ t. get_or t 0 0) (sym (ap text a.3) ∙ e ∙ ap text b.3) in omega (arith, f))
   same_item x y (inr (inr a)) (inr (inr b)) e =
       let h = same_teller a.0 b.0 a.1 b.1 (ap (drop 5) (sym (ap text a.3) ∙ e ∙ ap text b.3)) in
       omega (arith, h, a.2, b.2)
 
-  pub same_text : HaveNames g (item_count g) → (x y : ℕ) → is_act g x ≡ true → is_act g y ≡ true → act_text g x ≡ act_text g y → x ≡ y
+  pub same_text : HaveNames g (item_count g) → (x y : ℕ) → is_act g x ≡ true → is_act g y ≡ true →
+      act_text g x ≡ act_text g y → x ≡ y
   same_text named x y a b e =
       let l = act_within g x a in
       let h = act_within g y b in
       same_item x y (item_cases g x l) (item_cases g y h)
-      (same_parts 32 (get_or g.nodes (home g x) []) (get_or g.nodes (home g y) []) (text (item_at g x)) (text (item_at g y)) (name_spaceless _ (named x l)) (name_spaceless _ (named y h))
-      (sym (spaced (get_or g.nodes (home g x) []) (text (item_at g x))) ∙ e ∙ spaced (get_or g.nodes (home g y) []) (text (item_at g y)))).1
+      (same_parts 32 (get_or g.nodes (home g x) []) (get_or g.nodes (home g y) []) (text (item_at g x))
+      (text (item_at g y)) (name_spaceless _ (named x l)) (name_spaceless _ (named y h))
+      (sym (spaced (get_or g.nodes (home g x) []) (text (item_at g x))) ∙ e
+      ∙ spaced (get_or g.nodes (home g y) []) (text (item_at g y)))).1
 
   -- acts with the same line are the same
-  pub same_line : HaveNames g (item_count g) → (until later : ℕ) → until < 2 ^ 60 → later < 2 ^ 60 → (a b : Logged) → IsActBy g until a → IsActBy g later b → act_line g a ≡ act_line g b → a ≡ b
+  pub same_line : HaveNames g (item_count g) → (until later : ℕ) → until < 2 ^ 60 → later < 2 ^ 60 → (a b : Logged) →
+      IsActBy g until a → IsActBy g later b → act_line g a ≡ act_line g b → a ≡ b
   same_line named until later early soon a b is by e =
-      let r = same_parts 32 (decimal a.time) (decimal b.time) (act_text g a.item) (act_text g b.item) (decimal_spaceless a.time (omega (arith, is.time, early)))
+      let r = same_parts 32 (decimal a.time) (decimal b.time) (act_text g a.item) (act_text g b.item)
+      (decimal_spaceless a.time (omega (arith, is.time, early)))
       (decimal_spaceless b.time (omega (arith, by.time, soon)))
       (sym (spaced (decimal a.time) (act_text g a.item)) ∙ e ∙ spaced (decimal b.time) (act_text g b.item)) in
       let time = decimal_injective a.time b.time (omega (arith, is.time, early)) (omega (arith, by.time, soon)) r.0 in

@@ -1,5 +1,6 @@
 -- A log: the acts of all nodes up to a time, as a file names them.
-use Rattle.std.specs.Prelude.{ℕ, ◌^◌, ◌≡◌, ◌≢◌, ◌≤◌, ◌<◌, Bool, true, ◌&&◌, ◌||◌, ◌==◌, nat_lt, if◌then◌else◌, List, [], ◌∷◌, ◌++◌, codes, map, get_or, Option, Some, None, All, AllPairs}
+use Rattle.std.specs.Prelude.{ℕ, ◌^◌, ◌≡◌, ◌≢◌, ◌≤◌, ◌<◌, Bool, true, ◌&&◌, ◌||◌, ◌==◌, nat_lt, if◌then◌else◌, List, []}
+use Rattle.std.specs.Prelude.{◌∷◌, ◌++◌, codes, map, get_or, Option, Some, None, All, AllPairs}
 use Rattle.std.specs.Fmt.{decimal}
 use Rattle.cpg_base.specs.Graph.{Graph, process_count, item_count, item_at, is_sent, home}
 use Rattle.cpg_label.specs.Labels.{labels_of}
@@ -11,8 +12,8 @@ pub record Log : Type 0 where
   pub until : ℕ
   pub acts : List Logged
 
--- Whether a number is that of something a node starts or sends: a process, a message between two nodes, or, if there are at
--- least two nodes, a broadcast.
+-- Whether a number is that of something a node starts or sends: a process, a message between two nodes, or, if there
+-- are at least two nodes, a broadcast.
 abbrev pub is_act : Graph → ℕ → Bool
 is_act g x = nat_lt x (process_count g) || (nat_lt x (item_count g) && is_sent g x)
 

@@ -3,14 +3,16 @@ use Rattle.std.specs.Prelude.{ℕ, ◌^◌, ◌+◌, ◌≡◌, ◌≢◌, ◌<�
 use Rattle.cpg_base.specs.Graph.{Graph, home}
 use Rattle.cpg_base.specs.Name.{IsName}
 use Rattle.cpg_log.specs.Lines.{lines}
-use Rattle.cpg_log.specs.Log.{Log, Logged, IsLog, IsActBy, log_lines, until_line, is_act, act_text, act_line, logged_time}
+use Rattle.cpg_log.specs.Log.{Log, Logged, IsLog, IsActBy, log_lines, until_line, is_act, act_text, act_line}
+use Rattle.cpg_log.specs.Log.{logged_time}
 
 -- the file has the lines of a log
 pub record IsLogOf (g : Graph) (bytes : List ℕ) (log : Log) : Type 0 where
   pub lawful : IsLog g log
   pub spelled : lines bytes ≡ log_lines g log
 
--- the first line that makes a file no log, counted from 0: with it the lines are no log's, and those before it, if any, are one's
+-- the first line that makes a file no log, counted from 0: with it the lines are no log's, and those before it, if any,
+-- are one's
 pub record IsBadLine (g : Graph) (ls : List (List ℕ)) (place : ℕ) : Type 0 where
   pub none : (log : Log) → IsLog g log → take (place + 1) ls ≢ log_lines g log
   pub before : place ≢ 0 → (log : Log) × IsLog g log × (take place ls ≡ log_lines g log)

@@ -19,11 +19,14 @@ zero_in (m ∷ ls) h l c =
       | inr d ↦ zero_in ls parts.1 l d
     ]
 
-pub none_before : (sums : List ℕ) (total : ℕ) (ls : List Literal) → AllAtZero ls → (l : Literal) → Contains ls l → HasNoPartner sums total l
+pub none_before : (sums : List ℕ) (total : ℕ) (ls : List Literal) → AllAtZero ls → (l : Literal) → Contains ls l →
+    HasNoPartner sums total l
 none_before sums total ls h l c low rest lt e there = absurd (omega (arith, zero_in ls h l c, lt))
 
 -- literals of which a block was marked
-pub marked_on : (P : Literal → Type 0) (Q : Literal → Type 0) (all left block rest : List Literal) → left ≡ block ++ rest → ((l : Literal) → P l → Q l) → ((l : Literal) → Contains block l → Q l) →
+pub marked_on : (P : Literal → Type 0) (Q : Literal → Type 0) (all left block rest : List Literal) →
+    left ≡ block ++ rest → ((l : Literal) → P l → Q l) →
+    ((l : Literal) → Contains block l → Q l) →
     ((l : Literal) → Contains all l → Contains left l ⊎ P l)
     → (l : Literal) → Contains all l → Contains rest l ⊎ Q l
 marked_on P Q all left block rest is kept here before l c = elim (before l c) [
@@ -34,6 +37,7 @@ marked_on P Q all left block rest is kept here before l c = elim (before l c) [
   | inr done ↦ inr (kept l done)
 ]
 
-pub all_marked : (P : Literal → Type 0) (all left : List Literal) → ((l : Literal) → Contains all l → Contains left l ⊎ P l) → ((l : Literal) → Contains left l → P l) → (l : Literal) →
+pub all_marked : (P : Literal → Type 0) (all left : List Literal) →
+    ((l : Literal) → Contains all l → Contains left l ⊎ P l) → ((l : Literal) → Contains left l → P l) → (l : Literal) →
     Contains all l → P l
 all_marked P all left before here l c = elim (before l c) [ inl there ↦ here l there | inr done ↦ done ]

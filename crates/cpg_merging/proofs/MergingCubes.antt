@@ -1,5 +1,6 @@
 -- Ranges of cubes when literals are left out or one is raised, and two cubes that touch made one.
-use Rattle.std.proofs.Common.{ℕ, ◌<◌, ◌≤◌, ◌≡◌, ◌≢◌, ◌⊎◌, Bool, true, false, not, cond, ◌==◌, List, [], ◌∷◌, length, take, Contains, All, get_or, arith, refl, sym, ap, ap₂, ◌∙◌, subst, ⊎_elim}
+use Rattle.std.proofs.Common.{ℕ, ◌<◌, ◌≤◌, ◌≡◌, ◌≢◌, ◌⊎◌, Bool, true, false, not, cond, ◌==◌, List, [], ◌∷◌, length}
+use Rattle.std.proofs.Common.{take, Contains, All, get_or, arith, refl, sym, ap, ap₂, ◌∙◌, subst, ⊎_elim}
 use Rattle.std.proofs.Common.{eqb-true}
 use Rattle.std.specs.List.{list_any}
 use Rattle.std.proofs.lemmas.Bool.{cases_eq, and_parts, or_parts, not-true, eqb-false}
@@ -12,7 +13,8 @@ use Rattle.cpg_base.proofs.Sorted.{same_sorted}
 use Rattle.cpg_cube.specs.declared.literal.Literal.{Literal}
 use Rattle.cpg_cube.specs.Cube.{IsRising, low_in, high_in, is_whole}
 use Rattle.cpg_base.specs.Variable.{top}
-use Rattle.cpg_cube.proofs.Ranges.{IsNarrow, rising_rest, rising_first, low_in-here, high_in-here, high_in-later, high_in-none, range_of_literal, narrow}
+use Rattle.cpg_cube.proofs.Ranges.{IsNarrow, rising_rest, rising_first, low_in-here, high_in-here, high_in-later}
+use Rattle.cpg_cube.proofs.Ranges.{high_in-none, range_of_literal, narrow}
 use Rattle.cpg_cube.proofs.CubeLows.{low_in-later, low_in-none}
 use Rattle.cpg_cube.specs.Column.{Column}
 use Rattle.cpg_merging.specs.Merged.{HaveNoWhole}
@@ -20,10 +22,12 @@ use Rattle.cpg_merging.specs.Merging.{shorn, all_shorn, without, raised}
 use Rattle.cpg_cube.proofs.Ranges.{same_literal}
 
 -- if one literal leads two lists with the same ranges, the lists have the same ranges
-same_low : (l : Literal) (xs ys : List Literal) (v : ℕ) → low_in xs v ≡ low_in ys v → low_in (l ∷ xs) v ≡ low_in (l ∷ ys) v
+same_low : (l : Literal) (xs ys : List Literal) (v : ℕ) → low_in xs v ≡ low_in ys v →
+    low_in (l ∷ xs) v ≡ low_in (l ∷ ys) v
 same_low l xs ys v e = ap (λ n. cond (l.variable == v) l.low n) e
 
-same_high : (k : ℕ) (l : Literal) (xs ys : List Literal) (v : ℕ) → high_in k xs v ≡ high_in k ys v → high_in k (l ∷ xs) v ≡ high_in k (l ∷ ys) v
+same_high : (k : ℕ) (l : Literal) (xs ys : List Literal) (v : ℕ) → high_in k xs v ≡ high_in k ys v →
+    high_in k (l ∷ xs) v ≡ high_in k (l ∷ ys) v
 same_high k l xs ys v e = ap (λ n. cond (l.variable == v) l.high n) e
 
 -- ---- the literals but those of the whole range
@@ -49,26 +53,33 @@ module _ (k : ℕ) where
       let parts = or_parts (is_whole k l) (list_any (is_whole k) ls) e in
       ap₂ (λ b xs. cond (not b) (l ∷ xs) xs) parts.0 (cube_kept ls parts.1)
 
-  pub columns_kept : (columns : List Column) → list_any (λ c. list_any (is_whole k) c.cube) columns ≡ false → all_shorn k columns ≡ columns
+  pub columns_kept : (columns : List Column) → list_any (λ c. list_any (is_whole k) c.cube) columns ≡ false →
+      all_shorn k columns ≡ columns
   columns_kept [] e = refl
   columns_kept (c ∷ cs) e =
       let parts = or_parts (list_any (is_whole k) c.cube) (list_any (λ d. list_any (is_whole k) d.cube) cs) e in
-      ap₂ (λ cube rest. record { time = c.time; cube = cube } ∷ rest) (cube_kept c.cube parts.0) (columns_kept cs parts.1)
+      ap₂ (λ cube rest. record { time = c.time; cube = cube } ∷ rest) (cube_kept c.cube parts.0)
+      (columns_kept cs parts.1)
 
   pub tidy_kept : (columns : List Column) → HaveNoWhole k columns → all_shorn k columns ≡ columns
   tidy_kept columns h = columns_kept columns (list_any_none (λ c. list_any (is_whole k) c.cube) columns
-      (All-weaker (λ c. All (λ l. is_whole k l ≡ false) c.cube) (λ c. list_any (is_whole k) c.cube ≡ false) (λ c all. list_any_none (is_whole k) c.cube all) columns h))
+      (All-weaker (λ c. All (λ l. is_whole k l ≡ false) c.cube) (λ c. list_any (is_whole k) c.cube ≡ false)
+      (λ c all. list_any_none (is_whole k) c.cube all) columns h))
 
   -- a literal of the whole range may be left out
-  left_out-low : (l : Literal) (ls : List Literal) (v : ℕ) → IsRising (l ∷ ls) → is_whole k l ≡ true → low_in ls v ≡ low_in (l ∷ ls) v
+  left_out-low : (l : Literal) (ls : List Literal) (v : ℕ) → IsRising (l ∷ ls) → is_whole k l ≡ true →
+      low_in ls v ≡ low_in (l ∷ ls) v
   left_out-low l ls v r w = ⊎_elim
-      (λ (e : l.variable ≡ v). subst (λ u. low_in ls u ≡ low_in (l ∷ ls) u) e (rest-low l ls r ∙ sym (whole-low k l w) ∙ sym (low_in-here l ls l.variable refl)))
+      (λ (e : l.variable ≡ v). subst (λ u. low_in ls u ≡ low_in (l ∷ ls) u) e
+      (rest-low l ls r ∙ sym (whole-low k l w) ∙ sym (low_in-here l ls l.variable refl)))
       (λ (n : l.variable ≢ v). sym (low_in-later l ls v n))
       (cases_eq l.variable v)
 
-  left_out-high : (l : Literal) (ls : List Literal) (v : ℕ) → IsRising (l ∷ ls) → is_whole k l ≡ true → high_in k ls v ≡ high_in k (l ∷ ls) v
+  left_out-high : (l : Literal) (ls : List Literal) (v : ℕ) → IsRising (l ∷ ls) → is_whole k l ≡ true →
+      high_in k ls v ≡ high_in k (l ∷ ls) v
   left_out-high l ls v r w = ⊎_elim
-      (λ (e : l.variable ≡ v). subst (λ u. high_in k ls u ≡ high_in k (l ∷ ls) u) e (rest-high k l ls r ∙ sym (whole-high k l w) ∙ sym (high_in-here k l ls l.variable refl)))
+      (λ (e : l.variable ≡ v). subst (λ u. high_in k ls u ≡ high_in k (l ∷ ls) u) e
+      (rest-high k l ls r ∙ sym (whole-high k l w) ∙ sym (high_in-here k l ls l.variable refl)))
       (λ (n : l.variable ≢ v). sym (high_in-later k l ls v n))
       (cases_eq l.variable v)
 
@@ -76,7 +87,8 @@ module _ (k : ℕ) where
   shorn-low [] r v = refl
   shorn-low (l ∷ ls) r v = go (is_whole k l) refl (shorn-low ls (rising_rest l ls r) v)
     where
-      go : (b : Bool) → is_whole k l ≡ b → low_in (shorn k ls) v ≡ low_in ls v → low_in (cond (not b) (l ∷ shorn k ls) (shorn k ls)) v ≡ low_in (l ∷ ls) v
+      go : (b : Bool) → is_whole k l ≡ b → low_in (shorn k ls) v ≡ low_in ls v →
+          low_in (cond (not b) (l ∷ shorn k ls) (shorn k ls)) v ≡ low_in (l ∷ ls) v
       go true w ih = ih ∙ left_out-low l ls v r w
       go false w ih = same_low l (shorn k ls) ls v ih
 
@@ -84,7 +96,8 @@ module _ (k : ℕ) where
   shorn-high [] r v = refl
   shorn-high (l ∷ ls) r v = go (is_whole k l) refl (shorn-high ls (rising_rest l ls r) v)
     where
-      go : (b : Bool) → is_whole k l ≡ b → high_in k (shorn k ls) v ≡ high_in k ls v → high_in k (cond (not b) (l ∷ shorn k ls) (shorn k ls)) v ≡ high_in k (l ∷ ls) v
+      go : (b : Bool) → is_whole k l ≡ b → high_in k (shorn k ls) v ≡ high_in k ls v →
+          high_in k (cond (not b) (l ∷ shorn k ls) (shorn k ls)) v ≡ high_in k (l ∷ ls) v
       go true w ih = ih ∙ left_out-high l ls v r w
       go false w ih = same_high k l (shorn k ls) ls v ih
 
@@ -95,7 +108,8 @@ module _ (v : ℕ) where
   without-low [] u n = refl
   without-low (l ∷ ls) u n = go (l.variable == v) refl (without-low ls u n)
     where
-      go : (b : Bool) → (l.variable == v) ≡ b → low_in (without v ls) u ≡ low_in ls u → low_in (cond (not b) (l ∷ without v ls) (without v ls)) u ≡ low_in (l ∷ ls) u
+      go : (b : Bool) → (l.variable == v) ≡ b → low_in (without v ls) u ≡ low_in ls u →
+          low_in (cond (not b) (l ∷ without v ls) (without v ls)) u ≡ low_in (l ∷ ls) u
       go true e ih = ih ∙ sym (low_in-later l ls u (λ i. n (sym i ∙ eqb-true l.variable v e)))
       go false e ih = same_low l (without v ls) ls u ih
 
@@ -103,12 +117,14 @@ module _ (v : ℕ) where
   without-high k [] u n = refl
   without-high k (l ∷ ls) u n = go (l.variable == v) refl (without-high k ls u n)
     where
-      go : (b : Bool) → (l.variable == v) ≡ b → high_in k (without v ls) u ≡ high_in k ls u → high_in k (cond (not b) (l ∷ without v ls) (without v ls)) u ≡ high_in k (l ∷ ls) u
+      go : (b : Bool) → (l.variable == v) ≡ b → high_in k (without v ls) u ≡ high_in k ls u →
+          high_in k (cond (not b) (l ∷ without v ls) (without v ls)) u ≡ high_in k (l ∷ ls) u
       go true e ih = ih ∙ sym (high_in-later k l ls u (λ i. n (sym i ∙ eqb-true l.variable v e)))
       go false e ih = same_high k l (without v ls) ls u ih
 
   not_there : (cube : List Literal) (l : Literal) → Contains (without v cube) l → l.variable ≢ v
-  not_there cube l c = eqb-false l.variable v (not-true (l.variable == v) (Contains-filter_parts (λ m. not (m.variable == v)) cube l c).1)
+  not_there cube l c = eqb-false l.variable v
+      (not-true (l.variable == v) (Contains-filter_parts (λ m. not (m.variable == v)) cube l c).1)
 
   pub without-low_here : (cube : List Literal) → low_in (without v cube) v ≡ 0
   without-low_here cube = low_in-none (without v cube) v (not_there cube)
@@ -136,41 +152,52 @@ module _ (v : ℕ) where
     raised-low [] u = refl
     raised-low (l ∷ ls) u = go (l.variable == v) (raised-low ls u)
       where
-        go : (b : Bool) → low_in (raised v high ls) u ≡ low_in ls u → low_in (cond b (with_high l) l ∷ raised v high ls) u ≡ low_in (l ∷ ls) u
+        go : (b : Bool) → low_in (raised v high ls) u ≡ low_in ls u →
+            low_in (cond b (with_high l) l ∷ raised v high ls) u ≡ low_in (l ∷ ls) u
         go true ih = same_low l (raised v high ls) ls u ih
         go false ih = same_low l (raised v high ls) ls u ih
 
-    pub raised-high : (k : ℕ) (cube : List Literal) (u : ℕ) → u ≢ v → high_in k (raised v high cube) u ≡ high_in k cube u
+    pub raised-high : (k : ℕ) (cube : List Literal) (u : ℕ) → u ≢ v →
+        high_in k (raised v high cube) u ≡ high_in k cube u
     raised-high k [] u n = refl
     raised-high k (l ∷ ls) u n = go (l.variable == v) refl (raised-high k ls u n)
       where
-        go : (b : Bool) → (l.variable == v) ≡ b → high_in k (raised v high ls) u ≡ high_in k ls u → high_in k (cond b (with_high l) l ∷ raised v high ls) u ≡ high_in k (l ∷ ls) u
+        go : (b : Bool) → (l.variable == v) ≡ b → high_in k (raised v high ls) u ≡ high_in k ls u →
+            high_in k (cond b (with_high l) l ∷ raised v high ls) u ≡ high_in k (l ∷ ls) u
         go true e ih =
             let other : l.variable ≢ u = λ i. n (sym i ∙ eqb-true l.variable v e) in
             high_in-later k (with_high l) (raised v high ls) u other ∙ ih ∙ sym (high_in-later k l ls u other)
         go false e ih = same_high k l (raised v high ls) ls u ih
 
     -- if it ended before the top, so that the cube speaks of it
-    pub raised-high_here : (k : ℕ) (cube : List Literal) → high_in k cube v < top k v → high_in k (raised v high cube) v ≡ high
+    pub raised-high_here : (k : ℕ) (cube : List Literal) → high_in k cube v < top k v →
+        high_in k (raised v high cube) v ≡ high
     raised-high_here k [] h = absurd (omega arith)
     raised-high_here k (l ∷ ls) h = go (l.variable == v) refl (raised-high_here k ls)
       where
-        go : (b : Bool) → (l.variable == v) ≡ b → (high_in k ls v < top k v → high_in k (raised v high ls) v ≡ high) → high_in k (cond b (with_high l) l ∷ raised v high ls) v ≡ high
+        go : (b : Bool) → (l.variable == v) ≡ b → (high_in k ls v < top k v → high_in k (raised v high ls) v ≡ high) →
+            high_in k (cond b (with_high l) l ∷ raised v high ls) v ≡ high
         go true e ih = high_in-here k (with_high l) (raised v high ls) v (eqb-true l.variable v e)
         go false e ih =
             let other = eqb-false l.variable v e in
-            high_in-later k l (raised v high ls) v other ∙ ih (subst (λ n. n < top k v) (high_in-later k l ls v other) h)
+            high_in-later k l (raised v high ls) v other
+            ∙ ih (subst (λ n. n < top k v) (high_in-later k l ls v other) h)
 
     pub raised-rising : (cube : List Literal) → IsRising cube → IsRising (raised v high cube)
-    raised-rising cube r = AllPairs-map (λ (l m : Literal). l.variable < m.variable) (λ (l m : Literal). l.variable < m.variable) raise cube
+    raised-rising cube r = AllPairs-map (λ (l m : Literal). l.variable < m.variable)
+        (λ (l m : Literal). l.variable < m.variable) raise cube
         (λ l m h. let a = raise-variable l in let b = raise-variable m in omega arith) r
 
-    pub raised-all : (P : ℕ → Type 0) (cube : List Literal) → All (λ l. P l.variable) cube → All (λ l. P l.variable) (raised v high cube)
-    raised-all P cube a = All-map (λ l. P l.variable) raise cube (All-weaker (λ l. P l.variable) (λ l. P (raise l).variable) (λ l h. subst P (sym (raise-variable l)) h) cube a)
+    pub raised-all : (P : ℕ → Type 0) (cube : List Literal) → All (λ l. P l.variable) cube →
+        All (λ l. P l.variable) (raised v high cube)
+    raised-all P cube a = All-map (λ l. P l.variable) raise cube
+        (All-weaker (λ l. P l.variable) (λ l. P (raise l).variable) (λ l h. subst P (sym (raise-variable l)) h) cube a)
 
-    pub raised-within : (k : ℕ) (cube : List Literal) → high ≤ top k v → All (λ l. l.high ≤ top k l.variable) cube → All (λ l. l.high ≤ top k l.variable) (raised v high cube)
+    pub raised-within : (k : ℕ) (cube : List Literal) → high ≤ top k v → All (λ l. l.high ≤ top k l.variable) cube →
+        All (λ l. l.high ≤ top k l.variable) (raised v high cube)
     raised-within k cube h a = All-map (λ l. l.high ≤ top k l.variable) raise cube
-        (All-weaker (λ l. l.high ≤ top k l.variable) (λ l. (raise l).high ≤ top k (raise l).variable) (λ l w. go l w (l.variable == v) refl) cube a)
+        (All-weaker (λ l. l.high ≤ top k l.variable) (λ l. (raise l).high ≤ top k (raise l).variable)
+        (λ l w. go l w (l.variable == v) refl) cube a)
       where
         go : (l : Literal) → l.high ≤ top k l.variable → (b : Bool) → (l.variable == v) ≡ b →
             (cond b (with_high l) l).high ≤ top k (cond b (with_high l) l).variable
@@ -182,14 +209,17 @@ module _ (v : ℕ) where
 module _ (k : ℕ) (a b : List Literal) (rise_a : IsRising a) (rise_b : IsRising b) (narrow_a : IsNarrow k a)
     (lows : (v : ℕ) → low_in a v ≡ low_in b v) (highs : (v : ℕ) → high_in k a v ≡ high_in k b v) where
   -- a variable of which the other cube doesn't speak would have the whole range
-  found : (xs : List Literal) (l : Literal) → IsRising xs → low_in xs l.variable ≡ l.low → high_in k xs l.variable ≡ l.high → (0 < l.low) ⊎ (l.high < top k l.variable) → Contains xs l
-  found [] l r x y n = absurd (⊎_elim (λ (h : 0 < l.low). let z : ⊥ = omega arith in z) (λ (h : l.high < top k l.variable). let z : ⊥ = omega arith in z) n)
+  found : (xs : List Literal) (l : Literal) → IsRising xs → low_in xs l.variable ≡ l.low →
+      high_in k xs l.variable ≡ l.high → (0 < l.low) ⊎ (l.high < top k l.variable) → Contains xs l
+  found [] l r x y n = absurd (⊎_elim (λ (h : 0 < l.low). let z : ⊥ = omega arith in z)
+      (λ (h : l.high < top k l.variable). let z : ⊥ = omega arith in z) n)
   found (m ∷ ms) l r x y n = ⊎_elim
       (λ (e : m.variable ≡ l.variable).
       let p : m.low ≡ l.low = sym (low_in-here m ms l.variable e) ∙ x in
       let q : m.high ≡ l.high = sym (high_in-here k m ms l.variable e) ∙ y in
       subst (λ z. Contains (m ∷ ms) z) (same_literal m l e p q) (Contains-first m ms))
-      (λ (o : m.variable ≢ l.variable). Contains-rest m ms l (found ms l (rising_rest m ms r) (sym (low_in-later m ms l.variable o) ∙ x) (sym (high_in-later k m ms l.variable o) ∙ y) n))
+      (λ (o : m.variable ≢ l.variable). Contains-rest m ms l (found ms l (rising_rest m ms r)
+      (sym (low_in-later m ms l.variable o) ∙ x) (sym (high_in-later k m ms l.variable o) ∙ y) n))
       (cases_eq m.variable l.variable)
 
   pub contained : (l : Literal) → Contains a l → Contains b l
@@ -199,7 +229,8 @@ module _ (k : ℕ) (a b : List Literal) (rise_a : IsRising a) (rise_b : IsRising
       found b l rise_b (sym (lows l.variable) ∙ r.0) (sym (highs l.variable) ∙ r.1) (narrow k l n.0 n.1)
 
 -- two such cubes with the same ranges are one
-pub same_cube : (k : ℕ) (a b : List Literal) → IsRising a → IsRising b → IsNarrow k a → IsNarrow k b → ((v : ℕ) → low_in a v ≡ low_in b v) → ((v : ℕ) → high_in k a v ≡ high_in k b v) → a ≡ b
+pub same_cube : (k : ℕ) (a b : List Literal) → IsRising a → IsRising b → IsNarrow k a → IsNarrow k b →
+    ((v : ℕ) → low_in a v ≡ low_in b v) → ((v : ℕ) → high_in k a v ≡ high_in k b v) → a ≡ b
 same_cube k a b ra rb na nb ls hs = same_sorted (λ l m. l.variable < m.variable) (λ l m h i. omega arith) a b ra rb
     (contained k a b ra rb na ls hs)
     (contained k b a rb ra nb (λ v. sym (ls v)) (λ v. sym (hs v)))
@@ -210,17 +241,26 @@ All-from_each xs h = λ k d l. h (get_or xs k d) (Contains-get_or xs k d l)
 
 -- ---- the literals before one of a rising cube have lower variables
 
-before_next : (cube : List Literal) (i : ℕ) (d : Literal) → IsRising cube → i < length cube → All (λ l. l.variable < (get_or cube i d).variable) (take i cube)
+before_next : (cube : List Literal) (i : ℕ) (d : Literal) → IsRising cube → i < length cube →
+    All (λ l. l.variable < (get_or cube i d).variable) (take i cube)
 before_next cube i d r h = λ k e l.
     let n = length-take-le i cube (omega arith) in
-    subst (λ (x : Literal). x.variable < (get_or cube i d).variable) (get_or_default cube k d e (omega arith) ∙ sym (get_or-take i cube k e (omega arith))) (r k i d (omega arith) h)
+    subst (λ (x : Literal). x.variable < (get_or cube i d).variable)
+    (get_or_default cube k d e (omega arith) ∙ sym (get_or-take i cube k e (omega arith))) (r k i d (omega arith) h)
 
-pub shorn_before : (k : ℕ) (cube : List Literal) (i : ℕ) (d : Literal) (front : List Literal) → IsRising cube → i < length cube → front ≡ shorn k (take i cube) →
+pub shorn_before : (k : ℕ) (cube : List Literal) (i : ℕ) (d : Literal) (front : List Literal) → IsRising cube →
+    i < length cube →
+    front ≡ shorn k (take i cube) →
     All (λ l. l.variable < (get_or cube i d).variable) front
-shorn_before k cube i d front r h e = All-same (λ (l : Literal). l.variable < (get_or cube i d).variable) front (shorn k (take i cube)) e
-    (All-filter (λ l. not (is_whole k l)) (λ (l : Literal). l.variable < (get_or cube i d).variable) (take i cube) (before_next cube i d r h))
+shorn_before k cube i d front r h e =
+    All-same (λ (l : Literal). l.variable < (get_or cube i d).variable) front (shorn k (take i cube)) e
+    (All-filter (λ l. not (is_whole k l)) (λ (l : Literal). l.variable < (get_or cube i d).variable) (take i cube)
+    (before_next cube i d r h))
 
-pub raised_before : (v high : ℕ) (cube : List Literal) (i : ℕ) (d : Literal) (front : List Literal) → IsRising cube → i < length cube → front ≡ raised v high (take i cube) →
+pub raised_before : (v high : ℕ) (cube : List Literal) (i : ℕ) (d : Literal) (front : List Literal) → IsRising cube →
+    i < length cube →
+    front ≡ raised v high (take i cube) →
     All (λ l. l.variable < (get_or cube i d).variable) front
-raised_before v high cube i d front r h e = All-same (λ (l : Literal). l.variable < (get_or cube i d).variable) front (raised v high (take i cube)) e
+raised_before v high cube i d front r h e =
+    All-same (λ (l : Literal). l.variable < (get_or cube i d).variable) front (raised v high (take i cube)) e
     (raised-all v high (λ u. u < (get_or cube i d).variable) (take i cube) (before_next cube i d r h))

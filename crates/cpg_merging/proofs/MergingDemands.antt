@@ -1,5 +1,6 @@
 -- Columns don't touch if those of one time ask equally much.
-use Rattle.std.proofs.Common.{ℕ, zero, suc, ◌+◌, ◌-◌, ◌*◌, ◌/◌, ◌%◌, ◌^◌, ◌<◌, ◌≤◌, ◌≡◌, Bool, true, false, cond, nat_lt, List, length, get_or, map, sum_by, Contains, IsPermutation, arith, refl, sym}
+use Rattle.std.proofs.Common.{ℕ, zero, suc, ◌+◌, ◌-◌, ◌*◌, ◌/◌, ◌%◌, ◌^◌, ◌<◌, ◌≤◌, ◌≡◌, Bool, true, false, cond}
+use Rattle.std.proofs.Common.{nat_lt, List, length, get_or, map, sum_by, Contains, IsPermutation, arith, refl, sym}
 use Rattle.std.proofs.Common.{ap, ◌∙◌, subst, inl, inr}
 use Rattle.std.specs.Bool.{OnFalse}
 use Rattle.std.proofs.lemmas.Bool.{cases_lt}
@@ -23,17 +24,22 @@ use Rattle.cpg_merging.proofs.MergingTotals.{of_range, spoken, sum_parts}
 
 -- neighbours before a place are equal if their times are
 abbrev pub NeighboursAgree : List ℕ → ℕ → Type 0
-NeighboursAgree ns n = (i : ℕ) → i + 1 < n → get_or ns i 0 / 256 ≡ get_or ns (i + 1) 0 / 256 → get_or ns i 0 ≡ get_or ns (i + 1) 0
+NeighboursAgree ns n =
+    (i : ℕ) → i + 1 < n → get_or ns i 0 / 256 ≡ get_or ns (i + 1) 0 / 256 → get_or ns i 0 ≡ get_or ns (i + 1) 0
 
-agree_on : (ns : List ℕ) → DoNotFall ns → NeighboursAgree ns (length ns) → (d i : ℕ) → i + d < length ns → get_or ns i 0 / 256 ≡ get_or ns (i + d) 0 / 256 → get_or ns i 0 ≡ get_or ns (i + d) 0
+agree_on : (ns : List ℕ) → DoNotFall ns → NeighboursAgree ns (length ns) → (d i : ℕ) → i + d < length ns →
+    get_or ns i 0 / 256 ≡ get_or ns (i + d) 0 / 256 →
+    get_or ns i 0 ≡ get_or ns (i + d) 0
 agree_on ns up near zero i within same = let e : i ≡ i + zero = omega arith in ap (λ (x : ℕ). get_or ns x 0) e
 agree_on ns up near (suc d) i within same =
     let first : get_or ns i 0 ≤ get_or ns (i + 1) 0 = up i (i + 1) (omega arith) (omega (arith, within)) in
     let last : get_or ns (i + 1) 0 ≤ get_or ns (i + suc d) 0 = up (i + 1) (i + suc d) (omega arith) within in
-    let next : get_or ns i 0 ≡ get_or ns (i + 1) 0 = near i (omega (arith, within)) (omega (arith, first, last, same)) in
+    let next : get_or ns i 0 ≡ get_or ns (i + 1) 0 =
+    near i (omega (arith, within)) (omega (arith, first, last, same)) in
     let at : i + 1 + d ≡ i + suc d = omega arith in
     let later : get_or ns (i + 1) 0 / 256 ≡ get_or ns (i + suc d) 0 / 256 = omega (arith, first, last, same) in
-    next ∙ agree_on ns up near d (i + 1) (omega (arith, within)) (later ∙ ap (λ (x : ℕ). get_or ns x 0 / 256) (sym at)) ∙ ap (λ (x : ℕ). get_or ns x 0) at
+    next ∙ agree_on ns up near d (i + 1) (omega (arith, within)) (later ∙ ap (λ (x : ℕ). get_or ns x 0 / 256) (sym at))
+    ∙ ap (λ (x : ℕ). get_or ns x 0) at
 
 -- so none differ
 pub all_agree : (ns : List ℕ) → DoNotFall ns → NeighboursAgree ns (length ns) → AgreeByTime ns
@@ -41,14 +47,17 @@ all_agree ns up near m n a b same =
     let e : get_or ns a.0 0 ≡ m = sym (get_or_default ns a.0 m 0 a.1) ∙ a.2 in
     let f : get_or ns b.0 0 ≡ n = sym (get_or_default ns b.0 n 0 b.1) ∙ b.2 in
     elim (cases_lt a.0 b.0) [
-      | inl h ↦ sym e ∙ at a.0 b.0 (omega (arith, h)) b.1 (ap (λ (x : ℕ). x / 256) e ∙ same ∙ sym (ap (λ (x : ℕ). x / 256) f)) ∙ f
-      | inr h ↦ sym e ∙ sym (at b.0 a.0 h a.1 (ap (λ (x : ℕ). x / 256) f ∙ sym same ∙ sym (ap (λ (x : ℕ). x / 256) e))) ∙ f
+      | inl h ↦ sym e
+          ∙ at a.0 b.0 (omega (arith, h)) b.1 (ap (λ (x : ℕ). x / 256) e ∙ same ∙ sym (ap (λ (x : ℕ). x / 256) f)) ∙ f
+      | inr h ↦ sym e
+          ∙ sym (at b.0 a.0 h a.1 (ap (λ (x : ℕ). x / 256) f ∙ sym same ∙ sym (ap (λ (x : ℕ). x / 256) e))) ∙ f
     ]
   where
     at : (i j : ℕ) → i ≤ j → j < length ns → get_or ns i 0 / 256 ≡ get_or ns j 0 / 256 → get_or ns i 0 ≡ get_or ns j 0
     at i j h within k =
         let is : i + (j - i) ≡ j = omega (arith, h) in
-        subst (λ (x : ℕ). get_or ns i 0 ≡ get_or ns x 0) is (agree_on ns up near (j - i) i (omega (arith, h, within)) (k ∙ ap (λ (x : ℕ). get_or ns x 0 / 256) (sym is)))
+        subst (λ (x : ℕ). get_or ns i 0 ≡ get_or ns x 0) is (agree_on ns up near (j - i) i (omega (arith, h, within))
+        (k ∙ ap (λ (x : ℕ). get_or ns x 0 / 256) (sym is)))
 
 -- ---- columns that touch
 
@@ -56,7 +65,8 @@ all_agree ns up near m n a b same =
 same_asked : (t a b : ℕ) → a < 256 → b < 256 → (t * 256 % 2 ^ 64 + a) % 2 ^ 64 ≡ (t * 256 % 2 ^ 64 + b) % 2 ^ 64 → a ≡ b
 same_asked t a b h k e = omega (arith, h, k, e)
 
-same_time : (t a b : ℕ) → a < 256 → b < 256 → (t * 256 % 2 ^ 64 + a) % 2 ^ 64 / 256 ≡ (t * 256 % 2 ^ 64 + b) % 2 ^ 64 / 256
+same_time : (t a b : ℕ) → a < 256 → b < 256 →
+    (t * 256 % 2 ^ 64 + a) % 2 ^ 64 / 256 ≡ (t * 256 % 2 ^ 64 + b) % 2 ^ 64 / 256
 same_time t a b h k = omega (arith, h, k)
 
 module _ (g : Graph) (few : process_count g ≤ 128) (faults : g.faults ≤ 8) (v : ℕ) (known : IsVariable g v) where
@@ -67,7 +77,8 @@ module _ (g : Graph) (few : process_count g ≤ 128) (faults : g.faults ≤ 8) (
       go true = faults
       go false = omega arith
 
-  touch_agree : (c d : Column) → IsGood g c.cube → IsGood g d.cube → c.time ≡ d.time → TouchAt g.faults v c.cube d.cube → (demand_of c / 256 ≡ demand_of d / 256 → demand_of c ≡ demand_of d) → ⊥
+  touch_agree : (c d : Column) → IsGood g c.cube → IsGood g d.cube → c.time ≡ d.time →
+      TouchAt g.faults v c.cube d.cube → (demand_of c / 256 ≡ demand_of d / 256 → demand_of c ≡ demand_of d) → ⊥
   touch_agree c d good_c good_d same touch agree =
       let k = g.faults in
       let next : high_in k c.cube v + 1 ≡ low_in d.cube v = touch.next in
@@ -76,28 +87,38 @@ module _ (g : Graph) (few : process_count g ≤ 128) (faults : g.faults ≤ 8) (
       let high_d = high_in-top k d.cube (λ i e l. (good_d.narrow i e l).1) v in
       let lc : Contains c.cube (of_range k c.cube v) = spoken k c.cube v (inr (omega (arith, next, low_d, high_d))) in
       let ld : Contains d.cube (of_range k d.cube v) = spoken k d.cube v (inl (omega (arith, next))) in
-      let sum_c : sum_by low_of c.cube ≡ sum_by low_of (without v c.cube) + low_in c.cube v = sum_parts low_of v c.cube good_c.cube.rising (of_range k c.cube v) lc refl in
-      let sum_d : sum_by low_of d.cube ≡ sum_by low_of (without v d.cube) + low_in d.cube v = sum_parts low_of v d.cube good_d.cube.rising (of_range k d.cube v) ld refl in
+      let sum_c : sum_by low_of c.cube ≡ sum_by low_of (without v c.cube) + low_in c.cube v =
+      sum_parts low_of v c.cube good_c.cube.rising (of_range k c.cube v) lc refl in
+      let sum_d : sum_by low_of d.cube ≡ sum_by low_of (without v d.cube) + low_in d.cube v =
+      sum_parts low_of v d.cube good_d.cube.rising (of_range k d.cube v) ld refl in
       let others = ap (sum_by low_of) (same_without g few v known c.cube d.cube good_c good_d touch.others) in
-      apart c.time d.time (sum_by low_of c.cube) (sum_by low_of d.cube) (sum_by low_of (without v d.cube)) (low_in c.cube v) (low_in d.cube v) same
-      (sum_c ∙ ap (λ (w : ℕ). w + low_in c.cube v) others) sum_d (omega (arith, low_c, next)) (omega (arith, low_d, high_d, top_small)) agree
+      apart c.time d.time (sum_by low_of c.cube) (sum_by low_of d.cube) (sum_by low_of (without v d.cube))
+      (low_in c.cube v) (low_in d.cube v) same
+      (sum_c ∙ ap (λ (w : ℕ). w + low_in c.cube v) others) sum_d (omega (arith, low_c, next))
+      (omega (arith, low_d, high_d, top_small)) agree
     where
       apart : (t u a b w low high : ℕ) → t ≡ u → a ≡ w + low → b ≡ w + high → low < high → high ≤ 8
-          → ((t * 256 % 2 ^ 64 + a % 256) % 2 ^ 64 / 256 ≡ (u * 256 % 2 ^ 64 + b % 256) % 2 ^ 64 / 256 → (t * 256 % 2 ^ 64 + a % 256) % 2 ^ 64 ≡ (u * 256 % 2 ^ 64 + b % 256) % 2 ^ 64) → ⊥
+          → ((t * 256 % 2 ^ 64 + a % 256) % 2 ^ 64 / 256 ≡ (u * 256 % 2 ^ 64 + b % 256) % 2 ^ 64 / 256 →
+          (t * 256 % 2 ^ 64 + a % 256) % 2 ^ 64 ≡ (u * 256 % 2 ^ 64 + b % 256) % 2 ^ 64) → ⊥
       apart t u a b w low high e f h less small agree =
           let asked = same_asked t (a % 256) (b % 256) (omega arith) (omega arith)
-          (agree (same_time t (a % 256) (b % 256) (omega arith) (omega arith) ∙ ap (λ (x : ℕ). (x * 256 % 2 ^ 64 + b % 256) % 2 ^ 64 / 256) e) ∙
+          (agree (same_time t (a % 256) (b % 256) (omega arith) (omega arith)
+          ∙ ap (λ (x : ℕ). (x * 256 % 2 ^ 64 + b % 256) % 2 ^ 64 / 256) e) ∙
           ap (λ (x : ℕ). (x * 256 % 2 ^ 64 + b % 256) % 2 ^ 64) (sym e)) in
           omega (arith, asked, f, h, less, small)
 
   -- so no variable needs a mark
-  pub settled_by_demands : (xs : List Column) → AreGood g xs → AgreeByTime (map demand_of xs) → IsSettledOn g.faults v xs
-  settled_by_demands xs good agree c d m n e t = touch_agree c d (All-contains (λ (x : Column). IsGood g x.cube) xs c good m) (All-contains (λ (x : Column). IsGood g x.cube) xs d good n) e t
+  pub settled_by_demands : (xs : List Column) → AreGood g xs → AgreeByTime (map demand_of xs) →
+      IsSettledOn g.faults v xs
+  settled_by_demands xs good agree c d m n e t =
+      touch_agree c d (All-contains (λ (x : Column). IsGood g x.cube) xs c good m)
+      (All-contains (λ (x : Column). IsGood g x.cube) xs d good n) e t
       (agree (demand_of c) (demand_of d) (Contains-map demand_of xs c m) (Contains-map demand_of xs d n))
 
 -- demands agree in any order
 pub agree_sorted : (ns sorted : List ℕ) → IsPermutation ns sorted → AgreeByTime sorted → AgreeByTime ns
-agree_sorted ns sorted p h m n c d same = h m n (Contains-permutation ns sorted m p c) (Contains-permutation ns sorted n p d) same
+agree_sorted ns sorted p h m n c d same =
+    h m n (Contains-permutation ns sorted m p c) (Contains-permutation ns sorted n p d) same
 
 -- what a test tells if it fails tells what follows from it
 pub off_weaker : {P Q : Type 0} (b : Bool) → (P → Q) → OnFalse b P → OnFalse b Q

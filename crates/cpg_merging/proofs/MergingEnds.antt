@@ -1,6 +1,7 @@
 -- From settled columns in order to what merging columns gives.
 use Rattle.std.specs.Result.{IfOk}
-use Rattle.std.proofs.Common.{ℕ, ◌<◌, ◌≤◌, ◌≡◌, ◌≢◌, ◌⊎◌, true, false, Result, Ok, Err, List, [], ◌∷◌, length, filter, get_or, Contains, IsPermutation, arith, refl, sym, ap, ap₂, ◌∙◌, subst, subst₂}
+use Rattle.std.proofs.Common.{ℕ, ◌<◌, ◌≤◌, ◌≡◌, ◌≢◌, ◌⊎◌, true, false, Result, Ok, Err, List, [], ◌∷◌, length, filter}
+use Rattle.std.proofs.Common.{get_or, Contains, IsPermutation, arith, refl, sym, ap, ap₂, ◌∙◌, subst, subst₂}
 use Rattle.std.proofs.Common.{⊎_elim, inl, inr}
 use Rattle.std.specs.Prelude.{IsTrue}
 use Rattle.std.proofs.lemmas.Bool.{cases_Bool, cases_eq, cases_lt}
@@ -9,7 +10,8 @@ use Rattle.std.proofs.lemmas.List.Elements.{All-contains}
 use Rattle.std.proofs.lemmas.Option.{slice_get_within}
 use Rattle.cpg_base.specs.Numbers.{numbers_below, is_below}
 use Rattle.cpg_base.specs.Graph.{Graph, process_count, IsVariable}
-use Rattle.cpg_base.proofs.Lists.{Contains-first, Contains-rest, Contains-cases, Contains-nil, Contains-filter, Contains-filter_parts, Contains-map, Contains-map_parts, Contains-slice_get}
+use Rattle.cpg_base.proofs.Lists.{Contains-first, Contains-rest, Contains-cases, Contains-nil, Contains-filter}
+use Rattle.cpg_base.proofs.Lists.{Contains-filter_parts, Contains-map, Contains-map_parts, Contains-slice_get}
 use Rattle.std.proofs.lemmas.List.Sorted.{IsPermutation-sym, Contains-permutation}
 use Rattle.cpg_base.specs.Scenario.{Scenario, IsScenario, is_before, key}
 use Rattle.cpg_base.proofs.ScenarioOrder.{before_total}
@@ -28,24 +30,28 @@ use Rattle.cpg_merging.specs.Merging.{all_shorn, IsJoinOf, TouchAt, AreSettled}
 use Rattle.cpg_merging.proofs.MergingPairs.{IsGood, matches_wider}
 use Rattle.cpg_merging.proofs.MergingLists.{AreGood, joins_through}
 use Rattle.cpg_merging.proofs.MergingSettled.{pairs_apart, share}
-use Rattle.cpg_merging.proofs.MergingSteps.{AreSingle, good_of, good_permuted, single_permuted, joins_permuted, joins_shorn}
+use Rattle.cpg_merging.proofs.MergingSteps.{AreSingle, good_of, good_permuted, single_permuted, joins_permuted}
+use Rattle.cpg_merging.proofs.MergingSteps.{joins_shorn}
 
 -- ---- literals
 
 -- a cube speaks of a variable, or has its whole range
-speaks : (k : ℕ) (cube : List Literal) (v : ℕ) → ((m : Literal) × Contains cube m × (m.variable ≡ v)) ⊎ ((low_in cube v ≡ 0) × (high_in k cube v ≡ top k v))
+speaks : (k : ℕ) (cube : List Literal) (v : ℕ) →
+    ((m : Literal) × Contains cube m × (m.variable ≡ v)) ⊎ ((low_in cube v ≡ 0) × (high_in k cube v ≡ top k v))
 speaks k [] v = inr (refl, refl)
 speaks k (l ∷ ls) v = ⊎_elim
     (λ (e : l.variable ≡ v). inl (l, Contains-first l ls, e))
     (λ (n : l.variable ≢ v). ⊎_elim
     (λ (r : (m : Literal) × Contains ls m × (m.variable ≡ v)). inl (r.0, Contains-rest l ls r.0 r.1, r.2))
-    (λ (r : (low_in ls v ≡ 0) × (high_in k ls v ≡ top k v)). inr (low_in-later l ls v n ∙ r.0, high_in-later k l ls v n ∙ r.1))
+    (λ (r : (low_in ls v ≡ 0) × (high_in k ls v ≡ top k v)).
+    inr (low_in-later l ls v n ∙ r.0, high_in-later k l ls v n ∙ r.1))
     (speaks k ls v))
     (cases_eq l.variable v)
 
 known_by_low : (g : Graph) (cube : List Literal) (v : ℕ) → IsCube g cube → 0 < low_in cube v → IsVariable g v
 known_by_low g cube v is h = ⊎_elim
-    (λ (r : (m : Literal) × Contains cube m × (m.variable ≡ v)). subst (IsVariable g) r.2 (All-contains (λ (x : Literal). IsVariable g x.variable) cube r.0 is.known r.1))
+    (λ (r : (m : Literal) × Contains cube m × (m.variable ≡ v)).
+    subst (IsVariable g) r.2 (All-contains (λ (x : Literal). IsVariable g x.variable) cube r.0 is.known r.1))
     (λ (r : (low_in cube v ≡ 0) × (high_in g.faults cube v ≡ top g.faults v)). let e = r.0 in absurd (omega arith))
     (speaks g.faults cube v)
 
@@ -54,12 +60,15 @@ known_by_low g cube v is h = ⊎_elim
 one_element : {X : Type 0} (xs : List X) (x y : X) → length xs ≤ 1 → Contains xs x → Contains xs y → x ≡ y
 one_element [] x y h c d = absurd (Contains-nil x c)
 one_element (z ∷ []) x y h c d = ⊎_elim
-    (λ (e : z ≡ x). ⊎_elim (λ (f : z ≡ y). sym e ∙ f) (λ (n : Contains [] y). absurd (Contains-nil y n)) (Contains-cases z [] y d))
+    (λ (e : z ≡ x).
+    ⊎_elim (λ (f : z ≡ y). sym e ∙ f) (λ (n : Contains [] y). absurd (Contains-nil y n)) (Contains-cases z [] y d))
     (λ (n : Contains [] x). absurd (Contains-nil x n))
     (Contains-cases z [] x c)
 one_element (z ∷ w ∷ xs) x y h c d = absurd (omega arith)
 
-pub one_column : (columns : List Column) (s : Scenario) (c d : Column) → length (times_in columns s) ≤ 1 → Contains columns c → Contains columns d → matches c.cube s ≡ true →
+pub one_column : (columns : List Column) (s : Scenario) (c d : Column) → length (times_in columns s) ≤ 1 →
+    Contains columns c → Contains columns d →
+    matches c.cube s ≡ true →
     matches d.cube s ≡ true → c ≡ d
 one_column columns s c d h m n x y = one_element (filter (λ (z : Column). matches z.cube s) columns) c d
     (let e = length-map (filter (λ (z : Column). matches z.cube s) columns) (λ (z : Column). z.time) in omega arith)
@@ -67,11 +76,14 @@ one_column columns s c d h m n x y = one_element (filter (λ (z : Column). match
     (Contains-filter (λ (z : Column). matches z.cube s) columns d y n)
 
 -- a column that matches gives its time
-time_there : (columns : List Column) (s : Scenario) (c : Column) → Contains columns c → matches c.cube s ≡ true → Contains (times_in columns s) c.time
-time_there columns s c m x = Contains-map (λ (z : Column). z.time) (filter (λ (z : Column). matches z.cube s) columns) c (Contains-filter (λ (z : Column). matches z.cube s) columns c x m)
+time_there : (columns : List Column) (s : Scenario) (c : Column) → Contains columns c → matches c.cube s ≡ true →
+    Contains (times_in columns s) c.time
+time_there columns s c m x = Contains-map (λ (z : Column). z.time) (filter (λ (z : Column). matches z.cube s) columns) c
+    (Contains-filter (λ (z : Column). matches z.cube s) columns c x m)
 
 -- a time is one of a column that matches
-column_there : (columns : List Column) (s : Scenario) (t : ℕ) → Contains (times_in columns s) t → (c : Column) × Contains columns c × (matches c.cube s ≡ true)
+column_there : (columns : List Column) (s : Scenario) (t : ℕ) → Contains (times_in columns s) t →
+    (c : Column) × Contains columns c × (matches c.cube s ≡ true)
 column_there columns s t m =
     let r = Contains-map_parts (λ (z : Column). z.time) (filter (λ (z : Column). matches z.cube s) columns) t m in
     let q = Contains-filter_parts (λ (z : Column). matches z.cube s) columns r.0 r.1 in
@@ -85,18 +97,21 @@ at_number (x ∷ xs) (ℕ.suc i) c d e = at_number xs i c d e
 
 -- ---- the end
 
-module _ (g : Graph) (few : process_count g ≤ 128) (order : List ℕ) (all : IsPermutation (numbers_below (process_count g)) order)
+module _ (g : Graph) (few : process_count g ≤ 128) (order : List ℕ)
+    (all : IsPermutation (numbers_below (process_count g)) order)
     (columns : List Column) (good : AreGood g columns) (single : AreSingle g columns) where
   good_at : (c : Column) → Contains columns c → IsGood g c.cube
   good_at c m = All-contains (λ (x : Column). IsGood g x.cube) columns c good m
 
-  apart_at : (i j : ℕ) (c d : Column) → i < j → IsColumn columns i c → IsColumn columns j d → (s : Scenario) → IsScenario g s → matches c.cube s ≡ true → matches d.cube s ≡ true → ⊥
+  apart_at : (i j : ℕ) (c d : Column) → i < j → IsColumn columns i c → IsColumn columns j d → (s : Scenario) →
+      IsScenario g s → matches c.cube s ≡ true → matches d.cube s ≡ true → ⊥
   apart_at i j c d l x y s is t u = pairs_apart g columns single i j c l (slice_get_within columns j d y) s is
       (subst (λ (z : Column). matches z.cube s ≡ true) (sym (at_number columns i c c x)) t)
       (subst (λ (z : Column). matches z.cube s ≡ true) (sym (at_number columns j d c y)) u)
 
   pub are_met : AreMet g order columns
-  are_met = λ k d l. let x = good k d l in (lows g (get_or columns k d).cube, lows-least g few (get_or columns k d).cube x.cube x.met order)
+  are_met = λ k d l. let x = good k d l in
+      (lows g (get_or columns k d).cube, lows-least g few (get_or columns k d).cube x.cube x.met order)
 
   pub are_ordered : AreByLows (λ (c : Column). c.cube) g order columns → AreOrdered g order columns
   are_ordered up = λ i j c d s t l x y p q.
@@ -107,10 +122,13 @@ module _ (g : Graph) (few : process_count g ≤ 128) (order : List ℕ) (all : I
       let e = least_match g few order c.cube s all good_c.cube p in
       let f = least_match g few order d.cube t all good_d.cube q in
       let h : is_below (lows_along g order (low_in d.cube)) (lows_along g order (low_in c.cube)) ≡ false =
-      subst₂ (λ (a b : Column). is_below (lows_along g order (low_in b.cube)) (lows_along g order (low_in a.cube)) ≡ false) (at_number columns i c c x) (at_number columns j d c y)
+      subst₂
+      (λ (a b : Column). is_below (lows_along g order (low_in b.cube)) (lows_along g order (low_in a.cube)) ≡ false)
+      (at_number columns i c c x) (at_number columns j d c y)
       (up i j c l (slice_get_within columns j d y)) in
       let back : is_before g order t s ≡ false =
-      ap₂ is_below (ap (key g order) f ∙ sym (lows_are_key g few d.cube good_d.met order all)) (ap (key g order) e ∙ sym (lows_are_key g few c.cube good_c.met order all)) ∙ h in
+      ap₂ is_below (ap (key g order) f ∙ sym (lows_are_key g few d.cube good_d.met order all))
+      (ap (key g order) e ∙ sym (lows_are_key g few c.cube good_c.met order all)) ∙ h in
       ⊎_elim
       (λ (b : is_before g order s t ≡ true). b)
       (λ (b : is_before g order s t ≡ false).
@@ -118,65 +136,86 @@ module _ (g : Graph) (few : process_count g ≤ 128) (order : List ℕ) (all : I
       absurd (apart_at i j c d l x y s p.lawful p.holds (subst (λ z. matches d.cube z ≡ true) (sym same) q.holds)))
       (cases_Bool (is_before g order s t))
 
-  pub is_merged : ((v : ℕ) → IsVariable g v → (c d : Column) → Contains columns c → Contains columns d → c.time ≡ d.time → TouchAt g.faults v c.cube d.cube → ⊥) → IsMerged g columns
+  pub is_merged : ((v : ℕ) → IsVariable g v → (c d : Column) → Contains columns c → Contains columns d →
+      c.time ≡ d.time → TouchAt g.faults v c.cube d.cube → ⊥) →
+      IsMerged g columns
   is_merged settled = λ i j v c d l x y e differ.
       let m = Contains-slice_get columns i c x in
       let n = Contains-slice_get columns j d y in
       let good_c = good_at c m in
       let good_d = good_at d n in
       let away = apart_at i j c d l x y in
-      let back : (u : ℕ) → u ≢ v → (low_in d.cube u ≡ low_in c.cube u) × (high_in g.faults d.cube u ≡ high_in g.faults c.cube u) = λ u o. let r = differ.others u o in (sym r.0, sym r.1) in
+      let back : (u : ℕ) → u ≢ v →
+      (low_in d.cube u ≡ low_in c.cube u) × (high_in g.faults d.cube u ≡ high_in g.faults c.cube u) =
+      λ u o. let r = differ.others u o in (sym r.0, sym r.1) in
       ⊎_elim
       (λ (h : high_in g.faults c.cube v < low_in d.cube v).
       let t = differ.touch_below in
-      settled v (known_by_low g d.cube v good_d.cube (omega arith)) c d m n e (record { others = differ.others; next = omega arith }))
+      settled v (known_by_low g d.cube v good_d.cube (omega arith)) c d m n e
+      (record { others = differ.others; next = omega arith }))
       (λ (h : low_in d.cube v ≤ high_in g.faults c.cube v). ⊎_elim
       (λ (k : high_in g.faults d.cube v < low_in c.cube v).
       let t = differ.touch_above in
-      settled v (known_by_low g c.cube v good_c.cube (omega arith)) d c n m (sym e) (record { others = back; next = omega arith }))
+      settled v (known_by_low g c.cube v good_c.cube (omega arith)) d c n m (sym e)
+      (record { others = back; next = omega arith }))
       (λ (k : low_in c.cube v ≤ high_in g.faults d.cube v). ⊎_elim
-      (λ (z : low_in c.cube v < low_in d.cube v). let r = share g few v c.cube d.cube good_c good_d differ.others (omega arith) h in away r.0 r.1 r.2 r.3)
-      (λ (z : low_in d.cube v ≤ low_in c.cube v). let r = share g few v d.cube c.cube good_d good_c back z k in away r.0 r.1 r.3 r.2)
+      (λ (z : low_in c.cube v < low_in d.cube v).
+      let r = share g few v c.cube d.cube good_c good_d differ.others (omega arith) h in
+      away r.0 r.1 r.2 r.3)
+      (λ (z : low_in d.cube v ≤ low_in c.cube v). let r = share g few v d.cube c.cube good_d good_c back z k in
+      away r.0 r.1 r.3 r.2)
       (cases_lt (low_in c.cube v) (low_in d.cube v)))
       (cases_lt (high_in g.faults d.cube v) (low_in c.cube v)))
       (cases_lt (high_in g.faults c.cube v) (low_in d.cube v))
 
   module _ (entries : List Column) (joins : IsJoinOf g entries columns) where
-    pub is_wider : (s : Scenario) (e c : Column) → IsScenario g s → Contains entries e → Contains columns c → matches e.cube s ≡ true → matches c.cube s ≡ true → IsWider g.faults c.cube e.cube
+    pub is_wider : (s : Scenario) (e c : Column) → IsScenario g s → Contains entries e → Contains columns c →
+        matches e.cube s ≡ true → matches c.cube s ≡ true →
+        IsWider g.faults c.cube e.cube
     is_wider s e c i m n x y =
         let r = joins.held e m in
         let t = matches_wider g few r.0.cube e.cube s i (good_at r.0 r.1).cube r.3 x in
         subst (λ (z : Column). IsWider g.faults z.cube e.cube) (one_column columns s r.0 c (single s i) r.1 n t y) r.3
 
     pub is_spoken : (c : Column) (l : Literal) → Contains columns c → Contains c.cube l →
-        (s : Scenario) × (e : Column) × (m : Literal) × IsScenario g s × Contains entries e × IsTrue (matches e.cube s) × IsTrue (matches c.cube s) × Contains e.cube m × (m.variable ≡ l.variable)
+        (s : Scenario) × (e : Column) × (m : Literal) × IsScenario g s × Contains entries e ×
+        IsTrue (matches e.cube s) × IsTrue (matches c.cube s) × Contains e.cube m × (m.variable ≡ l.variable)
     is_spoken c l m n =
         let good_c = good_at c m in
         let s = lows g c.cube in
         let i = lows-lawful g few c.cube good_c.cube good_c.met in
         let t = lows-match g few c.cube good_c.cube good_c.met in
-        let r = column_there entries s c.time (subst (λ ts. Contains ts c.time) (joins.times s i) (time_there columns s c m t)) in
+        let r = column_there entries s c.time
+        (subst (λ ts. Contains ts c.time) (joins.times s i) (time_there columns s c m t)) in
         let w = is_wider s r.0 c i r.1 m r.2 t l.variable in
         let range = range_of_literal g.faults c.cube l good_c.cube.rising n in
-        let o = All-contains (λ (x : Literal). (is_whole g.faults x ≡ false) × (x.high ≤ top g.faults x.variable)) c.cube l good_c.narrow n in
+        let o = All-contains (λ (x : Literal). (is_whole g.faults x ≡ false) × (x.high ≤ top g.faults x.variable))
+        c.cube l good_c.narrow n in
         ⊎_elim
-        (λ (q : (x : Literal) × Contains r.0.cube x × (x.variable ≡ l.variable)). (s, r.0, q.0, i, r.1, r.2, t, q.1, q.2))
+        (λ (q : (x : Literal) × Contains r.0.cube x × (x.variable ≡ l.variable)).
+        (s, r.0, q.0, i, r.1, r.2, t, q.1, q.2))
         (λ (q : (low_in r.0.cube l.variable ≡ 0) × (high_in g.faults r.0.cube l.variable ≡ top g.faults l.variable)).
         let x = narrow g.faults l o.0 o.1 in
         let a = q.0 in
         let b = q.1 in
-        absurd (⊎_elim (λ (h : 0 < l.low). let z : ⊥ = omega arith in z) (λ (h : l.high < top g.faults l.variable). let z : ⊥ = omega arith in z) x))
+        absurd (⊎_elim (λ (h : 0 < l.low). let z : ⊥ = omega arith in z)
+        (λ (h : l.high < top g.faults l.variable). let z : ⊥ = omega arith in z) x))
         (speaks g.faults r.0.cube l.variable)
 
 -- entries without their whole literals, joined, and put in order
-pub merge_of : (g : Graph) → process_count g ≤ 128 → (order : List ℕ) → IsPermutation (numbers_below (process_count g)) order → (entries columns ordered : List Column) → AreMergeable g entries →
-    AreSettled g (all_shorn g.faults entries) columns → IsPermutation columns ordered → AreByLows (λ (c : Column). c.cube) g order ordered → IsMergeOf g order entries ordered
+pub merge_of : (g : Graph) → process_count g ≤ 128 → (order : List ℕ) →
+    IsPermutation (numbers_below (process_count g)) order → (entries columns ordered : List Column) →
+    AreMergeable g entries →
+    AreSettled g (all_shorn g.faults entries) columns → IsPermutation columns ordered →
+    AreByLows (λ (c : Column). c.cube) g order ordered → IsMergeOf g order entries ordered
 merge_of g few order all entries columns ordered mergeable settled p up =
     let good = good_permuted g few columns ordered p (good_of g few columns settled.good) in
     let single = single_permuted g few columns ordered p settled.good.good.apart in
-    let joins = joins_through g entries columns ordered (joins_through g entries (all_shorn g.faults entries) columns (joins_shorn g few entries mergeable) settled.joins)
+    let joins = joins_through g entries columns ordered (joins_through g entries (all_shorn g.faults entries) columns
+    (joins_shorn g few entries mergeable) settled.joins)
     (joins_permuted g few columns ordered p settled.good.good.apart) in
-    let back = λ (c : Column) (m : Contains ordered c). Contains-permutation ordered columns c (IsPermutation-sym columns ordered p) m in
+    let back = λ (c : Column) (m : Contains ordered c).
+    Contains-permutation ordered columns c (IsPermutation-sym columns ordered p) m in
     record {
       times = joins.times;
       wider = is_wider g few order all ordered good single entries joins;
@@ -185,11 +224,13 @@ merge_of g few order all entries columns ordered mergeable settled p up =
       not_whole = λ k d l i e m. ((good k d l).narrow i e m).0;
       met = are_met g few order all ordered good single;
       ordered = are_ordered g few order all ordered good single up;
-      merged = is_merged g few order all ordered good single (λ v known c d m n. settled.settled v known c d (back c m) (back d n));
+      merged = is_merged g few order all ordered good single
+          (λ v known c d m n. settled.settled v known c d (back c m) (back d n));
       spoken = is_spoken g few order all ordered good single entries joins;
     }
 
 -- two facts of what is there if all went well
-pub if_ok_both : {T E : Type 0} (r : Result T E) (P Q R : T → Type 0) → ((x : T) → P x → Q x → R x) → IfOk r P → IfOk r Q → IfOk r R
+pub if_ok_both : {T E : Type 0} (r : Result T E) (P Q R : T → Type 0) → ((x : T) → P x → Q x → R x) → IfOk r P →
+    IfOk r Q → IfOk r R
 if_ok_both (Ok x) P Q R h p q = h x p q
 if_ok_both (Err e) P Q R h p q = tt

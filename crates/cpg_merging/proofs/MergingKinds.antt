@@ -1,5 +1,6 @@
 -- Columns that touch are of one kind and ask differently much, so that both are candidates.
-use Rattle.std.proofs.Common.{ℕ, ◌+◌, ◌%◌, ◌<◌, ◌≤◌, ◌≡◌, ◌≢◌, Bool, true, false, List, length, get_or, filter, map, sum_by, Contains, arith, refl, sym, ap, ◌∙◌, subst, inl, inr, true≢false}
+use Rattle.std.proofs.Common.{ℕ, ◌+◌, ◌%◌, ◌<◌, ◌≤◌, ◌≡◌, ◌≢◌, Bool, true, false, List, length, get_or, filter, map}
+use Rattle.std.proofs.Common.{sum_by, Contains, arith, refl, sym, ap, ◌∙◌, subst, inl, inr, true≢false}
 use Rattle.std.proofs.lemmas.List.Elements.{All-contains}
 use Rattle.cpg_base.specs.Graph.{Graph, process_count, IsVariable}
 use Rattle.cpg_base.proofs.Sums.{sum_by_constant}
@@ -21,7 +22,8 @@ use Rattle.cpg_merging.proofs.MergingTotals.{of_range, spoken, sum_parts, touch_
 -- ---- which columns are chosen
 
 -- if two columns of one kind ask differently, both are chosen, since a place tells but one
-pub both_chosen : (told : List ℕ) (differing : List Bool) (columns : List Column) → length differing ≡ length told → AreTold told differing (map kind_of columns) →
+pub both_chosen : (told : List ℕ) (differing : List Bool) (columns : List Column) → length differing ≡ length told →
+    AreTold told differing (map kind_of columns) →
     HoldCandidates columns (filter (is_candidate differing) columns)
 both_chosen told differing columns long tell c d there other same apart = (
   Contains-filter (is_candidate differing) columns c (chosen c d there other same apart) there,
@@ -31,16 +33,21 @@ both_chosen told differing columns long tell c d there other same apart = (
     at : Column → ℕ
     at x = place_in (length told) (kind_of x).number
 
-    chosen : (x y : Column) → Contains columns x → Contains columns y → (kind_of x).number ≡ (kind_of y).number → (kind_of x).asked ≢ (kind_of y).asked → is_candidate differing x ≡ true
+    chosen : (x y : Column) → Contains columns x → Contains columns y → (kind_of x).number ≡ (kind_of y).number →
+        (kind_of x).asked ≢ (kind_of y).asked →
+        is_candidate differing x ≡ true
     chosen x y cx cy e n = go (is_candidate differing x) refl
       where
         go : (b : Bool) → is_candidate differing x ≡ b → b ≡ true
         go true on = refl
         go false off =
-            let off_x : ¬ IsMarked differing (at x) = λ on. true≢false (sym on ∙ ap (λ (m : ℕ). get_or differing (place_in m (kind_of x).number) false) (sym long) ∙ off) in
+            let off_x : ¬ IsMarked differing (at x) = λ on. true≢false (sym on
+            ∙ ap (λ (m : ℕ). get_or differing (place_in m (kind_of x).number) false) (sym long) ∙ off) in
             let places : at x ≡ at y = ap (place_in (length told)) e in
-            absurd (n (sym (tell (kind_of x) (Contains-map kind_of columns x cx) off_x) ∙ ap (λ (p : ℕ). get_or told p 0) places ∙
-            tell (kind_of y) (Contains-map kind_of columns y cy) (subst (λ (p : ℕ). ¬ IsMarked differing p) places off_x)))
+            absurd (n (sym (tell (kind_of x) (Contains-map kind_of columns x cx) off_x)
+            ∙ ap (λ (p : ℕ). get_or told p 0) places ∙
+            tell (kind_of y) (Contains-map kind_of columns y cy)
+            (subst (λ (p : ℕ). ¬ IsMarked differing p) places off_x)))
 
 -- ---- columns that touch
 
@@ -49,7 +56,9 @@ abbrev one_of : Literal → ℕ
 one_of l = 1
 
 module _ (g : Graph) (few : process_count g ≤ 128) (faults : g.faults ≤ 8) (v : ℕ) (known : IsVariable g v) where
-  touch_kinds : (c d : Column) → IsGood g c.cube → IsGood g d.cube → c.time ≡ d.time → TouchAt g.faults v c.cube d.cube → ((kind_of c).number ≡ (kind_of d).number) ×
+  touch_kinds : (c d : Column) → IsGood g c.cube → IsGood g d.cube → c.time ≡ d.time →
+      TouchAt g.faults v c.cube d.cube →
+      ((kind_of c).number ≡ (kind_of d).number) ×
       ((kind_of c).asked ≢ (kind_of d).asked)
   touch_kinds c d good_c good_d same touch =
       let k = g.faults in
@@ -59,47 +68,74 @@ module _ (g : Graph) (few : process_count g ≤ 128) (faults : g.faults ≤ 8) (
       let high_d = high_in-top k d.cube (λ i e l. (good_d.narrow i e l).1) v in
       let lc : Contains c.cube (of_range k c.cube v) = spoken k c.cube v (inr (omega (arith, next, low_d, high_d))) in
       let ld : Contains d.cube (of_range k d.cube v) = spoken k d.cube v (inl (omega (arith, next))) in
-      let sum_c : sum_by low_of c.cube ≡ sum_by low_of (without v c.cube) + low_in c.cube v = sum_parts low_of v c.cube good_c.cube.rising (of_range k c.cube v) lc refl in
-      let sum_d : sum_by low_of d.cube ≡ sum_by low_of (without v d.cube) + low_in d.cube v = sum_parts low_of v d.cube good_d.cube.rising (of_range k d.cube v) ld refl in
-      let count_c : sum_by one_of c.cube ≡ sum_by one_of (without v c.cube) + 1 = sum_parts one_of v c.cube good_c.cube.rising (of_range k c.cube v) lc refl in
-      let variables_c : sum_by variable_of c.cube ≡ sum_by variable_of (without v c.cube) + v = sum_parts variable_of v c.cube good_c.cube.rising (of_range k c.cube v) lc refl in
-      let variables_d : sum_by variable_of d.cube ≡ sum_by variable_of (without v d.cube) + v = sum_parts variable_of v d.cube good_d.cube.rising (of_range k d.cube v) ld refl in
-      let count_d : sum_by one_of d.cube ≡ sum_by one_of (without v d.cube) + 1 = sum_parts one_of v d.cube good_d.cube.rising (of_range k d.cube v) ld refl in
+      let sum_c : sum_by low_of c.cube ≡ sum_by low_of (without v c.cube) + low_in c.cube v =
+      sum_parts low_of v c.cube good_c.cube.rising (of_range k c.cube v) lc refl in
+      let sum_d : sum_by low_of d.cube ≡ sum_by low_of (without v d.cube) + low_in d.cube v =
+      sum_parts low_of v d.cube good_d.cube.rising (of_range k d.cube v) ld refl in
+      let count_c : sum_by one_of c.cube ≡ sum_by one_of (without v c.cube) + 1 =
+      sum_parts one_of v c.cube good_c.cube.rising (of_range k c.cube v) lc refl in
+      let variables_c : sum_by variable_of c.cube ≡ sum_by variable_of (without v c.cube) + v =
+      sum_parts variable_of v c.cube good_c.cube.rising (of_range k c.cube v) lc refl in
+      let variables_d : sum_by variable_of d.cube ≡ sum_by variable_of (without v d.cube) + v =
+      sum_parts variable_of v d.cube good_d.cube.rising (of_range k d.cube v) ld refl in
+      let count_d : sum_by one_of d.cube ≡ sum_by one_of (without v d.cube) + 1 =
+      sum_parts one_of v d.cube good_d.cube.rising (of_range k d.cube v) ld refl in
       let others = same_without g few v known c.cube d.cube good_c good_d touch.others in (
-        numbers c.time d.time (length c.cube) (length d.cube) (sum_by variable_of c.cube) (sum_by variable_of d.cube) same
-            (omega (arith, sum_by_constant 1 c.cube, sum_by_constant 1 d.cube, count_c, count_d, ap (sum_by one_of) others))
+        numbers c.time d.time (length c.cube) (length d.cube) (sum_by variable_of c.cube)
+            (sum_by variable_of d.cube) same
+            (omega (
+              arith,
+              sum_by_constant 1 c.cube,
+              sum_by_constant 1 d.cube,
+              count_c,
+              count_d,
+              ap (sum_by one_of) others,
+            ))
             (variables_c ∙ ap (λ (ls : List Literal). sum_by variable_of ls + v) others ∙ sym variables_d),
-        apart (sum_by low_of c.cube) (sum_by low_of d.cube) (sum_by low_of (without v d.cube)) (low_in c.cube v) (low_in d.cube v)
+        apart (sum_by low_of c.cube) (sum_by low_of d.cube) (sum_by low_of (without v d.cube)) (low_in c.cube v)
+            (low_in d.cube v)
             (sum_c ∙ ap (λ (ls : List Literal). sum_by low_of ls + low_in c.cube v) others) sum_d
             (omega (arith, low_c, next)) (omega (arith, low_d, high_d, top_small g few faults v known)),
       )
     where
-      numbers : (t u a b s r : ℕ) → t ≡ u → a ≡ b → s ≡ r → mixed (mixed (mixed 0 t) a) (s % 256) ≡ mixed (mixed (mixed 0 u) b) (r % 256)
-      numbers t u a b s r e f h = ap (λ (x : ℕ). mixed (mixed (mixed 0 x) a) (s % 256)) e ∙ ap (λ (x : ℕ). mixed (mixed (mixed 0 u) x) (s % 256)) f
+      numbers : (t u a b s r : ℕ) → t ≡ u → a ≡ b → s ≡ r →
+          mixed (mixed (mixed 0 t) a) (s % 256) ≡ mixed (mixed (mixed 0 u) b) (r % 256)
+      numbers t u a b s r e f h = ap (λ (x : ℕ). mixed (mixed (mixed 0 x) a) (s % 256)) e
+          ∙ ap (λ (x : ℕ). mixed (mixed (mixed 0 u) x) (s % 256)) f
           ∙ ap (λ (x : ℕ). mixed (mixed (mixed 0 u) b) (x % 256)) h
 
       apart : (a b w low high : ℕ) → a ≡ w + low → b ≡ w + high → low < high → high ≤ 8 → a % 256 ≢ b % 256
       apart a b w low high e f less small same = omega (arith, e, f, less, small, same)
 
   -- columns that touch are candidates
-  module _ (xs : List Column) (good : AreGood g xs) (c d : Column) (m : Contains xs c) (n : Contains xs d) (same : c.time ≡ d.time) (touch : TouchAt g.faults v c.cube d.cube) where
+  module _ (xs : List Column) (good : AreGood g xs) (c d : Column) (m : Contains xs c) (n : Contains xs d)
+      (same : c.time ≡ d.time) (touch : TouchAt g.faults v c.cube d.cube) where
     good_in : (x : Column) → Contains xs x → IsGood g x.cube
     good_in x h = All-contains (λ (y : Column). IsGood g y.cube) xs x good h
 
     both_held : (ys : List Column) → HoldCandidates xs ys → Contains ys c × Contains ys d
-    both_held ys hold = let kinds = touch_kinds c d (good_in c m) (good_in d n) same touch in hold c d m n kinds.0 kinds.1
+    both_held ys hold = let kinds = touch_kinds c d (good_in c m) (good_in d n) same touch in
+        hold c d m n kinds.0 kinds.1
 
-    touch_held : (ys : List Column) → HoldCandidates xs ys → (marks : List Bool) → AreMarkedBy (map total_of ys) marks ys → ¬ IsMarked marks v → ⊥
+    touch_held : (ys : List Column) → HoldCandidates xs ys → (marks : List Bool) →
+        AreMarkedBy (map total_of ys) marks ys → ¬ IsMarked marks v → ⊥
     touch_held ys hold marks all off =
         let both = both_held ys hold in
-        touch_partner g few v known c d (good_in c m) (good_in d n) same touch (map total_of ys) (Contains-map total_of ys c both.0)
+        touch_partner g few v known c d (good_in c m) (good_in d n) same touch (map total_of ys)
+        (Contains-map total_of ys c both.0)
         (λ l j i. all d l both.1 j (λ on. off (subst (IsMarked marks) i on)))
 
   -- no columns touch if there are no candidates
-  pub settled_none : (xs : List Column) → AreGood g xs → {X : Type 0} (f : X → Column) (ys : List X) → HoldCandidates xs (map f ys) → length ys ≡ 0 → IsSettledOn g.faults v xs
-  settled_none xs good f ys hold none c d m n e t = Contains-nil c (subst (λ zs. Contains (map f zs) c) (nil_from_length ys none) (both_held xs good c d m n e t (map f ys) hold).0)
+  pub settled_none : (xs : List Column) → AreGood g xs → {X : Type 0} (f : X → Column) (ys : List X) →
+      HoldCandidates xs (map f ys) → length ys ≡ 0 →
+      IsSettledOn g.faults v xs
+  settled_none xs good f ys hold none c d m n e t = Contains-nil c
+      (subst (λ zs. Contains (map f zs) c) (nil_from_length ys none) (both_held xs good c d m n e t (map f ys) hold).0)
 
 -- marks of the candidates are marks of all columns
-pub marked_by : (g : Graph) → process_count g ≤ 128 → g.faults ≤ 8 → (xs ys : List Column) → AreGood g xs → HoldCandidates xs ys → (marks : List Bool) → AreMarkedBy (map total_of ys) marks ys →
+pub marked_by : (g : Graph) → process_count g ≤ 128 → g.faults ≤ 8 → (xs ys : List Column) → AreGood g xs →
+    HoldCandidates xs ys → (marks : List Bool) →
+    AreMarkedBy (map total_of ys) marks ys →
     AreMarked g marks xs
-marked_by g few faults xs ys good hold marks all v known off c d m n e t = touch_held g few faults v known xs good c d m n e t ys hold marks all off
+marked_by g few faults xs ys good hold marks all v known off c d m n e t =
+    touch_held g few faults v known xs good c d m n e t ys hold marks all off

@@ -1,5 +1,6 @@
 -- What joins do to lists of columns, and what is left of sorted columns when neighbours that touch are made one.
-use Rattle.std.proofs.Common.{ℕ, ◌+◌, ◌<◌, ◌≤◌, ◌≡◌, ◌≢◌, ◌⊎◌, Bool, true, false, cond, ◌==◌, List, [], ◌∷◌, length, map, filter, Contains, All, Equal, arith, refl, sym, ap, ◌∙◌, subst, ⊎_elim, inl}
+use Rattle.std.proofs.Common.{ℕ, ◌+◌, ◌<◌, ◌≤◌, ◌≡◌, ◌≢◌, ◌⊎◌, Bool, true, false, cond, ◌==◌, List, [], ◌∷◌, length}
+use Rattle.std.proofs.Common.{map, filter, Contains, All, Equal, arith, refl, sym, ap, ◌∙◌, subst, ⊎_elim, inl}
 use Rattle.std.proofs.Common.{inr, eqb-true}
 use Rattle.std.specs.Ordering.{is_eq}
 use Rattle.std.proofs.lemmas.Bool.{and_parts}
@@ -13,7 +14,8 @@ use Rattle.cpg_cube.specs.Column.{Column, times_in}
 use Rattle.cpg_merging.specs.Merged.{IsWider}
 use Rattle.cpg_merging.specs.Merging.{without, beside_cmp, is_followed, joined, walked, IsJoinOf, TouchAt}
 use Rattle.cpg_merging.proofs.MergingCubes.{without-low, without-high}
-use Rattle.cpg_merging.proofs.MergingPairs.{IsGood, wider_itself, wider_through, wider_first, wider_second, apart, either, matches_first, matches_second, good_both}
+use Rattle.cpg_merging.proofs.MergingPairs.{IsGood, wider_itself, wider_through, wider_first, wider_second, apart}
+use Rattle.cpg_merging.proofs.MergingPairs.{either, matches_first, matches_second, good_both}
 use Rattle.cpg_merging.proofs.MergingOrder.{beside_equal, equal_from}
 
 -- all columns are good
@@ -36,10 +38,14 @@ module _ (g : Graph) where
   }
 
   -- one more column before two lists with the same times
-  times_cons : (c : Column) (a b : List Column) (s : Scenario) → times_in a s ≡ times_in b s → times_in (c ∷ a) s ≡ times_in (c ∷ b) s
+  times_cons : (c : Column) (a b : List Column) (s : Scenario) → times_in a s ≡ times_in b s →
+      times_in (c ∷ a) s ≡ times_in (c ∷ b) s
   times_cons c a b s e = go (matches c.cube s)
     where
-      go : (m : Bool) → map (λ (x : Column). x.time) (cond m (c ∷ filter (λ x. matches x.cube s) a) (filter (λ x. matches x.cube s) a)) ≡ map (λ (x : Column). x.time)
+      go : (m : Bool) →
+          map (λ (x : Column). x.time)
+          (cond m (c ∷ filter (λ x. matches x.cube s) a) (filter (λ x. matches x.cube s) a))
+          ≡ map (λ (x : Column). x.time)
           (cond m (c ∷ filter (λ x. matches x.cube s) b) (filter (λ x. matches x.cube s) b))
       go true = ap (λ ts. c.time ∷ ts) e
       go false = e
@@ -48,7 +54,12 @@ module _ (g : Graph) where
   joins_cons c a b h = record {
     times = λ s i. times_cons c b a s (h.times s i);
     held = λ e m. ⊎_elim
-        (λ (x : c ≡ e). (c, Contains-first c b, ap (λ (z : Column). z.time) x, subst (λ (z : Column). IsWider g.faults c.cube z.cube) x (wider_itself g.faults c.cube)))
+        (λ (x : c ≡ e). (
+          c,
+          Contains-first c b,
+          ap (λ (z : Column). z.time) x,
+          subst (λ (z : Column). IsWider g.faults c.cube z.cube) x (wider_itself g.faults c.cube),
+        ))
         (λ (x : Contains a e). let y = h.held e x in (y.0, Contains-rest c b y.0 y.1, y.2, y.3))
         (Contains-cases c a e m);
   }
@@ -56,13 +67,15 @@ module _ (g : Graph) where
 -- ---- one join
 
 -- two columns that one follows the other touch
-pub followed_parts : (k v : ℕ) (c d : Column) → is_followed k v c d ≡ true → (beside_cmp v c d ≡ Equal) × (high_in k c.cube v + 1 ≡ low_in d.cube v)
+pub followed_parts : (k v : ℕ) (c d : Column) → is_followed k v c d ≡ true →
+    (beside_cmp v c d ≡ Equal) × (high_in k c.cube v + 1 ≡ low_in d.cube v)
 followed_parts k v c d h =
     let r = and_parts (is_eq (beside_cmp v c d)) (high_in k c.cube v + 1 == low_in d.cube v) h in
     (equal_from (beside_cmp v c d) r.0, eqb-true (high_in k c.cube v + 1) (low_in d.cube v) r.1)
 
 -- columns that tie have the same ranges of other variables
-pub ranges_beside : (k v : ℕ) (a b : List Literal) → without v a ≡ without v b → (u : ℕ) → u ≢ v → (low_in a u ≡ low_in b u) × (high_in k a u ≡ high_in k b u)
+pub ranges_beside : (k v : ℕ) (a b : List Literal) → without v a ≡ without v b → (u : ℕ) → u ≢ v →
+    (low_in a u ≡ low_in b u) × (high_in k a u ≡ high_in k b u)
 ranges_beside k v a b e u n = (
   sym (without-low v a u n) ∙ ap (λ ls. low_in ls u) e ∙ without-low v b u n,
   sym (without-high v k a u n) ∙ ap (λ ls. high_in k ls u) e ∙ without-high v k b u n,
@@ -77,7 +90,9 @@ pub time_of : (k v : ℕ) (c d : Column) → is_followed k v c d ≡ true → c.
 time_of k v c d h = (beside_equal v c d (followed_parts k v c d h).0).0
 
 -- one column stands for what matches either of two that never match together
-times_of_one : (t : ℕ) (rest : List ℕ) (a b m : Bool) → (a ≡ true → b ≡ true → ⊥) → (m ≡ true → (a ≡ true) ⊎ (b ≡ true)) → (a ≡ true → m ≡ true) → (b ≡ true → m ≡ true) →
+times_of_one : (t : ℕ) (rest : List ℕ) (a b m : Bool) → (a ≡ true → b ≡ true → ⊥) →
+    (m ≡ true → (a ≡ true) ⊎ (b ≡ true)) → (a ≡ true → m ≡ true) →
+    (b ≡ true → m ≡ true) →
     cond m (t ∷ rest) rest ≡ cond a (t ∷ cond b (t ∷ rest) rest) (cond b (t ∷ rest) rest)
 times_of_one t rest true true m n e x y = absurd (n refl refl)
 times_of_one t rest true false m n e x y = ap (λ z. cond z (t ∷ rest) rest) (x refl)
@@ -85,15 +100,20 @@ times_of_one t rest false true m n e x y = ap (λ z. cond z (t ∷ rest) rest) (
 times_of_one t rest false false true n e x y = ⊎_elim (λ (h : false ≡ true). cc) (λ (h : false ≡ true). cc) (e refl)
 times_of_one t rest false false false n e x y = refl
 
-pub times_first : (c : Column) (ds : List Column) (s : Scenario) → times_in (c ∷ ds) s ≡ cond (matches c.cube s) (c.time ∷ times_in ds s) (times_in ds s)
+pub times_first : (c : Column) (ds : List Column) (s : Scenario) →
+    times_in (c ∷ ds) s ≡ cond (matches c.cube s) (c.time ∷ times_in ds s) (times_in ds s)
 times_first c ds s = go (matches c.cube s)
   where
-    go : (m : Bool) → map (λ (x : Column). x.time) (cond m (c ∷ filter (λ x. matches x.cube s) ds) (filter (λ x. matches x.cube s) ds)) ≡ cond m (c.time ∷ times_in ds s) (times_in ds s)
+    go : (m : Bool) →
+        map (λ (x : Column). x.time)
+        (cond m (c ∷ filter (λ x. matches x.cube s) ds) (filter (λ x. matches x.cube s) ds))
+        ≡ cond m (c.time ∷ times_in ds s) (times_in ds s)
     go true = refl
     go false = refl
 
 module _ (g : Graph) (few : process_count g ≤ 128) (v : ℕ) (known : IsVariable g v) where
-  module _ (c d : Column) (good_c : IsGood g c.cube) (good_d : IsGood g d.cube) (h : is_followed g.faults v c d ≡ true) where
+  module _ (c d : Column) (good_c : IsGood g c.cube) (good_d : IsGood g d.cube)
+      (h : is_followed g.faults v c d ≡ true) where
     touch : TouchAt g.faults v c.cube d.cube
     touch = touch_of g.faults v c d h
 
@@ -104,10 +124,14 @@ module _ (g : Graph) (few : process_count g ≤ 128) (v : ℕ) (known : IsVariab
     joins_two ds = record {
       times = λ s i.
           times_first (joined g.faults v c d) ds s
-          ∙ times_of_one c.time (times_in ds s) (matches c.cube s) (matches d.cube s) (matches (joined g.faults v c d).cube s)
-          (apart g few v c.cube d.cube good_c good_d touch s i known) (either g few v c.cube d.cube good_c good_d touch s i known)
-          (matches_first g few v c.cube d.cube good_c good_d touch s i) (matches_second g few v c.cube d.cube good_c good_d touch s i)
-          ∙ ap (λ t. cond (matches c.cube s) (c.time ∷ cond (matches d.cube s) (t ∷ times_in ds s) (times_in ds s)) (cond (matches d.cube s) (t ∷ times_in ds s) (times_in ds s)))
+          ∙ times_of_one c.time (times_in ds s) (matches c.cube s) (matches d.cube s)
+          (matches (joined g.faults v c d).cube s)
+          (apart g few v c.cube d.cube good_c good_d touch s i known)
+          (either g few v c.cube d.cube good_c good_d touch s i known)
+          (matches_first g few v c.cube d.cube good_c good_d touch s i)
+          (matches_second g few v c.cube d.cube good_c good_d touch s i)
+          ∙ ap (λ t. cond (matches c.cube s) (c.time ∷ cond (matches d.cube s) (t ∷ times_in ds s) (times_in ds s))
+          (cond (matches d.cube s) (t ∷ times_in ds s) (times_in ds s)))
           (time_of g.faults v c d h)
           ∙ ap (λ ts. cond (matches c.cube s) (c.time ∷ ts) ts) (sym (times_first d ds s))
           ∙ sym (times_first c (d ∷ ds) s);
@@ -116,14 +140,16 @@ module _ (g : Graph) (few : process_count g ≤ 128) (v : ℕ) (known : IsVariab
             joined g.faults v c d,
             Contains-first (joined g.faults v c d) ds,
             ap (λ (z : Column). z.time) x,
-            subst (λ (z : Column). IsWider g.faults (joined g.faults v c d).cube z.cube) x (wider_first g few v c.cube d.cube good_c good_d touch),
+            subst (λ (z : Column). IsWider g.faults (joined g.faults v c d).cube z.cube) x
+                (wider_first g few v c.cube d.cube good_c good_d touch),
           ))
           (λ (n : Contains (d ∷ ds) e). ⊎_elim
           (λ (x : d ≡ e). (
             joined g.faults v c d,
             Contains-first (joined g.faults v c d) ds,
             time_of g.faults v c d h ∙ ap (λ (z : Column). z.time) x,
-            subst (λ (z : Column). IsWider g.faults (joined g.faults v c d).cube z.cube) x (wider_second g few v c.cube d.cube good_c good_d touch),
+            subst (λ (z : Column). IsWider g.faults (joined g.faults v c d).cube z.cube) x
+                (wider_second g few v c.cube d.cube good_c good_d touch),
           ))
           (λ (x : Contains ds e). (e, Contains-rest (joined g.faults v c d) ds e x, refl, wider_itself g.faults e.cube))
           (Contains-cases d ds e n))
@@ -141,7 +167,8 @@ module _ (g : Graph) (few : process_count g ≤ 128) (v : ℕ) (known : IsVariab
   pub walk : (c : Column) (ds : List Column) → AreGood g (c ∷ ds) → Walked (c ∷ ds) (walked g.faults v c ds)
   walk c [] a = record { joins = joins_itself g (c ∷ []); good = a; fewer = inr refl }
   walk c (d ∷ ds) a = go (is_followed g.faults v c d) refl
-      (λ good. walk (joined g.faults v c d) ds (All-cons (λ (x : Column). IsGood g x.cube) (joined g.faults v c d) ds good
+      (λ good.
+      walk (joined g.faults v c d) ds (All-cons (λ (x : Column). IsGood g x.cube) (joined g.faults v c d) ds good
       (All-tail (λ (x : Column). IsGood g x.cube) d ds (All-tail (λ (x : Column). IsGood g x.cube) c (d ∷ ds) a))))
       (walk d ds (All-tail (λ (x : Column). IsGood g x.cube) c (d ∷ ds) a))
     where
@@ -151,21 +178,28 @@ module _ (g : Graph) (few : process_count g ≤ 128) (v : ℕ) (known : IsVariab
       good_d : IsGood g d.cube
       good_d = All-head (λ (x : Column). IsGood g x.cube) d ds (All-tail (λ (x : Column). IsGood g x.cube) c (d ∷ ds) a)
 
-      go : (b : Bool) → is_followed g.faults v c d ≡ b → (IsGood g (joined g.faults v c d).cube → Walked (joined g.faults v c d ∷ ds) (walked g.faults v (joined g.faults v c d) ds)) →
+      go : (b : Bool) → is_followed g.faults v c d ≡ b →
+          (IsGood g (joined g.faults v c d).cube →
+          Walked (joined g.faults v c d ∷ ds) (walked g.faults v (joined g.faults v c d) ds)) →
           Walked (d ∷ ds) (walked g.faults v d ds) →
           Walked (c ∷ d ∷ ds) (cond b (walked g.faults v (joined g.faults v c d) ds) (c ∷ walked g.faults v d ds))
       go true e ih_joined ih =
           let w = ih_joined (good_joined c d good_c good_d e) in
           record {
-            joins = joins_through g (c ∷ d ∷ ds) (joined g.faults v c d ∷ ds) (walked g.faults v (joined g.faults v c d) ds) (joins_two c d good_c good_d e ds) w.joins;
+            joins = joins_through g (c ∷ d ∷ ds) (joined g.faults v c d ∷ ds)
+                (walked g.faults v (joined g.faults v c d) ds) (joins_two c d good_c good_d e ds) w.joins;
             good = w.good;
             fewer = inl (⊎_elim
-                (λ (l : length (walked g.faults v (joined g.faults v c d) ds) < length (joined g.faults v c d ∷ ds)). omega arith)
-                (λ (f : walked g.faults v (joined g.faults v c d) ds ≡ joined g.faults v c d ∷ ds). let n = ap length f in omega arith)
+                (λ (l : length (walked g.faults v (joined g.faults v c d) ds) < length (joined g.faults v c d ∷ ds)).
+                omega arith)
+                (λ (f : walked g.faults v (joined g.faults v c d) ds ≡ joined g.faults v c d ∷ ds).
+                let n = ap length f in
+                omega arith)
                 w.fewer);
           }
       go false e ih_joined ih = record {
         joins = joins_cons g c (d ∷ ds) (walked g.faults v d ds) ih.joins;
         good = All-cons (λ (x : Column). IsGood g x.cube) c (walked g.faults v d ds) good_c ih.good;
-        fewer = ⊎_elim (λ (l : length (walked g.faults v d ds) < length (d ∷ ds)). inl (omega arith)) (λ (f : walked g.faults v d ds ≡ d ∷ ds). inr (ap (λ xs. c ∷ xs) f)) ih.fewer;
+        fewer = ⊎_elim (λ (l : length (walked g.faults v d ds) < length (d ∷ ds)). inl (omega arith))
+            (λ (f : walked g.faults v d ds ≡ d ∷ ds). inr (ap (λ xs. c ∷ xs) f)) ih.fewer;
       }

@@ -1,5 +1,7 @@
--- The order in which columns stand while they are merged at a variable: what compares equal is equal on all other variables.
-use Rattle.std.proofs.Common.{ℕ, ◌≤◌, ◌≡◌, true, false, List, [], ◌∷◌, Ordering, Less, Equal, Greater, AllPairs, arith, refl, sym, ap, ap₂, ◌∙◌}
+-- The order in which columns stand while they are merged at a variable: what compares equal is equal on all other
+-- variables.
+use Rattle.std.proofs.Common.{ℕ, ◌≤◌, ◌≡◌, true, false, List, [], ◌∷◌, Ordering, Less, Equal, Greater, AllPairs, arith}
+use Rattle.std.proofs.Common.{refl, sym, ap, ap₂, ◌∙◌}
 use Rattle.std.specs.Ordering.{nat_cmp, ordering_then, ordering_reverse, is_lt, is_eq}
 use Rattle.std.specs.Cmp.{IsTotalOrder}
 use Rattle.std.specs.Cmp.Lexicographic.{slice_cmp}
@@ -40,39 +42,48 @@ not_less-le x y h = grind (arith, common_steps)
 -- ---- the orders are total, and what ties is equal
 
 pub literal_total : IsTotalOrder literal_cmp
-literal_total = then_total (on_total (λ (l : Literal). l.variable) nat_cmp_total) (then_total (on_total (λ (l : Literal). l.low) nat_cmp_total) (on_total (λ (l : Literal). l.high) nat_cmp_total))
+literal_total = then_total (on_total (λ (l : Literal). l.variable) nat_cmp_total)
+    (then_total (on_total (λ (l : Literal). l.low) nat_cmp_total) (on_total (λ (l : Literal). l.high) nat_cmp_total))
 
 literal_equal : (l m : Literal) → literal_cmp l m ≡ Equal → l ≡ m
 literal_equal l m h =
-    let a = then_equal (nat_cmp l.variable m.variable) (ordering_then (nat_cmp l.low m.low) (nat_cmp l.high m.high)) h in
+    let a =
+    then_equal (nat_cmp l.variable m.variable) (ordering_then (nat_cmp l.low m.low) (nat_cmp l.high m.high)) h in
     let b = then_equal (nat_cmp l.low m.low) (nat_cmp l.high m.high) a.1 in
-    same_literal l m (number_equal l.variable m.variable a.0) (number_equal l.low m.low b.0) (number_equal l.high m.high b.1)
+    same_literal l m (number_equal l.variable m.variable a.0) (number_equal l.low m.low b.0)
+    (number_equal l.high m.high b.1)
 
 literals_equal : (xs ys : List Literal) → slice_cmp literal_cmp xs ys ≡ Equal → xs ≡ ys
 literals_equal [] [] h = refl
 literals_equal [] (y ∷ ys) h = cc
 literals_equal (x ∷ xs) [] h = cc
-literals_equal (x ∷ xs) (y ∷ ys) h = let r = then_equal (literal_cmp x y) (slice_cmp literal_cmp xs ys) h in ap₂ ◌∷◌ (literal_equal x y r.0) (literals_equal xs ys r.1)
+literals_equal (x ∷ xs) (y ∷ ys) h = let r = then_equal (literal_cmp x y) (slice_cmp literal_cmp xs ys) h in
+    ap₂ ◌∷◌ (literal_equal x y r.0) (literals_equal xs ys r.1)
 
 module _ (v : ℕ) where
   pub beside_total : IsTotalOrder (beside_cmp v)
-  beside_total = then_total (on_total (λ (c : Column). c.time) nat_cmp_total) (on_total (λ (c : Column). without v c.cube) (lists_total literal_total))
+  beside_total = then_total (on_total (λ (c : Column). c.time) nat_cmp_total)
+      (on_total (λ (c : Column). without v c.cube) (lists_total literal_total))
 
   pub column_total : IsTotalOrder (column_cmp v)
   column_total = then_total beside_total (on_total (λ (c : Column). low_in c.cube v) nat_cmp_total)
 
-  pub beside_equal : (c d : Column) → beside_cmp v c d ≡ Equal → (c.time ≡ d.time) × (without v c.cube ≡ without v d.cube)
+  pub beside_equal : (c d : Column) → beside_cmp v c d ≡ Equal →
+      (c.time ≡ d.time) × (without v c.cube ≡ without v d.cube)
   beside_equal c d h =
       let r = then_equal (nat_cmp c.time d.time) (slice_cmp literal_cmp (without v c.cube) (without v d.cube)) h in
       (number_equal c.time d.time r.0, literals_equal (without v c.cube) (without v d.cube) r.1)
 
   pub beside_from : (c d : Column) → c.time ≡ d.time → without v c.cube ≡ without v d.cube → beside_cmp v c d ≡ Equal
   beside_from c d e f =
-      ap₂ (λ (t : ℕ) (ls : List Literal). ordering_then (nat_cmp c.time t) (slice_cmp literal_cmp (without v c.cube) ls)) (sym e) (sym f)
+      ap₂ (λ (t : ℕ) (ls : List Literal).
+      ordering_then (nat_cmp c.time t) (slice_cmp literal_cmp (without v c.cube) ls)) (sym e) (sym f)
       ∙ tied_itself beside_total c
 
   -- what stands between two that tie ties with them
-  pub between : (c d e : Column) → is_lt (beside_cmp v d c) ≡ false → is_lt (beside_cmp v e d) ≡ false → beside_cmp v c e ≡ Equal → beside_cmp v c d ≡ Equal
+  pub between : (c d e : Column) → is_lt (beside_cmp v d c) ≡ false → is_lt (beside_cmp v e d) ≡ false →
+      beside_cmp v c e ≡ Equal →
+      beside_cmp v c d ≡ Equal
   between c d e h i t = go (beside_cmp v c d) refl
     where
       go : (o : Ordering) → beside_cmp v c d ≡ o → o ≡ Equal
@@ -86,5 +97,7 @@ module _ (v : ℕ) where
           absurd (both_ways (is_lt (beside_cmp v d c)) h (ap is_lt back))
 
   -- sorted columns in pairs
-  pub sorted_pairs : (xs : List Column) → IsSortedBy (λ c d. is_lt (column_cmp v c d)) xs → AllPairs (λ c d. is_lt (column_cmp v d c) ≡ false) xs
-  sorted_pairs xs h = λ i j d l k. sorted_far (λ (x y : Column). is_lt (column_cmp v x y)) (ranks_by column_total (λ (c : Column). c)) xs h i j d (omega arith) k
+  pub sorted_pairs : (xs : List Column) → IsSortedBy (λ c d. is_lt (column_cmp v c d)) xs →
+      AllPairs (λ c d. is_lt (column_cmp v d c) ≡ false) xs
+  sorted_pairs xs h = λ i j d l k. sorted_far (λ (x y : Column). is_lt (column_cmp v x y))
+      (ranks_by column_total (λ (c : Column). c)) xs h i j d (omega arith) k

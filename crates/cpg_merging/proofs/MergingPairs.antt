@@ -1,5 +1,6 @@
 -- Two cubes that touch at a variable made one: it matches what either matches, and nothing matches both.
-use Rattle.std.proofs.Common.{ℕ, ◌<◌, ◌≤◌, ◌≡◌, ◌≢◌, ◌⊎◌, true, false, not, List, [], ◌∷◌, Contains, All, arith, refl, sym, ◌∙◌, subst, ⊎_elim, inl, inr, leb-true}
+use Rattle.std.proofs.Common.{ℕ, ◌<◌, ◌≤◌, ◌≡◌, ◌≢◌, ◌⊎◌, true, false, not, List, [], ◌∷◌, Contains, All, arith, refl}
+use Rattle.std.proofs.Common.{sym, ◌∙◌, subst, ⊎_elim, inl, inr, leb-true}
 use Rattle.std.specs.Prelude.{nat_le}
 use Rattle.std.specs.List.{list_all}
 use Rattle.std.proofs.lemmas.Bool.{cases_eq, cases_lt, and_parts, not-true}
@@ -7,7 +8,8 @@ use Rattle.std.proofs.lemmas.List.Elements.{All-contains, All-filter, All-tail, 
 use Rattle.std.proofs.lemmas.List.Kept.{AllPairs-filter}
 use Rattle.cpg_base.specs.Graph.{Graph, process_count, IsVariable}
 use Rattle.cpg_base.proofs.Lists.{from_all, all_from, same_truth, Contains-filter_parts}
-use Rattle.cpg_merging.proofs.MergingCubes.{All-from_each, shorn-low, shorn-high, raised-low, raised-high, raised-high_here, raised-rising, raised-all, raised-within}
+use Rattle.cpg_merging.proofs.MergingCubes.{All-from_each, shorn-low, shorn-high, raised-low, raised-high}
+use Rattle.cpg_merging.proofs.MergingCubes.{raised-high_here, raised-rising, raised-all, raised-within}
 use Rattle.cpg_base.specs.Scenario.{Scenario, IsScenario, number_of}
 use Rattle.cpg_cube.specs.declared.literal.Literal.{Literal}
 use Rattle.cpg_cube.specs.Cube.{IsRising, matches, holds, low_in, high_in, is_whole}
@@ -26,12 +28,17 @@ pub record IsGood (g : Graph) (literals : List Literal) : Type 0 where
   pub narrow : IsNarrow g.faults literals
   pub met : is_met g.faults literals ≡ true
 
-pub high_in-top : (k : ℕ) (ls : List Literal) → All (λ l. l.high ≤ top k l.variable) ls → (v : ℕ) → high_in k ls v ≤ top k v
+pub high_in-top : (k : ℕ) (ls : List Literal) → All (λ l. l.high ≤ top k l.variable) ls → (v : ℕ) →
+    high_in k ls v ≤ top k v
 high_in-top k [] h v = omega arith
 high_in-top k (l ∷ ls) h v = ⊎_elim
     (λ (e : l.variable ≡ v). subst (λ u. high_in k (l ∷ ls) u ≤ top k u) e
-    (let i = high_in-here k l ls l.variable refl in let t = All-head (λ (m : Literal). m.high ≤ top k m.variable) l ls h in omega arith))
-    (λ (n : l.variable ≢ v). let i = high_in-later k l ls v n in let t = high_in-top k ls (All-tail (λ (m : Literal). m.high ≤ top k m.variable) l ls h) v in omega arith)
+    (let i = high_in-here k l ls l.variable refl in
+    let t = All-head (λ (m : Literal). m.high ≤ top k m.variable) l ls h in
+    omega arith))
+    (λ (n : l.variable ≢ v). let i = high_in-later k l ls v n in
+    let t = high_in-top k ls (All-tail (λ (m : Literal). m.high ≤ top k m.variable) l ls h) v in
+    omega arith)
     (cases_eq l.variable v)
 
 -- no range of a cube that is met is empty
@@ -61,42 +68,56 @@ pub shorn_all : (k : ℕ) (P : Literal → Type 0) (cube : List Literal) → All
 shorn_all k P cube a = All-filter (λ l. not (is_whole k l)) P cube a
 
 pub shorn_narrow : (k : ℕ) (cube : List Literal) → All (λ l. l.high ≤ top k l.variable) cube → IsNarrow k (shorn k cube)
-shorn_narrow k cube w = All-from_each {P = λ l. (is_whole k l ≡ false) × (l.high ≤ top k l.variable)} (shorn k cube) (λ l c.
+shorn_narrow k cube w =
+    All-from_each {P = λ l. (is_whole k l ≡ false) × (l.high ≤ top k l.variable)} (shorn k cube) (λ l c.
     let r = Contains-filter_parts (λ m. not (is_whole k m)) cube l c in
     (not-true (is_whole k l) r.1, All-contains (λ (m : Literal). m.high ≤ top k m.variable) cube l w r.0))
 
 module _ (g : Graph) (few : process_count g ≤ 128) where
   -- if all numbers are in range
   pub matches_in_ranges : (cube : List Literal) (s : Scenario) → IsRising cube
-      → ((l : Literal) → Contains cube l → (low_in cube l.variable ≤ number_of s l.variable) × (number_of s l.variable ≤ high_in g.faults cube l.variable)) → matches cube s ≡ true
+      → ((l : Literal) → Contains cube l → (low_in cube l.variable ≤ number_of s l.variable) ×
+      (number_of s l.variable ≤ high_in g.faults cube l.variable)) → matches cube s ≡ true
   matches_in_ranges cube s r h = all_from (holds s) cube (λ l c.
       let e = range_of_literal g.faults cube l r c in
       let i = h l c in
       holds-from s l (omega arith) (omega arith))
 
   -- the numbers of a scenario that matches are in range
-  pub ranges_of_match : (cube : List Literal) (s : Scenario) → IsScenario g s → matches cube s ≡ true → (v : ℕ) → IsVariable g v → (low_in cube v ≤ number_of s v) ×
+  pub ranges_of_match : (cube : List Literal) (s : Scenario) → IsScenario g s → matches cube s ≡ true → (v : ℕ) →
+      IsVariable g v →
+      (low_in cube v ≤ number_of s v) ×
       (number_of s v ≤ high_in g.faults cube v)
-  ranges_of_match cube s i t v known = (low_in-le cube s v t, high_in-ge g.faults cube s v (number_within g few s i v known) t)
+  ranges_of_match cube s i t v known =
+      (low_in-le cube s v t, high_in-ge g.faults cube s v (number_within g few s i v known) t)
 
   -- a wider cube matches too
-  pub matches_wider : (a b : List Literal) (s : Scenario) → IsScenario g s → IsCube g a → IsWider g.faults a b → matches b s ≡ true → matches a s ≡ true
+  pub matches_wider : (a b : List Literal) (s : Scenario) → IsScenario g s → IsCube g a → IsWider g.faults a b →
+      matches b s ≡ true →
+      matches a s ≡ true
   matches_wider a b s i is w t = matches_in_ranges a s is.rising (λ l c.
-      let r = ranges_of_match b s i t l.variable (All-contains (λ (m : Literal). IsVariable g m.variable) a l is.known c) in
+      let r =
+      ranges_of_match b s i t l.variable (All-contains (λ (m : Literal). IsVariable g m.variable) a l is.known c) in
       let x = w l.variable in
       (omega arith, omega arith))
 
   -- leaving out whole literals changes nothing
   pub cube_shorn : (cube : List Literal) → IsCube g cube → IsCube g (shorn g.faults cube)
-  cube_shorn cube is = record { rising = shorn_rising g.faults cube is.rising; known = shorn_all g.faults (λ l. IsVariable g l.variable) cube is.known }
+  cube_shorn cube is = record {
+    rising = shorn_rising g.faults cube is.rising;
+    known = shorn_all g.faults (λ l. IsVariable g l.variable) cube is.known;
+  }
 
-  pub matches_shorn : (cube : List Literal) (s : Scenario) → IsScenario g s → IsCube g cube → matches (shorn g.faults cube) s ≡ matches cube s
+  pub matches_shorn : (cube : List Literal) (s : Scenario) → IsScenario g s → IsCube g cube →
+      matches (shorn g.faults cube) s ≡ matches cube s
   matches_shorn cube s i is = same_truth (matches (shorn g.faults cube) s) (matches cube s)
       (matches_wider cube (shorn g.faults cube) s i is (wider_shorn g.faults cube is.rising))
       (matches_wider (shorn g.faults cube) cube s i (cube_shorn cube is) (shorn_wider g.faults cube is.rising))
 
   -- a cube that some scenario matches is good without its whole literals
-  pub good_shorn : (cube : List Literal) (s : Scenario) → IsScenario g s → matches cube s ≡ true → IsCube g cube → All (λ l. l.high ≤ top g.faults l.variable) cube → IsGood g (shorn g.faults cube)
+  pub good_shorn : (cube : List Literal) (s : Scenario) → IsScenario g s → matches cube s ≡ true → IsCube g cube →
+      All (λ l. l.high ≤ top g.faults l.variable) cube →
+      IsGood g (shorn g.faults cube)
   good_shorn cube s i t is w = record {
     cube = cube_shorn cube is;
     narrow = shorn_narrow g.faults cube w;
@@ -105,7 +126,8 @@ module _ (g : Graph) (few : process_count g ≤ 128) where
 
   -- ---- two that touch
 
-  module _ (v : ℕ) (a b : List Literal) (good_a : IsGood g a) (good_b : IsGood g b) (touch : TouchAt g.faults v a b) where
+  module _ (v : ℕ) (a b : List Literal) (good_a : IsGood g a) (good_b : IsGood g b)
+      (touch : TouchAt g.faults v a b) where
     -- the two as one, before the whole literals are left out
     abbrev wide : List Literal
     wide = raised v (high_in g.faults b v) a
@@ -115,11 +137,13 @@ module _ (g : Graph) (few : process_count g ≤ 128) where
 
     within_a : All (λ l. l.high ≤ top g.faults l.variable) a
     within_a = All-from_each {P = λ l. l.high ≤ top g.faults l.variable} a
-        (λ l c. (All-contains (λ (m : Literal). (is_whole g.faults m ≡ false) × (m.high ≤ top g.faults m.variable)) a l good_a.narrow c).1)
+        (λ l c. (All-contains (λ (m : Literal). (is_whole g.faults m ≡ false) × (m.high ≤ top g.faults m.variable)) a l
+        good_a.narrow c).1)
 
     within_b : All (λ l. l.high ≤ top g.faults l.variable) b
     within_b = All-from_each {P = λ l. l.high ≤ top g.faults l.variable} b
-        (λ l c. (All-contains (λ (m : Literal). (is_whole g.faults m ≡ false) × (m.high ≤ top g.faults m.variable)) b l good_b.narrow c).1)
+        (λ l c. (All-contains (λ (m : Literal). (is_whole g.faults m ≡ false) × (m.high ≤ top g.faults m.variable)) b l
+        good_b.narrow c).1)
 
     open_a : (u : ℕ) → low_in a u ≤ high_in g.faults a u
     open_a u = low-le-high g.faults a good_a.met u
@@ -131,7 +155,8 @@ module _ (g : Graph) (few : process_count g ≤ 128) where
     rising_wide = raised-rising v (high_in g.faults b v) a good_a.cube.rising
 
     cube_wide : IsCube g wide
-    cube_wide = record { rising = rising_wide; known = raised-all v (high_in g.faults b v) (IsVariable g) a good_a.cube.known }
+    cube_wide =
+        record { rising = rising_wide; known = raised-all v (high_in g.faults b v) (IsVariable g) a good_a.cube.known }
 
     pub both-low : (u : ℕ) → low_in both u ≡ low_in a u
     both-low u = shorn-low g.faults wide rising_wide u ∙ raised-low v (high_in g.faults b v) a u
@@ -147,7 +172,10 @@ module _ (g : Graph) (few : process_count g ≤ 128) where
     wider_first = λ u. let l = both-low u in (
       omega arith,
       ⊎_elim
-          (λ (e : u ≡ v). let h = both-high_here in let t = touch.next in let o = open_b v in subst (λ w. high_in g.faults a w ≤ high_in g.faults both w) (sym e) (omega arith))
+          (λ (e : u ≡ v). let h = both-high_here in
+          let t = touch.next in
+          let o = open_b v in
+          subst (λ w. high_in g.faults a w ≤ high_in g.faults both w) (sym e) (omega arith))
           (λ (n : u ≢ v). let h = both-high u n in omega arith)
           (cases_eq u v),
     )
@@ -155,7 +183,8 @@ module _ (g : Graph) (few : process_count g ≤ 128) where
     pub wider_second : IsWider g.faults both b
     wider_second = λ u. let l = both-low u in ⊎_elim
         (λ (e : u ≡ v). let h = both-high_here in let t = touch.next in let o = open_a v in let m = both-low v in
-        subst (λ w. (low_in both w ≤ low_in b w) × (high_in g.faults b w ≤ high_in g.faults both w)) (sym e) (omega arith, omega arith))
+        subst (λ w. (low_in both w ≤ low_in b w) × (high_in g.faults b w ≤ high_in g.faults both w)) (sym e)
+        (omega arith, omega arith))
         (λ (n : u ≢ v). let h = both-high u n in let o = touch.others u n in (omega arith, omega arith))
         (cases_eq u v)
 
@@ -170,18 +199,28 @@ module _ (g : Graph) (few : process_count g ≤ 128) where
         let t = touch.next in omega arith
 
     -- what matches the one matches either
-    pub either : (s : Scenario) → IsScenario g s → IsVariable g v → matches both s ≡ true → (matches a s ≡ true) ⊎ (matches b s ≡ true)
+    pub either : (s : Scenario) → IsScenario g s → IsVariable g v → matches both s ≡ true →
+        (matches a s ≡ true) ⊎ (matches b s ≡ true)
     either s i known x = ⊎_elim
         (λ (l : high_in g.faults a v < number_of s v). inr (matches_in_ranges b s good_b.cube.rising (λ m c. ⊎_elim
-        (λ (e : m.variable ≡ v). let r = ranges_of_match both s i x v known in let h = both-high_here in let t = touch.next in
-        subst (λ w. (low_in b w ≤ number_of s w) × (number_of s w ≤ high_in g.faults b w)) (sym e) (omega arith, omega arith))
-        (λ (n : m.variable ≢ v). let r = ranges_of_match both s i x m.variable (All-contains (λ (z : Literal). IsVariable g z.variable) b m good_b.cube.known c) in
-        let o = touch.others m.variable n in let p = both-low m.variable in let h = both-high m.variable n in (omega arith, omega arith))
+        (λ (e : m.variable ≡ v). let r = ranges_of_match both s i x v known in
+        let h = both-high_here in
+        let t = touch.next in
+        subst (λ w. (low_in b w ≤ number_of s w) × (number_of s w ≤ high_in g.faults b w)) (sym e)
+        (omega arith, omega arith))
+        (λ (n : m.variable ≢ v). let r = ranges_of_match both s i x m.variable
+        (All-contains (λ (z : Literal). IsVariable g z.variable) b m good_b.cube.known c) in
+        let o = touch.others m.variable n in
+        let p = both-low m.variable in
+        let h = both-high m.variable n in
+        (omega arith, omega arith))
         (cases_eq m.variable v))))
         (λ (l : number_of s v ≤ high_in g.faults a v). inl (matches_in_ranges a s good_a.cube.rising (λ m c. ⊎_elim
         (λ (e : m.variable ≡ v). let r = ranges_of_match both s i x v known in let p = both-low v in
-        subst (λ w. (low_in a w ≤ number_of s w) × (number_of s w ≤ high_in g.faults a w)) (sym e) (omega arith, omega arith))
-        (λ (n : m.variable ≢ v). let r = ranges_of_match both s i x m.variable (All-contains (λ (z : Literal). IsVariable g z.variable) a m good_a.cube.known c) in
+        subst (λ w. (low_in a w ≤ number_of s w) × (number_of s w ≤ high_in g.faults a w)) (sym e)
+        (omega arith, omega arith))
+        (λ (n : m.variable ≢ v). let r = ranges_of_match both s i x m.variable
+        (All-contains (λ (z : Literal). IsVariable g z.variable) a m good_a.cube.known c) in
         let p = both-low m.variable in let h = both-high m.variable n in (omega arith, omega arith))
         (cases_eq m.variable v))))
         (cases_lt (high_in g.faults a v) (number_of s v))
@@ -195,7 +234,9 @@ module _ (g : Graph) (few : process_count g ≤ 128) where
     pub good_both : IsGood g both
     good_both = record {
       cube = cube_both;
-      narrow = shorn_narrow g.faults wide (raised-within v (high_in g.faults b v) g.faults a (high_in-top g.faults b within_b v) within_a);
+      narrow = shorn_narrow g.faults wide
+          (raised-within v (high_in g.faults b v) g.faults a (high_in-top g.faults b within_b v) within_a);
       met = met_by g few both cube_both (lows g a) (lows-lawful g few a good_a.cube good_a.met)
-          (matches_first (lows g a) (lows-lawful g few a good_a.cube good_a.met) (lows-match g few a good_a.cube good_a.met));
+          (matches_first (lows g a) (lows-lawful g few a good_a.cube good_a.met)
+          (lows-match g few a good_a.cube good_a.met));
     }

@@ -1,5 +1,6 @@
 -- When sorted columns have been walked over at a variable no two of them touch there any more.
-use Rattle.std.proofs.Common.{ℕ, ◌+◌, ◌<◌, ◌≤◌, ◌≡◌, ◌≢◌, ◌⊎◌, Bool, true, false, not, cond, ◌==◌, List, [], ◌∷◌, length, filter, get_or, Contains, AllPairs, Equal, arith, refl, sym, ap, ◌∙◌, subst}
+use Rattle.std.proofs.Common.{ℕ, ◌+◌, ◌<◌, ◌≤◌, ◌≡◌, ◌≢◌, ◌⊎◌, Bool, true, false, not, cond, ◌==◌, List, [], ◌∷◌}
+use Rattle.std.proofs.Common.{length, filter, get_or, Contains, AllPairs, Equal, arith, refl, sym, ap, ◌∙◌, subst}
 use Rattle.std.proofs.Common.{subst₂, ⊎_elim, eq-eqb}
 use Rattle.std.specs.Ordering.{is_lt, is_eq, nat_cmp}
 use Rattle.std.specs.List.Sorted.{IsSortedBy}
@@ -22,14 +23,17 @@ use Rattle.cpg_cube.proofs.CubeLows.{lows-lawful, lows-match}
 use Rattle.cpg_cube.specs.Column.{Column, times_in}
 use Rattle.cpg_merging.specs.Merging.{without, beside_cmp, column_cmp, is_followed, joined, walked, IsSettledOn}
 use Rattle.cpg_merging.proofs.MergingCubes.{without-low, without-high, without-low_here, without-high_here, same_cube}
-use Rattle.cpg_merging.proofs.MergingPairs.{IsGood, low-le-high, both-low, both-high, both-high_here, matches_in_ranges, ranges_of_match, high_in-top}
+use Rattle.cpg_merging.proofs.MergingPairs.{IsGood, low-le-high, both-low, both-high, both-high_here, matches_in_ranges}
+use Rattle.cpg_merging.proofs.MergingPairs.{ranges_of_match, high_in-top}
 use Rattle.cpg_base.proofs.Keyed.{next_of}
-use Rattle.cpg_merging.proofs.MergingOrder.{beside_total, beside_equal, beside_from, between, then_not_less, not_less-le, sorted_pairs}
+use Rattle.cpg_merging.proofs.MergingOrder.{beside_total, beside_equal, beside_from, between, then_not_less}
+use Rattle.cpg_merging.proofs.MergingOrder.{not_less-le, sorted_pairs}
 use Rattle.cpg_merging.proofs.MergingLists.{AreGood, followed_parts, ranges_beside, touch_of, good_joined, walk}
 
 -- ---- of two columns that match a scenario the list has two
 
-pub apart_pairs : {X : Type 0} (p : X → Bool) (xs : List X) → length (filter p xs) ≤ 1 → AllPairs (λ x y. p x ≡ true → p y ≡ true → ⊥) xs
+pub apart_pairs : {X : Type 0} (p : X → Bool) (xs : List X) → length (filter p xs) ≤ 1 →
+    AllPairs (λ x y. p x ≡ true → p y ≡ true → ⊥) xs
 apart_pairs {X} p [] h = AllPairs-nil (λ x y. p x ≡ true → p y ≡ true → ⊥)
 apart_pairs {X} p (x ∷ xs) h = AllPairs-cons_by (λ x y. p x ≡ true → p y ≡ true → ⊥) x xs
     (λ y c px py. both y px (Contains-filter p xs y py c) (p x) px h)
@@ -39,32 +43,43 @@ apart_pairs {X} p (x ∷ xs) h = AllPairs-cons_by (λ x y. p x ≡ true → p y 
     rest true l = omega arith
     rest false l = l
 
-    both : (y : X) → p x ≡ true → Contains (filter p xs) y → (b : Bool) → b ≡ true → length (cond b (x ∷ filter p xs) (filter p xs)) ≤ 1 → ⊥
+    both : (y : X) → p x ≡ true → Contains (filter p xs) y → (b : Bool) → b ≡ true →
+        length (cond b (x ∷ filter p xs) (filter p xs)) ≤ 1 → ⊥
     both y px c true e l = omega (arith, c.1)
     both y px c false e l = cc
 
 -- if no scenario matches two of the columns, no pair matches one
-pub pairs_apart : (g : Graph) (columns : List Column) → ((s : Scenario) → IsScenario g s → length (times_in columns s) ≤ 1) →
+pub pairs_apart : (g : Graph) (columns : List Column) →
+    ((s : Scenario) → IsScenario g s → length (times_in columns s) ≤ 1) →
     AllPairs (λ c d. (s : Scenario) → IsScenario g s → matches c.cube s ≡ true → matches d.cube s ≡ true → ⊥) columns
 pairs_apart g columns h = λ i j d l k s is. apart_pairs (λ (c : Column). matches c.cube s) columns
-    (let e = length-map (filter (λ (c : Column). matches c.cube s) columns) (λ (c : Column). c.time) in let m = h s is in omega arith) i j d l k
+    (let e = length-map (filter (λ (c : Column). matches c.cube s) columns) (λ (c : Column). c.time) in
+    let m = h s is in omega arith) i j d l k
 
 module _ (g : Graph) (few : process_count g ≤ 128) where
   -- if the other ranges are equal, and the second's low is within the first's range, both match some scenario
-  pub share : (v : ℕ) (a b : List Literal) → IsGood g a → IsGood g b → ((u : ℕ) → u ≢ v → (low_in a u ≡ low_in b u) × (high_in g.faults a u ≡ high_in g.faults b u)) →
-      low_in a v ≤ low_in b v → low_in b v ≤ high_in g.faults a v → (s : Scenario) × IsScenario g s × (matches a s ≡ true) × (matches b s ≡ true)
+  pub share : (v : ℕ) (a b : List Literal) → IsGood g a → IsGood g b →
+      ((u : ℕ) → u ≢ v → (low_in a u ≡ low_in b u) × (high_in g.faults a u ≡ high_in g.faults b u)) →
+      low_in a v ≤ low_in b v → low_in b v ≤ high_in g.faults a v →
+      (s : Scenario) × IsScenario g s × (matches a s ≡ true) × (matches b s ≡ true)
   share v a b good_a good_b others l h =
       let s = lows g b in
       let i = lows-lawful g few b good_b.cube good_b.met in
       let t = lows-match g few b good_b.cube good_b.met in
       let n : IsVariable g v → number_of s v ≡ low_in b v = λ known. made_number g few (low_in b) v known
-      (let o = low-le-high g.faults b good_b.met v in let w = high_in-top g.faults b (λ k d m. (good_b.narrow k d m).1) v in omega arith) in (
+      (let o = low-le-high g.faults b good_b.met v in
+      let w = high_in-top g.faults b (λ k d m. (good_b.narrow k d m).1) v in
+      omega arith) in (
         s,
         i,
         matches_in_ranges g few a s good_a.cube.rising (λ m c. ⊎_elim
-            (λ (e : m.variable ≡ v). let i = n (subst (IsVariable g) e (All-contains (λ (x : Literal). IsVariable g x.variable) a m good_a.cube.known c)) in
-            subst (λ w. (low_in a w ≤ number_of s w) × (number_of s w ≤ high_in g.faults a w)) (sym e) (omega arith, omega arith))
-            (λ (z : m.variable ≢ v). let r = ranges_of_match g few b s i t m.variable (All-contains (λ (x : Literal). IsVariable g x.variable) a m good_a.cube.known c) in let o =
+            (λ (e : m.variable ≡ v). let i = n (subst (IsVariable g) e
+            (All-contains (λ (x : Literal). IsVariable g x.variable) a m good_a.cube.known c)) in
+            subst (λ w. (low_in a w ≤ number_of s w) × (number_of s w ≤ high_in g.faults a w)) (sym e)
+            (omega arith, omega arith))
+            (λ (z : m.variable ≢ v). let r = ranges_of_match g few b s i t m.variable
+            (All-contains (λ (x : Literal). IsVariable g x.variable) a m good_a.cube.known c) in
+            let o =
             others m.variable z in (omega arith, omega arith))
             (cases_eq m.variable v)),
         t,
@@ -77,20 +92,26 @@ module _ (g : Graph) (few : process_count g ≤ 128) where
       pub later : beside_cmp v c d ≡ Equal → high_in g.faults c.cube v < low_in d.cube v
 
     -- sorted columns of which no two match one scenario
-    pub before_pairs : (xs : List Column) → AreGood g xs → ((s : Scenario) → IsScenario g s → length (times_in xs s) ≤ 1) → IsSortedBy (λ c d. is_lt (column_cmp v c d)) xs → AllPairs Before xs
+    pub before_pairs : (xs : List Column) → AreGood g xs →
+        ((s : Scenario) → IsScenario g s → length (times_in xs s) ≤ 1) →
+        IsSortedBy (λ c d. is_lt (column_cmp v c d)) xs →
+        AllPairs Before xs
     before_pairs xs good single up = λ i j d l k. pair (get_or xs i d) (get_or xs j d)
         (All-contains (λ (c : Column). IsGood g c.cube) xs (get_or xs i d) good (Contains-get_or xs i d (omega arith)))
         (All-contains (λ (c : Column). IsGood g c.cube) xs (get_or xs j d) good (Contains-get_or xs j d k))
         (pairs_apart g xs single i j d l k) (sorted_pairs v xs up i j d l k)
       where
-        pair : (c d : Column) → IsGood g c.cube → IsGood g d.cube → ((s : Scenario) → IsScenario g s → matches c.cube s ≡ true → matches d.cube s ≡ true → ⊥) → is_lt (column_cmp v d c) ≡ false →
+        pair : (c d : Column) → IsGood g c.cube → IsGood g d.cube →
+            ((s : Scenario) → IsScenario g s → matches c.cube s ≡ true → matches d.cube s ≡ true → ⊥) →
+            is_lt (column_cmp v d c) ≡ false →
             Before c d
         pair c d good_c good_d away h = record {
           group = then_not_less (beside_cmp v d c) (nat_cmp (low_in d.cube v) (low_in c.cube v)) h;
           later = λ e.
               let same = beside_equal v c d e in
               let back = beside_from v d c (sym same.0) (sym same.1) in
-              let l = not_less-le (low_in c.cube v) (low_in d.cube v) (next_of (beside_cmp v d c) (nat_cmp (low_in d.cube v) (low_in c.cube v)) back h) in
+              let l = not_less-le (low_in c.cube v) (low_in d.cube v)
+              (next_of (beside_cmp v d c) (nat_cmp (low_in d.cube v) (low_in c.cube v)) back h) in
               ⊎_elim
               (λ (x : high_in g.faults c.cube v < low_in d.cube v). x)
               (λ (x : low_in d.cube v ≤ high_in g.faults c.cube v).
@@ -111,25 +132,33 @@ module _ (g : Graph) (few : process_count g ≤ 128) where
     -- ---- a join stands where its first column stood
 
     without_narrow : (cube : List Literal) → IsNarrow g.faults cube → IsNarrow g.faults (without v cube)
-    without_narrow cube n = All-filter (λ l. not (l.variable == v)) (λ (l : Literal). (is_whole g.faults l ≡ false) × (l.high ≤ top g.faults l.variable)) cube n
+    without_narrow cube n = All-filter (λ l. not (l.variable == v))
+        (λ (l : Literal). (is_whole g.faults l ≡ false) × (l.high ≤ top g.faults l.variable)) cube n
 
     without_rising : (cube : List Literal) → IsRising cube → IsRising (without v cube)
-    without_rising cube r = AllPairs-filter (λ (l m : Literal). l.variable < m.variable) (λ l. not (l.variable == v)) cube r
+    without_rising cube r =
+        AllPairs-filter (λ (l m : Literal). l.variable < m.variable) (λ l. not (l.variable == v)) cube r
 
     -- cubes with the same ranges of other variables have the same literals on these
-    pub same_without : (a b : List Literal) → IsGood g a → IsGood g b → ((u : ℕ) → u ≢ v → (low_in a u ≡ low_in b u) × (high_in g.faults a u ≡ high_in g.faults b u)) → without v a ≡ without v b
+    pub same_without : (a b : List Literal) → IsGood g a → IsGood g b →
+        ((u : ℕ) → u ≢ v → (low_in a u ≡ low_in b u) × (high_in g.faults a u ≡ high_in g.faults b u)) →
+        without v a ≡ without v b
     same_without a b good_a good_b h = same_cube g.faults (without v a) (without v b)
-        (without_rising a good_a.cube.rising) (without_rising b good_b.cube.rising) (without_narrow a good_a.narrow) (without_narrow b good_b.narrow)
+        (without_rising a good_a.cube.rising) (without_rising b good_b.cube.rising) (without_narrow a good_a.narrow)
+        (without_narrow b good_b.narrow)
         (λ u. ⊎_elim
-        (λ (e : u ≡ v). subst (λ w. low_in (without v a) w ≡ low_in (without v b) w) (sym e) (without-low_here v a ∙ sym (without-low_here v b)))
+        (λ (e : u ≡ v). subst (λ w. low_in (without v a) w ≡ low_in (without v b) w) (sym e)
+        (without-low_here v a ∙ sym (without-low_here v b)))
         (λ (n : u ≢ v). without-low v a u n ∙ (h u n).0 ∙ sym (without-low v b u n))
         (cases_eq u v))
         (λ u. ⊎_elim
-        (λ (e : u ≡ v). subst (λ w. high_in g.faults (without v a) w ≡ high_in g.faults (without v b) w) (sym e) (without-high_here v g.faults a ∙ sym (without-high_here v g.faults b)))
+        (λ (e : u ≡ v). subst (λ w. high_in g.faults (without v a) w ≡ high_in g.faults (without v b) w) (sym e)
+        (without-high_here v g.faults a ∙ sym (without-high_here v g.faults b)))
         (λ (n : u ≢ v). without-high v g.faults a u n ∙ (h u n).1 ∙ sym (without-high v g.faults b u n))
         (cases_eq u v))
 
-    module _ (c d : Column) (good_c : IsGood g c.cube) (good_d : IsGood g d.cube) (h : is_followed g.faults v c d ≡ true) where
+    module _ (c d : Column) (good_c : IsGood g c.cube) (good_d : IsGood g d.cube)
+        (h : is_followed g.faults v c d ≡ true) where
       joined_low : low_in (joined g.faults v c d).cube v ≡ low_in c.cube v
       joined_low = both-low g few v c.cube d.cube good_c good_d (touch_of g.faults v c d h) v
 
@@ -148,20 +177,23 @@ module _ (g : Graph) (few : process_count g ≤ 128) where
       joined_before r x y = record {
         group = ap is_lt (sym (alike_right (beside_total v) c (joined g.faults v c d) r joined_beside)) ∙ x.group;
         later = λ e.
-            let f = sym ((beside_total v).congr c d r (followed_parts g.faults v c d h).0) ∙ (beside_total v).congr c (joined g.faults v c d) r joined_beside ∙ e in
+            let f = sym ((beside_total v).congr c d r (followed_parts g.faults v c d h).0)
+            ∙ (beside_total v).congr c (joined g.faults v c d) r joined_beside ∙ e in
             let a = y.later f in
             let b = joined_high in
             omega arith;
       }
 
-    begins : (c : Column) (ds : List Column) → AreGood g (c ∷ ds) → (r : Column) → Contains (walked g.faults v c ds) r → (x : Column) × Contains (c ∷ ds) x × BeginsAs r x
+    begins : (c : Column) (ds : List Column) → AreGood g (c ∷ ds) → (r : Column) → Contains (walked g.faults v c ds) r →
+        (x : Column) × Contains (c ∷ ds) x × BeginsAs r x
     begins c [] a r m = ⊎_elim
         (λ (e : c ≡ r). (c, Contains-first c [], subst (λ z. BeginsAs z c) e (tied_itself (beside_total v) c, refl)))
         (λ (n : Contains [] r). absurd (Contains-nil r n))
         (Contains-cases c [] r m)
     begins c (d ∷ ds) a r m = go (is_followed g.faults v c d) refl m
         (λ good n. begins (joined g.faults v c d) ds
-        (All-cons (λ (x : Column). IsGood g x.cube) (joined g.faults v c d) ds good (All-tail (λ (x : Column). IsGood g x.cube) d ds (All-tail (λ (x : Column). IsGood g x.cube) c (d ∷ ds) a))) r
+        (All-cons (λ (x : Column). IsGood g x.cube) (joined g.faults v c d) ds good (All-tail
+        (λ (x : Column). IsGood g x.cube) d ds (All-tail (λ (x : Column). IsGood g x.cube) c (d ∷ ds) a))) r
         n)
         (begins d ds (All-tail (λ (x : Column). IsGood g x.cube) c (d ∷ ds) a) r)
       where
@@ -169,10 +201,13 @@ module _ (g : Graph) (few : process_count g ≤ 128) where
         good_c = All-head (λ (x : Column). IsGood g x.cube) c (d ∷ ds) a
 
         good_d : IsGood g d.cube
-        good_d = All-head (λ (x : Column). IsGood g x.cube) d ds (All-tail (λ (x : Column). IsGood g x.cube) c (d ∷ ds) a)
+        good_d =
+            All-head (λ (x : Column). IsGood g x.cube) d ds (All-tail (λ (x : Column). IsGood g x.cube) c (d ∷ ds) a)
 
-        go : (b : Bool) → is_followed g.faults v c d ≡ b → Contains (cond b (walked g.faults v (joined g.faults v c d) ds) (c ∷ walked g.faults v d ds)) r →
-            (IsGood g (joined g.faults v c d).cube → Contains (walked g.faults v (joined g.faults v c d) ds) r → (x : Column) × Contains (joined g.faults v c d ∷ ds) x × BeginsAs r x) →
+        go : (b : Bool) → is_followed g.faults v c d ≡ b →
+            Contains (cond b (walked g.faults v (joined g.faults v c d) ds) (c ∷ walked g.faults v d ds)) r →
+            (IsGood g (joined g.faults v c d).cube → Contains (walked g.faults v (joined g.faults v c d) ds) r →
+            (x : Column) × Contains (joined g.faults v c d ∷ ds) x × BeginsAs r x) →
             (Contains (walked g.faults v d ds) r → (x : Column) × Contains (d ∷ ds) x × BeginsAs r x) →
             (x : Column) × Contains (c ∷ d ∷ ds) x × BeginsAs r x
         go true e n ih_joined ih =
@@ -182,18 +217,23 @@ module _ (g : Graph) (few : process_count g ≤ 128) where
             let b : BeginsAs r (joined g.faults v c d) = subst (BeginsAs r) (sym f) i.2 in (
               c,
               Contains-first c (d ∷ ds),
-              ((beside_total v).congr c (joined g.faults v c d) r (joined_beside c d good_c good_d e) ∙ b.0, b.1 ∙ joined_low c d good_c good_d e),
+              (
+                (beside_total v).congr c (joined g.faults v c d) r (joined_beside c d good_c good_d e) ∙ b.0,
+                b.1 ∙ joined_low c d good_c good_d e,
+              ),
             ))
             (λ (k : Contains ds i.0). (i.0, Contains-rest c (d ∷ ds) i.0 (Contains-rest d ds i.0 k), i.2))
             (Contains-cases (joined g.faults v c d) ds i.0 i.1)
         go false e n ih_joined ih = ⊎_elim
-            (λ (f : c ≡ r). (c, Contains-first c (d ∷ ds), subst (λ z. BeginsAs z c) f (tied_itself (beside_total v) c, refl)))
+            (λ (f : c ≡ r).
+            (c, Contains-first c (d ∷ ds), subst (λ z. BeginsAs z c) f (tied_itself (beside_total v) c, refl)))
             (λ (k : Contains (walked g.faults v d ds) r). let i = ih k in (i.0, Contains-rest c (d ∷ ds) i.0 i.1, i.2))
             (Contains-cases c (walked g.faults v d ds) r n)
 
     -- ---- no two touch
 
-    module _ (c d : Column) (ds : List Column) (good : AreGood g (c ∷ d ∷ ds)) (before : AllPairs Before (c ∷ d ∷ ds)) (apart : is_followed g.faults v c d ≡ false) where
+    module _ (c d : Column) (ds : List Column) (good : AreGood g (c ∷ d ∷ ds)) (before : AllPairs Before (c ∷ d ∷ ds))
+        (apart : is_followed g.faults v c d ≡ false) where
       before_first : (x : Column) → Contains (d ∷ ds) x → Before c x
       before_first x m = AllPairs-first Before c (d ∷ ds) before x m
 
@@ -201,15 +241,18 @@ module _ (g : Graph) (few : process_count g ≤ 128) where
       before_second x m = AllPairs-first Before d ds (AllPairs-rest Before c (d ∷ ds) before) x m
 
       open_of : (x : Column) → Contains (c ∷ d ∷ ds) x → low_in x.cube v ≤ high_in g.faults x.cube v
-      open_of x m = low-le-high g.faults x.cube (All-contains (λ (y : Column). IsGood g y.cube) (c ∷ d ∷ ds) x good m).met v
+      open_of x m =
+          low-le-high g.faults x.cube (All-contains (λ (y : Column). IsGood g y.cube) (c ∷ d ∷ ds) x good m).met v
 
       -- the first column isn't followed by any later one
-      not_next : (x : Column) → Contains (d ∷ ds) x → beside_cmp v c x ≡ Equal → high_in g.faults c.cube v + 1 ≢ low_in x.cube v
+      not_next : (x : Column) → Contains (d ∷ ds) x → beside_cmp v c x ≡ Equal →
+          high_in g.faults c.cube v + 1 ≢ low_in x.cube v
       not_next x m t e = ⊎_elim
           (λ (f : d ≡ x). both_ways (is_followed g.faults v c d) apart
           (and_from (is_eq (beside_cmp v c d)) (high_in g.faults c.cube v + 1 == low_in d.cube v)
           (ap is_eq (subst (λ z. beside_cmp v c z ≡ Equal) (sym f) t))
-          (eq-eqb (high_in g.faults c.cube v + 1) (low_in d.cube v) (subst (λ z. high_in g.faults c.cube v + 1 ≡ low_in z.cube v) (sym f) e))))
+          (eq-eqb (high_in g.faults c.cube v + 1) (low_in d.cube v)
+          (subst (λ z. high_in g.faults c.cube v + 1 ≡ low_in z.cube v) (sym f) e))))
           (λ (k : Contains ds x).
           let first = before_first d (Contains-first d ds) in
           let second = before_second x k in
@@ -224,7 +267,8 @@ module _ (g : Graph) (few : process_count g ≤ 128) where
       untouched r m =
           let good_rest = All-tail (λ (x : Column). IsGood g x.cube) c (d ∷ ds) good in
           let b = begins d ds good_rest r m in
-          let good_r = All-contains (λ (x : Column). IsGood g x.cube) (walked g.faults v d ds) r (walk g few v known d ds good_rest).good m in
+          let good_r = All-contains (λ (x : Column). IsGood g x.cube) (walked g.faults v d ds) r
+          (walk g few v known d ds good_rest).good m in
           let low = b.2.1 in
           record {
             above = λ t e. not_next b.0 b.1 (alike_right (beside_total v) b.0 r c b.2.0 ∙ t) (e ∙ low);
@@ -235,25 +279,33 @@ module _ (g : Graph) (few : process_count g ≤ 128) where
                 let z : ⊥ = omega arith in z;
           }
 
-    walked_untouched : (c : Column) (ds : List Column) → AreGood g (c ∷ ds) → AllPairs Before (c ∷ ds) → AllPairs Untouched (walked g.faults v c ds)
-    walked_untouched c [] a p = AllPairs-cons_by Untouched c [] (λ y m. absurd (Contains-nil y m)) (AllPairs-nil Untouched)
+    walked_untouched : (c : Column) (ds : List Column) → AreGood g (c ∷ ds) → AllPairs Before (c ∷ ds) →
+        AllPairs Untouched (walked g.faults v c ds)
+    walked_untouched c [] a p =
+        AllPairs-cons_by Untouched c [] (λ y m. absurd (Contains-nil y m)) (AllPairs-nil Untouched)
     walked_untouched c (d ∷ ds) a p = go (is_followed g.faults v c d) refl
         (λ good q. walked_untouched (joined g.faults v c d) ds
-        (All-cons (λ (x : Column). IsGood g x.cube) (joined g.faults v c d) ds good (All-tail (λ (x : Column). IsGood g x.cube) d ds (All-tail (λ (x : Column). IsGood g x.cube) c (d ∷ ds) a))) q)
-        (walked_untouched d ds (All-tail (λ (x : Column). IsGood g x.cube) c (d ∷ ds) a) (AllPairs-rest Before c (d ∷ ds) p))
+        (All-cons (λ (x : Column). IsGood g x.cube) (joined g.faults v c d) ds good (All-tail
+        (λ (x : Column). IsGood g x.cube) d ds (All-tail (λ (x : Column). IsGood g x.cube) c (d ∷ ds) a))) q)
+        (walked_untouched d ds (All-tail (λ (x : Column). IsGood g x.cube) c (d ∷ ds) a)
+        (AllPairs-rest Before c (d ∷ ds) p))
       where
         good_c : IsGood g c.cube
         good_c = All-head (λ (x : Column). IsGood g x.cube) c (d ∷ ds) a
 
         good_d : IsGood g d.cube
-        good_d = All-head (λ (x : Column). IsGood g x.cube) d ds (All-tail (λ (x : Column). IsGood g x.cube) c (d ∷ ds) a)
+        good_d =
+            All-head (λ (x : Column). IsGood g x.cube) d ds (All-tail (λ (x : Column). IsGood g x.cube) c (d ∷ ds) a)
 
         go : (b : Bool) → is_followed g.faults v c d ≡ b →
-            (IsGood g (joined g.faults v c d).cube → AllPairs Before (joined g.faults v c d ∷ ds) → AllPairs Untouched (walked g.faults v (joined g.faults v c d) ds)) →
-            AllPairs Untouched (walked g.faults v d ds) → AllPairs Untouched (cond b (walked g.faults v (joined g.faults v c d) ds) (c ∷ walked g.faults v d ds))
+            (IsGood g (joined g.faults v c d).cube → AllPairs Before (joined g.faults v c d ∷ ds) →
+            AllPairs Untouched (walked g.faults v (joined g.faults v c d) ds)) →
+            AllPairs Untouched (walked g.faults v d ds) →
+            AllPairs Untouched (cond b (walked g.faults v (joined g.faults v c d) ds) (c ∷ walked g.faults v d ds))
         go true e ih_joined ih = ih_joined (good_joined g few v known c d good_c good_d e)
             (AllPairs-cons_by Before (joined g.faults v c d) ds
-            (λ y m. joined_before c d good_c good_d e y (AllPairs-first Before c (d ∷ ds) p y (Contains-rest d ds y m)) (AllPairs-first Before d ds (AllPairs-rest Before c (d ∷ ds) p) y m))
+            (λ y m. joined_before c d good_c good_d e y (AllPairs-first Before c (d ∷ ds) p y (Contains-rest d ds y m))
+            (AllPairs-first Before d ds (AllPairs-rest Before c (d ∷ ds) p) y m))
             (AllPairs-rest Before d ds (AllPairs-rest Before c (d ∷ ds) p)))
         go false e ih_joined ih = AllPairs-cons_by Untouched c (walked g.faults v d ds) (untouched c d ds a p e) ih
 
@@ -271,12 +323,17 @@ module _ (g : Graph) (few : process_count g ≤ 128) where
         let o = low-le-high g.faults c.cube good_c.met v in
         let z : ⊥ = omega arith in z)
         (λ (s : (m.0 < n.0) ⊎ (n.0 < m.0)). ⊎_elim
-        (λ (l : m.0 < n.0). (subst₂ Untouched m.2 (get_or_default xs n.0 c d n.1 ∙ n.2) (p m.0 n.0 c l n.1)).above tie next)
-        (λ (l : n.0 < m.0). (subst₂ Untouched (get_or_default xs n.0 c d n.1 ∙ n.2) m.2 (p n.0 m.0 c l m.1)).below (tied_back (beside_total v) c d tie) next)
+        (λ (l : m.0 < n.0).
+        (subst₂ Untouched m.2 (get_or_default xs n.0 c d n.1 ∙ n.2) (p m.0 n.0 c l n.1)).above tie next)
+        (λ (l : n.0 < m.0). (subst₂ Untouched (get_or_default xs n.0 c d n.1 ∙ n.2) m.2 (p n.0 m.0 c l m.1)).below
+        (tied_back (beside_total v) c d tie) next)
         s)
         (cases_order m.0 n.0)
 
     -- sorted columns are settled when they have been walked over
-    pub settled : (c : Column) (ds : List Column) → AreGood g (c ∷ ds) → ((s : Scenario) → IsScenario g s → length (times_in (c ∷ ds) s) ≤ 1) → IsSortedBy (λ x y. is_lt (column_cmp v x y)) (c ∷ ds) →
+    pub settled : (c : Column) (ds : List Column) → AreGood g (c ∷ ds) →
+        ((s : Scenario) → IsScenario g s → length (times_in (c ∷ ds) s) ≤ 1) →
+        IsSortedBy (λ x y. is_lt (column_cmp v x y)) (c ∷ ds) →
         IsSettledOn g.faults v (walked g.faults v c ds)
-    settled c ds good single up = settled_from (walked g.faults v c ds) (walk g few v known c ds good).good (walked_untouched c ds good (before_pairs (c ∷ ds) good single up))
+    settled c ds good single up = settled_from (walked g.faults v c ds) (walk g few v known c ds good).good
+        (walked_untouched c ds good (before_pairs (c ∷ ds) good single up))

@@ -1,15 +1,18 @@
 -- The steps of merging columns: their order doesn't matter, a step at one variable, and steps one after another.
-use Rattle.std.proofs.Common.{ℕ, ◌<◌, ◌≤◌, ◌≡◌, ◌≢◌, ◌⊎◌, true, false, cond, List, [], ◌∷◌, length, filter, get_or, sum_by, Contains, All, IsPermutation, arith, refl, sym, ap, ap₂, ◌∙◌, subst, ⊎_elim}
+use Rattle.std.proofs.Common.{ℕ, ◌<◌, ◌≤◌, ◌≡◌, ◌≢◌, ◌⊎◌, true, false, cond, List, [], ◌∷◌, length, filter, get_or}
+use Rattle.std.proofs.Common.{sum_by, Contains, All, IsPermutation, arith, refl, sym, ap, ap₂, ◌∙◌, subst, ⊎_elim}
 use Rattle.std.proofs.Common.{inl, inr}
 use Rattle.std.specs.Ordering.{is_lt}
 use Rattle.std.specs.List.Sorted.{IsSortedBy}
 use Rattle.std.proofs.lemmas.Bool.{cond-false, or_parts}
 use Rattle.std.proofs.lemmas.List.{length-map}
 use Rattle.std.proofs.lemmas.List.Elements.{All-contains, All-head, All-tail, All-map}
-use Rattle.std.proofs.lemmas.List.Sorted.{All-permutation, Contains-permutation, IsPermutation-refl, IsPermutation-sym, IsPermutation-trans, length_permutation, sum_by-IsPermutation}
+use Rattle.std.proofs.lemmas.List.Sorted.{All-permutation, Contains-permutation, IsPermutation-refl, IsPermutation-sym}
+use Rattle.std.proofs.lemmas.List.Sorted.{IsPermutation-trans, length_permutation, sum_by-IsPermutation}
 use Rattle.std.proofs.lemmas.List.Sums.{length-filter}
 use Rattle.cpg_base.specs.Graph.{Graph, process_count, IsVariable}
-use Rattle.cpg_base.proofs.Lists.{Contains-first, Contains-cases, Contains-nil, Contains-filter, Contains-filter_parts, Contains-map, Contains-map_parts}
+use Rattle.cpg_base.proofs.Lists.{Contains-first, Contains-cases, Contains-nil, Contains-filter, Contains-filter_parts}
+use Rattle.cpg_base.proofs.Lists.{Contains-map, Contains-map_parts}
 use Rattle.cpg_base.specs.Scenario.{Scenario, IsScenario}
 use Rattle.cpg_cube.specs.Cube.{matches, is_whole}
 use Rattle.cpg_base.specs.Variable.{top}
@@ -17,7 +20,8 @@ use Rattle.cpg_cube.specs.Fit.{IsCube, lows}
 use Rattle.cpg_cube.proofs.CubeLows.{met_by, lows-lawful, lows-match}
 use Rattle.cpg_cube.specs.Column.{Column, times_in}
 use Rattle.cpg_merging.specs.Merged.{AreMergeable}
-use Rattle.cpg_merging.specs.Merging.{shorn, is_followed, is_any_followed_from, is_any_followed, joined, column_cmp, walked, walked_over, all_shorn, IsShorn, IsJoinOf, IsSettledOn, IsPassed}
+use Rattle.cpg_merging.specs.Merging.{shorn, is_followed, is_any_followed_from, is_any_followed, joined, column_cmp}
+use Rattle.cpg_merging.specs.Merging.{walked, walked_over, all_shorn, IsShorn, IsJoinOf, IsSettledOn, IsPassed}
 use Rattle.cpg_merging.specs.Merging.{IsSortedAs}
 use Rattle.cpg_cube.specs.Keys.{AreByLows}
 use Rattle.cpg_cube.specs.declared.listing.Listing.{Listing}
@@ -34,9 +38,11 @@ module _ (g : Graph) (few : process_count g ≤ 128) where
   pub good_of : (columns : List Column) → IsShorn g columns → AreGood g columns
   good_of columns h = All-from_each {P = λ c. IsGood g c.cube} columns (λ c m.
       let is = All-contains (λ (x : Column). IsCube g x.cube) columns c h.good.cubes m in
-      let w = All-contains (λ (x : Column). All (λ l. l.high ≤ top g.faults l.variable) x.cube) columns c h.good.within m in
+      let w =
+      All-contains (λ (x : Column). All (λ l. l.high ≤ top g.faults l.variable) x.cube) columns c h.good.within m in
       let n = All-contains (λ (x : Column). All (λ l. is_whole g.faults l ≡ false) x.cube) columns c h.not_whole m in
-      let r = All-contains (λ (x : Column). (s : Scenario) × IsScenario g s × (matches x.cube s ≡ true)) columns c h.good.met m in
+      let r = All-contains (λ (x : Column). (s : Scenario) × IsScenario g s × (matches x.cube s ≡ true)) columns
+      c h.good.met m in
       record {
         cube = is;
         narrow = λ k d l. (n k d l, w k d l);
@@ -63,10 +69,12 @@ module _ (g : Graph) (few : process_count g ≤ 128) where
   abbrev shorn_column : Column → Column
   shorn_column c = record { time = c.time; cube = shorn g.faults c.cube }
 
-  times_shorn : (columns : List Column) (s : Scenario) → IsScenario g s → All (λ c. IsCube g c.cube) columns → times_in (all_shorn g.faults columns) s ≡ times_in columns s
+  times_shorn : (columns : List Column) (s : Scenario) → IsScenario g s → All (λ c. IsCube g c.cube) columns →
+      times_in (all_shorn g.faults columns) s ≡ times_in columns s
   times_shorn [] s i is = refl
   times_shorn (c ∷ cs) s i is = times_first (shorn_column c) (all_shorn g.faults cs) s
-      ∙ ap₂ (λ m ts. cond m (c.time ∷ ts) ts) (matches_shorn g few c.cube s i (All-head (λ (x : Column). IsCube g x.cube) c cs is))
+      ∙ ap₂ (λ m ts. cond m (c.time ∷ ts) ts)
+      (matches_shorn g few c.cube s i (All-head (λ (x : Column). IsCube g x.cube) c cs is))
       (times_shorn cs s i (All-tail (λ (x : Column). IsCube g x.cube) c cs is))
       ∙ sym (times_first c cs s)
 
@@ -83,25 +91,31 @@ module _ (g : Graph) (few : process_count g ≤ 128) where
 
   pub shorn_columns : (columns : List Column) → AreMergeable g columns → IsShorn g (all_shorn g.faults columns)
   shorn_columns columns h = shorn_of (all_shorn g.faults columns)
-      (All-map (λ (x : Column). IsGood g x.cube) shorn_column columns (All-from_each {P = λ c. IsGood g (shorn g.faults c.cube)} columns (λ c m.
-      let r = All-contains (λ (x : Column). (s : Scenario) × IsScenario g s × (matches x.cube s ≡ true)) columns c h.met m in
+      (All-map (λ (x : Column). IsGood g x.cube) shorn_column columns
+      (All-from_each {P = λ c. IsGood g (shorn g.faults c.cube)} columns (λ c m.
+      let r = All-contains (λ (x : Column). (s : Scenario) × IsScenario g s × (matches x.cube s ≡ true))
+      columns c h.met m in
       good_shorn g few c.cube r.0 r.1 r.2 (All-contains (λ (x : Column). IsCube g x.cube) columns c h.cubes m)
       (All-contains (λ (x : Column). All (λ l. l.high ≤ top g.faults l.variable) x.cube) columns c h.within m))))
       (λ s i. subst (λ ts. length ts ≤ 1) (sym (times_shorn columns s i h.cubes)) (h.apart s i))
 
   -- ---- another order of columns of which at most one matches
 
-  one_same : (xs ys : List ℕ) → length xs ≤ 1 → length ys ≤ 1 → ((x : ℕ) → Contains xs x → Contains ys x) → ((x : ℕ) → Contains ys x → Contains xs x) → xs ≡ ys
+  one_same : (xs ys : List ℕ) → length xs ≤ 1 → length ys ≤ 1 → ((x : ℕ) → Contains xs x → Contains ys x) →
+      ((x : ℕ) → Contains ys x → Contains xs x) → xs ≡ ys
   one_same [] [] h k f t = refl
   one_same [] (y ∷ ys) h k f t = absurd (Contains-nil y (t y (Contains-first y ys)))
   one_same (x ∷ xs) [] h k f t = absurd (Contains-nil x (f x (Contains-first x xs)))
-  one_same (x ∷ []) (y ∷ []) h k f t = ⊎_elim (λ (e : y ≡ x). ap (λ z. z ∷ []) (sym e)) (λ (n : Contains [] x). absurd (Contains-nil x n)) (Contains-cases y [] x (f x (Contains-first x [])))
+  one_same (x ∷ []) (y ∷ []) h k f t = ⊎_elim (λ (e : y ≡ x). ap (λ z. z ∷ []) (sym e))
+      (λ (n : Contains [] x). absurd (Contains-nil x n)) (Contains-cases y [] x (f x (Contains-first x [])))
   one_same (x ∷ z ∷ xs) (y ∷ ys) h k f t = absurd (omega arith)
   one_same (x ∷ []) (y ∷ z ∷ ys) h k f t = absurd (omega arith)
 
   module _ (xs ys : List Column) (p : IsPermutation xs ys) where
-    length_times : (zs : List Column) (s : Scenario) → length (times_in zs s) ≡ sum_by (λ c. cond (matches c.cube s) 1 0) zs
-    length_times zs s = length-map (filter (λ c. matches c.cube s) zs) (λ (c : Column). c.time) ∙ length-filter (λ (c : Column). matches c.cube s) zs
+    length_times : (zs : List Column) (s : Scenario) →
+        length (times_in zs s) ≡ sum_by (λ c. cond (matches c.cube s) 1 0) zs
+    length_times zs s = length-map (filter (λ c. matches c.cube s) zs) (λ (c : Column). c.time)
+        ∙ length-filter (λ (c : Column). matches c.cube s) zs
 
     pub single_permuted : AreSingle g xs → AreSingle g ys
     single_permuted h = λ s i.
@@ -114,11 +128,13 @@ module _ (g : Graph) (few : process_count g ≤ 128) where
     pub good_permuted : AreGood g xs → AreGood g ys
     good_permuted h = All-permutation (λ (x : Column). IsGood g x.cube) xs ys p h
 
-  times_contained : (xs ys : List Column) → IsPermutation xs ys → (s : Scenario) (t : ℕ) → Contains (times_in xs s) t → Contains (times_in ys s) t
+  times_contained : (xs ys : List Column) → IsPermutation xs ys → (s : Scenario) (t : ℕ) → Contains (times_in xs s) t →
+      Contains (times_in ys s) t
   times_contained xs ys p s t m =
       let r = Contains-map_parts (λ (c : Column). c.time) (filter (λ (c : Column). matches c.cube s) xs) t m in
       let q = Contains-filter_parts (λ (c : Column). matches c.cube s) xs r.0 r.1 in
-      subst (Contains (times_in ys s)) r.2 (Contains-map (λ (c : Column). c.time) (filter (λ (c : Column). matches c.cube s) ys) r.0
+      subst (Contains (times_in ys s)) r.2
+      (Contains-map (λ (c : Column). c.time) (filter (λ (c : Column). matches c.cube s) ys) r.0
       (Contains-filter (λ (c : Column). matches c.cube s) ys r.0 q.1 (Contains-permutation xs ys r.0 p q.0)))
 
   pub joins_permuted : (xs ys : List Column) → IsPermutation xs ys → AreSingle g xs → IsJoinOf g xs ys
@@ -134,11 +150,15 @@ module _ (g : Graph) (few : process_count g ≤ 128) where
   -- ---- a step at one variable
 
   -- sorted columns, walked over
-  pub passed_on : (v : ℕ) → IsVariable g v → (xs ys : List Column) → IsShorn g xs → IsPermutation xs ys → IsSortedBy (λ c d. is_lt (column_cmp v c d)) ys →
+  pub passed_on : (v : ℕ) → IsVariable g v → (xs ys : List Column) → IsShorn g xs → IsPermutation xs ys →
+      IsSortedBy (λ c d. is_lt (column_cmp v c d)) ys →
       IsPassed g (λ u. u ≡ v) xs (walked_over g.faults v ys)
-  passed_on v known xs ys h p up = go ys p up (good_permuted xs ys p (good_of xs h)) (single_permuted xs ys p h.good.apart)
+  passed_on v known xs ys h p up =
+      go ys p up (good_permuted xs ys p (good_of xs h)) (single_permuted xs ys p h.good.apart)
     where
-      go : (zs : List Column) → IsPermutation xs zs → IsSortedBy (λ c d. is_lt (column_cmp v c d)) zs → AreGood g zs → AreSingle g zs → IsPassed g (λ u. u ≡ v) xs (walked_over g.faults v zs)
+      go : (zs : List Column) → IsPermutation xs zs → IsSortedBy (λ c d. is_lt (column_cmp v c d)) zs → AreGood g zs →
+          AreSingle g zs →
+          IsPassed g (λ u. u ≡ v) xs (walked_over g.faults v zs)
       go [] q s good single = record {
         joins = joins_permuted xs [] q h.good.apart;
         good = shorn_of [] good single;
@@ -150,20 +170,26 @@ module _ (g : Graph) (few : process_count g ≤ 128) where
           let n = length_permutation xs (z ∷ zs) q in
           record {
             joins = joins_through g xs (z ∷ zs) (walked g.faults v z zs) j w.joins;
-            good = shorn_of (walked g.faults v z zs) w.good (single_joined (z ∷ zs) (walked g.faults v z zs) w.joins single);
+            good = shorn_of (walked g.faults v z zs) w.good
+                (single_joined (z ∷ zs) (walked g.faults v z zs) w.joins single);
             fewer = ⊎_elim
                 (λ (l : length (walked g.faults v z zs) < length (z ∷ zs)). inl (omega arith))
-                (λ (e : walked g.faults v z zs ≡ z ∷ zs). inr
-                (subst (IsPermutation xs) (sym e) q, λ u f. subst (λ y. IsSettledOn g.faults y (walked g.faults v z zs)) (sym f) (settled g few v known z zs good single s)))
+                (λ (e : walked g.faults v z zs ≡ z ∷ zs). inr (
+                  subst (IsPermutation xs) (sym e) q,
+                  λ u f. subst (λ y. IsSettledOn g.faults y (walked g.faults v z zs)) (sym f)
+                      (settled g few v known z zs good single s),
+                ))
                 w.fewer;
           }
 
 -- ---- steps that leave columns as they are
 
 -- sorted columns of which none follows another stay as they are
-not_walked : (k v : ℕ) (c : Column) (cs : List Column) → is_any_followed_from k v c cs ≡ false → walked k v c cs ≡ c ∷ cs
+not_walked : (k v : ℕ) (c : Column) (cs : List Column) → is_any_followed_from k v c cs ≡ false →
+    walked k v c cs ≡ c ∷ cs
 not_walked k v c [] h = refl
-not_walked k v c (d ∷ ds) h = cond-false (is_followed k v c d) (walked k v (joined k v c d) ds) (c ∷ walked k v d ds) (or_parts (is_followed k v c d) (is_any_followed_from k v d ds) h).0
+not_walked k v c (d ∷ ds) h = cond-false (is_followed k v c d) (walked k v (joined k v c d) ds) (c ∷ walked k v d ds)
+    (or_parts (is_followed k v c d) (is_any_followed_from k v d ds) h).0
     ∙ ap (λ xs. c ∷ xs) (not_walked k v d ds (or_parts (is_followed k v c d) (is_any_followed_from k v d ds) h).1)
 
 pub not_walked_over : (k v : ℕ) (cs : List Column) → is_any_followed k v cs ≡ false → walked_over k v cs ≡ cs
@@ -174,22 +200,27 @@ not_walked_over k v (c ∷ cs) h = not_walked k v c cs h
 
 module _ (g : Graph) where
   -- of which no two touch
-  pub passed_settled : (v : ℕ) → (xs : List Column) → IsShorn g xs → IsSettledOn g.faults v xs → IsPassed g (λ u. u ≡ v) xs xs
+  pub passed_settled : (v : ℕ) → (xs : List Column) → IsShorn g xs → IsSettledOn g.faults v xs →
+      IsPassed g (λ u. u ≡ v) xs xs
   passed_settled v xs h apart = record {
     joins = joins_itself g xs;
     good = h;
     fewer = inr (IsPermutation-refl xs, λ u e. subst (λ y. IsSettledOn g.faults y xs) (sym e) apart);
   }
 
-  settled_permuted : (v : ℕ) (xs ys : List Column) → IsPermutation xs ys → IsSettledOn g.faults v xs → IsSettledOn g.faults v ys
-  settled_permuted v xs ys p h = λ c d m n. h c d (Contains-permutation ys xs c (IsPermutation-sym xs ys p) m) (Contains-permutation ys xs d (IsPermutation-sym xs ys p) n)
+  settled_permuted : (v : ℕ) (xs ys : List Column) → IsPermutation xs ys → IsSettledOn g.faults v xs →
+      IsSettledOn g.faults v ys
+  settled_permuted v xs ys p h = λ c d m n. h c d (Contains-permutation ys xs c (IsPermutation-sym xs ys p) m)
+      (Contains-permutation ys xs d (IsPermutation-sym xs ys p) n)
 
   -- no variables
   pub passed_none : (P : ℕ → Type 0) → ((v : ℕ) → P v → ⊥) → (xs : List Column) → IsShorn g xs → IsPassed g P xs xs
-  passed_none P none xs h = record { joins = joins_itself g xs; good = h; fewer = inr (IsPermutation-refl xs, λ v o. absurd (none v o)) }
+  passed_none P none xs h =
+      record { joins = joins_itself g xs; good = h; fewer = inr (IsPermutation-refl xs, λ v o. absurd (none v o)) }
 
   -- fewer variables, or others by the same numbers
-  pub passed_wider : (P Q : ℕ → Type 0) → ((v : ℕ) → Q v → P v) → (xs ys : List Column) → IsPassed g P xs ys → IsPassed g Q xs ys
+  pub passed_wider : (P Q : ℕ → Type 0) → ((v : ℕ) → Q v → P v) → (xs ys : List Column) → IsPassed g P xs ys →
+      IsPassed g Q xs ys
   passed_wider P Q h xs ys k = record {
     joins = k.joins;
     good = k.good;
@@ -199,16 +230,23 @@ module _ (g : Graph) where
         k.fewer;
   }
 
-  pub passed_through : (P Q R : ℕ → Type 0) → ((v : ℕ) → R v → P v ⊎ Q v) → (xs ys zs : List Column) → IsPassed g P xs ys → IsPassed g Q ys zs → IsPassed g R xs zs
+  pub passed_through : (P Q R : ℕ → Type 0) → ((v : ℕ) → R v → P v ⊎ Q v) → (xs ys zs : List Column) →
+      IsPassed g P xs ys → IsPassed g Q ys zs →
+      IsPassed g R xs zs
   passed_through P Q R split xs ys zs h k = record {
     joins = joins_through g xs ys zs h.joins k.joins;
     good = k.good;
     fewer = ⊎_elim
         (λ (l : length ys < length xs). inl (⊎_elim
         (λ (m : length zs < length ys). let r : length zs < length xs = omega arith in r)
-        (λ (m : IsPermutation ys zs × ((v : ℕ) → Q v → IsSettledOn g.faults v zs)). let n = length_permutation ys zs m.0 in let r : length zs < length xs = omega arith in r)
+        (λ (m : IsPermutation ys zs × ((v : ℕ) → Q v → IsSettledOn g.faults v zs)).
+        let n = length_permutation ys zs m.0 in
+        let r : length zs < length xs = omega arith in
+        r)
         k.fewer))
-        (λ (l : IsPermutation xs ys × ((v : ℕ) → P v → IsSettledOn g.faults v ys)). let n = length_permutation xs ys l.0 in ⊎_elim
+        (λ (l : IsPermutation xs ys × ((v : ℕ) → P v → IsSettledOn g.faults v ys)).
+        let n = length_permutation xs ys l.0 in
+        ⊎_elim
         (λ (m : length zs < length ys). inl (let r : length zs < length xs = omega arith in r))
         (λ (m : IsPermutation ys zs × ((v : ℕ) → Q v → IsSettledOn g.faults v zs)). inr (
           IsPermutation-trans xs ys zs l.0 m.0,
@@ -219,35 +257,44 @@ module _ (g : Graph) where
   }
 
   -- columns that are as many as before are settled
-  pub settled_same : (P : ℕ → Type 0) (xs ys : List Column) → IsPassed g P xs ys → length ys ≡ length xs → (v : ℕ) → P v → IsSettledOn g.faults v ys
+  pub settled_same : (P : ℕ → Type 0) (xs ys : List Column) → IsPassed g P xs ys → length ys ≡ length xs → (v : ℕ) →
+      P v →
+      IsSettledOn g.faults v ys
   settled_same P xs ys k e = ⊎_elim
       (λ (l : length ys < length xs). absurd (omega arith))
       (λ (l : IsPermutation xs ys × ((v : ℕ) → P v → IsSettledOn g.faults v ys)). l.1)
       k.fewer
 
   -- columns that are as many as before are the same in some order
-  pub permuted_same : (P : ℕ → Type 0) (xs ys : List Column) → IsPassed g P xs ys → length ys ≡ length xs → IsPermutation xs ys
+  pub permuted_same : (P : ℕ → Type 0) (xs ys : List Column) → IsPassed g P xs ys → length ys ≡ length xs →
+      IsPermutation xs ys
   permuted_same P xs ys k e = ⊎_elim
       (λ (l : length ys < length xs). absurd (omega arith))
       (λ (l : IsPermutation xs ys × ((v : ℕ) → P v → IsSettledOn g.faults v ys)). l.0)
       k.fewer
 
   -- columns that are not as many as before are fewer
-  pub fewer_else : (P : ℕ → Type 0) (xs ys : List Column) → IsPassed g P xs ys → length ys ≢ length xs → length ys < length xs
+  pub fewer_else : (P : ℕ → Type 0) (xs ys : List Column) → IsPassed g P xs ys → length ys ≢ length xs →
+      length ys < length xs
   fewer_else P xs ys k n = ⊎_elim
       (λ (l : length ys < length xs). l)
-      (λ (l : IsPermutation xs ys × ((v : ℕ) → P v → IsSettledOn g.faults v ys)). absurd (n (length_permutation xs ys l.0)))
+      (λ (l : IsPermutation xs ys × ((v : ℕ) → P v → IsSettledOn g.faults v ys)).
+      absurd (n (length_permutation xs ys l.0)))
       k.fewer
 
 -- ---- columns that are known to be sorted
 
-pub sorted_through : (before middle after : Listing) → IsSortedAs before middle → IsSortedAs middle after → IsSortedAs before after
+pub sorted_through : (before middle after : Listing) → IsSortedAs before middle → IsSortedAs middle after →
+    IsSortedAs before after
 sorted_through before middle after h k t =
     let later = k t in
     let earlier = h later.0 in
     (earlier.0, later.1 ∙ earlier.1)
 
 -- columns that are known to stand by lows do so, if those of before did when they were known to
-pub sorted_still : (g : Graph) (order : List ℕ) (before after : Listing) → (before.is_sorted ≡ true → AreByLows (λ (c : Column). c.cube) g order before.columns.items) → IsSortedAs before after →
+pub sorted_still : (g : Graph) (order : List ℕ) (before after : Listing) →
+    (before.is_sorted ≡ true → AreByLows (λ (c : Column). c.cube) g order before.columns.items) →
+    IsSortedAs before after →
     after.is_sorted ≡ true → AreByLows (λ (c : Column). c.cube) g order after.columns.items
-sorted_still g order before after stood same t = let is = same t in subst (AreByLows (λ (c : Column). c.cube) g order) (sym is.1) (stood is.0)
+sorted_still g order before after stood same t = let is = same t in
+    subst (AreByLows (λ (c : Column). c.cube) g order) (sym is.1) (stood is.0)

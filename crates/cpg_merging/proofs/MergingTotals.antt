@@ -1,5 +1,6 @@
 -- Columns of which no sum is that of another changed at a literal don't touch.
-use Rattle.std.proofs.Common.{ℕ, ◌+◌, ◌-◌, ◌%◌, ◌^◌, ◌<◌, ◌≤◌, ◌≡◌, ◌≢◌, ◌⊎◌, ◌==◌, Bool, true, false, not, List, [], ◌∷◌, length, take, get_or, map, sum_by, Contains, IsPermutation, arith, refl, sym}
+use Rattle.std.proofs.Common.{ℕ, ◌+◌, ◌-◌, ◌%◌, ◌^◌, ◌<◌, ◌≤◌, ◌≡◌, ◌≢◌, ◌⊎◌, ◌==◌, Bool, true, false, not, List, []}
+use Rattle.std.proofs.Common.{◌∷◌, length, take, get_or, map, sum_by, Contains, IsPermutation, arith, refl, sym}
 use Rattle.std.proofs.Common.{ap, ap₂, ◌∙◌, subst, inl, inr, eq-eqb, ne_eqb, true≢false, Result, Ok, Err}
 use Rattle.std.specs.Prelude.{slice_set}
 use Rattle.std.specs.Bool.{OnFalse}
@@ -9,7 +10,8 @@ use Rattle.std.specs.Ordering.{nat_cmp}
 use Rattle.std.specs.Result.{is_ok}
 use Rattle.std.proofs.lemmas.Bool.{cases_eq, cases_lt, cond-true, cond-false}
 use Rattle.std.proofs.lemmas.List.Elements.{Contains-get_or, Contains-push_cases}
-use Rattle.std.proofs.lemmas.List.{take_more, take_all, get_or_default, get_or_past, get_or-map, get_or-set_other, get_or-set_same, length-map}
+use Rattle.std.proofs.lemmas.List.{take_more, take_all, get_or_default, get_or_past, get_or-map, get_or-set_other}
+use Rattle.std.proofs.lemmas.List.{get_or-set_same, length-map}
 use Rattle.std.proofs.lemmas.List.Sorted.{Contains-permutation, IsPermutation-sym, searched}
 use Rattle.std.proofs.lemmas.List.Sums.{sum_by-cons}
 use Rattle.cpg_base.specs.Graph.{Graph, process_count, IsVariable}
@@ -20,7 +22,8 @@ use Rattle.cpg_base.specs.Variable.{top}
 use Rattle.cpg_cube.proofs.Ranges.{rising_rest, rising_first}
 use Rattle.cpg_cube.specs.Column.{Column}
 use Rattle.cpg_merging.specs.Merging.{without, TouchAt}
-use Rattle.cpg_merging.specs.Totals.{mixed, hash_of, total_of, ended, HasNoPartner, IsMarked, AreMarkedBy, AreMarked, DoNotFall, place_in}
+use Rattle.cpg_merging.specs.Totals.{mixed, hash_of, total_of, ended, HasNoPartner, IsMarked, AreMarkedBy, AreMarked}
+use Rattle.cpg_merging.specs.Totals.{DoNotFall, place_in}
 use Rattle.cpg_merging.proofs.MergingPairs.{IsGood, low-le-high, high_in-top}
 use Rattle.cpg_merging.proofs.MergingSettled.{same_without}
 
@@ -30,25 +33,32 @@ of_range k cube v = record { variable = v; low = low_in cube v; high = high_in k
 
 range_here : (k : ℕ) (l : Literal) (ls : List Literal) (v : ℕ) → l.variable ≡ v → l ≡ of_range k (l ∷ ls) v
 range_here k l ls v e = subst (λ w. l ≡ of_range k (l ∷ ls) w) e
-    (ap₂ (λ low high. record { variable = l.variable; low = low; high = high }) (sym (cond-true (l.variable == l.variable) l.low (low_in ls l.variable) (eq-eqb _ _ refl)))
+    (ap₂ (λ low high. record { variable = l.variable; low = low; high = high })
+    (sym (cond-true (l.variable == l.variable) l.low (low_in ls l.variable) (eq-eqb _ _ refl)))
     (sym (cond-true (l.variable == l.variable) l.high (high_in k ls l.variable) (eq-eqb _ _ refl))))
 
-range_later : (k : ℕ) (l : Literal) (ls : List Literal) (v : ℕ) → l.variable ≢ v → of_range k ls v ≡ of_range k (l ∷ ls) v
-range_later k l ls v n = ap₂ (λ low high. record { variable = v; low = low; high = high }) (sym (cond-false (l.variable == v) l.low (low_in ls v) (ne_eqb _ _ n)))
+range_later : (k : ℕ) (l : Literal) (ls : List Literal) (v : ℕ) → l.variable ≢ v →
+    of_range k ls v ≡ of_range k (l ∷ ls) v
+range_later k l ls v n = ap₂ (λ low high. record { variable = v; low = low; high = high })
+    (sym (cond-false (l.variable == v) l.low (low_in ls v) (ne_eqb _ _ n)))
     (sym (cond-false (l.variable == v) l.high (high_in k ls v) (ne_eqb _ _ n)))
 
 -- a range that isn't the whole one is a literal's
-pub spoken : (k : ℕ) (cube : List Literal) (v : ℕ) → (0 < low_in cube v) ⊎ (high_in k cube v < top k v) → Contains cube (of_range k cube v)
+pub spoken : (k : ℕ) (cube : List Literal) (v : ℕ) → (0 < low_in cube v) ⊎ (high_in k cube v < top k v) →
+    Contains cube (of_range k cube v)
 spoken k [] v (inl h) = absurd (omega (arith, h))
 spoken k [] v (inr h) = absurd (omega (arith, h))
 spoken k (l ∷ ls) v h = elim (cases_eq l.variable v) [
   | inl e ↦ subst (Contains (l ∷ ls)) (range_here k l ls v e) (Contains-first l ls)
-  | inr n ↦ subst (Contains (l ∷ ls)) (range_later k l ls v n) (Contains-rest l ls (of_range k ls v) (spoken k ls v (later n h)))
+  | inr n ↦ subst (Contains (l ∷ ls)) (range_later k l ls v n)
+      (Contains-rest l ls (of_range k ls v) (spoken k ls v (later n h)))
 ]
   where
-    later : l.variable ≢ v → (0 < low_in (l ∷ ls) v) ⊎ (high_in k (l ∷ ls) v < top k v) → (0 < low_in ls v) ⊎ (high_in k ls v < top k v)
+    later : l.variable ≢ v → (0 < low_in (l ∷ ls) v) ⊎ (high_in k (l ∷ ls) v < top k v) →
+        (0 < low_in ls v) ⊎ (high_in k ls v < top k v)
     later n (inl h) = inl (subst (λ w. 0 < w) (cond-false (l.variable == v) l.low (low_in ls v) (ne_eqb _ _ n)) h)
-    later n (inr h) = inr (subst (λ w. w < top k v) (cond-false (l.variable == v) l.high (high_in k ls v) (ne_eqb _ _ n)) h)
+    later n (inr h) =
+        inr (subst (λ w. w < top k v) (cond-false (l.variable == v) l.high (high_in k ls v) (ne_eqb _ _ n)) h)
 
 -- ---- the sum over a cube is that over the other literals and the one on the variable
 
@@ -60,16 +70,20 @@ without_other v l ls n = cond-true (not (l.variable == v)) (l ∷ without v ls) 
 
 without_none : (v : ℕ) (ls : List Literal) → ((m : Literal) → Contains ls m → m.variable ≢ v) → without v ls ≡ ls
 without_none v [] h = refl
-without_none v (l ∷ ls) h = without_other v l ls (h l (Contains-first l ls)) ∙ ap (λ ms. l ∷ ms) (without_none v ls (λ m c. h m (Contains-rest l ls m c)))
+without_none v (l ∷ ls) h = without_other v l ls (h l (Contains-first l ls))
+    ∙ ap (λ ms. l ∷ ms) (without_none v ls (λ m c. h m (Contains-rest l ls m c)))
 
-pub sum_parts : (f : Literal → ℕ) (v : ℕ) (cube : List Literal) → IsRising cube → (l : Literal) → Contains cube l → l.variable ≡ v → sum_by f cube ≡ sum_by f (without v cube) + f l
+pub sum_parts : (f : Literal → ℕ) (v : ℕ) (cube : List Literal) → IsRising cube → (l : Literal) → Contains cube l →
+    l.variable ≡ v →
+    sum_by f cube ≡ sum_by f (without v cube) + f l
 sum_parts f v [] rising l c e = absurd (Contains-nil l c)
 sum_parts f v (m ∷ ms) rising l c e = elim (Contains-cases m ms l c) [
   | inl s ↦ omega (
     arith,
     sum_by-cons f m ms,
     ap (sum_by f) (without_same v m ms (ap (λ (x : Literal). x.variable) s ∙ e)),
-    ap (sum_by f) (without_none v ms (λ n d h. absurd (omega (arith, rising_first m n ms rising d, h, e, ap (λ (x : Literal). x.variable) s)))),
+    ap (sum_by f) (without_none v ms
+        (λ n d h. absurd (omega (arith, rising_first m n ms rising d, h, e, ap (λ (x : Literal). x.variable) s)))),
     ap f s,
   )
   | inr d ↦ omega (
@@ -87,7 +101,9 @@ pub one_rest : (x r h i : ℕ) → (x + h) % 2 ^ 64 ≡ (r + h) % 2 ^ 64 → (x 
 one_rest x r h i e = omega (arith, e)
 
 module _ (g : Graph) (few : process_count g ≤ 128) (v : ℕ) (known : IsVariable g v) where
-  pub touch_partner : (c d : Column) → IsGood g c.cube → IsGood g d.cube → c.time ≡ d.time → TouchAt g.faults v c.cube d.cube → (totals : List ℕ) → Contains totals (total_of c)
+  pub touch_partner : (c d : Column) → IsGood g c.cube → IsGood g d.cube → c.time ≡ d.time →
+      TouchAt g.faults v c.cube d.cube → (totals : List ℕ) →
+      Contains totals (total_of c)
       → ((l : Literal) → Contains d.cube l → l.variable ≡ v → HasNoPartner totals (total_of d) l) → ⊥
   touch_partner c d good_c good_d same touch totals there none =
       let k = g.faults in
@@ -99,27 +115,38 @@ module _ (g : Graph) (few : process_count g ≤ 128) (v : ℕ) (known : IsVariab
       let ld : Contains d.cube (of_range k d.cube v) = spoken k d.cube v (inl (omega (arith, next))) in
       let rest : ℕ = mixed 0 d.time + sum_by hash_of (without v d.cube) in
       let sum_c : mixed 0 c.time + sum_by hash_of c.cube ≡ rest + hash_of (of_range k c.cube v) =
-      add_parts (mixed 0 c.time) (sum_by hash_of c.cube) (mixed 0 d.time) (sum_by hash_of (without v d.cube)) (hash_of (of_range k c.cube v)) (ap (mixed 0) same)
-      (sum_parts hash_of v c.cube good_c.cube.rising (of_range k c.cube v) lc refl ∙ ap (λ ls. sum_by hash_of ls + hash_of (of_range k c.cube v))
+      add_parts (mixed 0 c.time) (sum_by hash_of c.cube) (mixed 0 d.time) (sum_by hash_of (without v d.cube))
+      (hash_of (of_range k c.cube v)) (ap (mixed 0) same)
+      (sum_parts hash_of v c.cube good_c.cube.rising (of_range k c.cube v) lc refl
+      ∙ ap (λ ls. sum_by hash_of ls + hash_of (of_range k c.cube v))
       (same_without g few v known c.cube d.cube good_c good_d touch.others)) in
       let sum_d : mixed 0 d.time + sum_by hash_of d.cube ≡ rest + hash_of (of_range k d.cube v) =
-      add_parts (mixed 0 d.time) (sum_by hash_of d.cube) (mixed 0 d.time) (sum_by hash_of (without v d.cube)) (hash_of (of_range k d.cube v)) refl
+      add_parts (mixed 0 d.time) (sum_by hash_of d.cube) (mixed 0 d.time) (sum_by hash_of (without v d.cube))
+      (hash_of (of_range k d.cube v)) refl
       (sum_parts hash_of v d.cube good_d.cube.rising (of_range k d.cube v) ld refl) in
       let high : high_in k c.cube v ≡ low_in d.cube v - 1 = omega (arith, next) in
-      let end : of_range k c.cube v ≡ ended (of_range k d.cube v) (low_in c.cube v) = ap (λ (n : ℕ). record { variable = v; low = low_in c.cube v; high = n }) high in
-      none (of_range k d.cube v) ld refl (low_in c.cube v) rest (omega (arith, low_c, next)) (ap (λ n. n % 2 ^ 64) (sym sum_d))
-      (subst (Contains totals) (ap (λ n. n % 2 ^ 64) sum_c ∙ ap (λ (l : Literal). (rest + hash_of l) % 2 ^ 64) end) there)
+      let end : of_range k c.cube v ≡ ended (of_range k d.cube v) (low_in c.cube v) =
+      ap (λ (n : ℕ). record { variable = v; low = low_in c.cube v; high = n }) high in
+      none (of_range k d.cube v) ld refl (low_in c.cube v) rest (omega (arith, low_c, next))
+      (ap (λ n. n % 2 ^ 64) (sym sum_d))
+      (subst (Contains totals)
+      (ap (λ n. n % 2 ^ 64) sum_c ∙ ap (λ (l : Literal). (rest + hash_of l) % 2 ^ 64) end) there)
     where
       add_parts : (s t r w h : ℕ) → s ≡ r → t ≡ w + h → s + t ≡ r + w + h
       add_parts s t r w h e f = omega (arith, e, f)
 
 -- marks by the sums are marks by the same sums sorted
-pub marked_sorted : (columns : List Column) (marks : List Bool) (sorted : List ℕ) → IsPermutation (map total_of columns) sorted → AreMarkedBy sorted marks columns →
+pub marked_sorted : (columns : List Column) (marks : List Bool) (sorted : List ℕ) →
+    IsPermutation (map total_of columns) sorted →
+    AreMarkedBy sorted marks columns →
     AreMarkedBy (map total_of columns) marks columns
-marked_sorted columns marks sorted p h = λ d l m n off low rest less is there. h d l m n off low rest less is (Contains-permutation (map total_of columns) sorted _ p there)
+marked_sorted columns marks sorted p h = λ d l m n off low rest less is there.
+    h d l m n off low rest less is (Contains-permutation (map total_of columns) sorted _ p there)
 
 -- columns have the marks that they have in another order
-pub marked_permuted : (g : Graph) (xs ys : List Column) (marks : List Bool) → IsPermutation xs ys → AreMarked g marks xs → AreMarked g marks ys
+pub marked_permuted : (g : Graph) (xs ys : List Column) (marks : List Bool) → IsPermutation xs ys →
+    AreMarked g marks xs →
+    AreMarked g marks ys
 marked_permuted g xs ys marks p h = λ v known off c d m n. let back = IsPermutation-sym xs ys p in
     h v known off c d (Contains-permutation ys xs c back m) (Contains-permutation ys xs d back n)
 
@@ -130,20 +157,26 @@ from_off true e h = cc
 from_off false e h = h
 
 -- what holds of the elements before a place and of the one there holds of those before the next
-pub all_more : {X : Type 0} (P : X → Type 0) (xs : List X) (i : ℕ) (d : X) → i < length xs → ((m : X) → Contains (take i xs) m → P m) → P (get_or xs i d) → (m : X) → Contains (take (i + 1) xs) m → P m
-all_more P xs i d within before here m c = elim (Contains-push_cases (take i xs) (get_or xs i d) m (subst (λ ys. Contains ys m) (take_more xs i d within) c)) [
-  | inl o ↦ before m o
-  | inr e ↦ subst P e here
-]
+pub all_more : {X : Type 0} (P : X → Type 0) (xs : List X) (i : ℕ) (d : X) → i < length xs →
+    ((m : X) → Contains (take i xs) m → P m) → P (get_or xs i d) → (m : X) → Contains (take (i + 1) xs) m → P m
+all_more P xs i d within before here m c =
+    elim (Contains-push_cases (take i xs) (get_or xs i d) m (subst (λ ys. Contains ys m) (take_more xs i d within) c)) [
+      | inl o ↦ before m o
+      | inr e ↦ subst P e here
+    ]
 
 -- what holds of the elements before the end of all holds of all
-pub all_of : {X : Type 0} (P : X → Type 0) (xs : List X) (i : ℕ) → length xs ≤ i → ((m : X) → Contains (take i xs) m → P m) → (m : X) → Contains xs m → P m
+pub all_of : {X : Type 0} (P : X → Type 0) (xs : List X) (i : ℕ) → length xs ≤ i →
+    ((m : X) → Contains (take i xs) m → P m) → (m : X) → Contains xs m → P m
 all_of P xs i long before m c = before m (subst (λ ys. Contains ys m) (sym (take_all i xs long)) c)
 
 -- a mark more in a sieve
-pub sieve_more : (sieve : List Bool) (count place : ℕ) (numbers : List ℕ) (i d : ℕ) → i < length numbers → length sieve ≡ count → place ≡ place_in count (get_or numbers i d) → place < count
-    → ((n : ℕ) → Contains (take i numbers) n → IsMarked sieve (place_in count n)) → (n : ℕ) → Contains (take (i + 1) numbers) n → IsMarked (slice_set sieve place true) (place_in count n)
-sieve_more sieve count place numbers i d within long is inside before n c = all_more (λ (m : ℕ). IsMarked (slice_set sieve place true) (place_in count m)) numbers i d within
+pub sieve_more : (sieve : List Bool) (count place : ℕ) (numbers : List ℕ) (i d : ℕ) → i < length numbers →
+    length sieve ≡ count → place ≡ place_in count (get_or numbers i d) → place < count
+    → ((n : ℕ) → Contains (take i numbers) n → IsMarked sieve (place_in count n)) → (n : ℕ) →
+    Contains (take (i + 1) numbers) n → IsMarked (slice_set sieve place true) (place_in count n)
+sieve_more sieve count place numbers i d within long is inside before n c =
+    all_more (λ (m : ℕ). IsMarked (slice_set sieve place true) (place_in count m)) numbers i d within
     (λ m h. kept (place_in count m) (before m h)) (subst (IsMarked (slice_set sieve place true)) is here) n c
   where
     here : IsMarked (slice_set sieve place true) place
@@ -156,7 +189,8 @@ sieve_more sieve count place numbers i d within long is inside before n c = all_
     ]
 
 -- what a search doesn't find isn't there
-pub not_there : (xs : List ℕ) (x : ℕ) (r : Result ℕ ℕ) → IsBinarySearchResult (λ y. nat_cmp y x) xs r → DoNotFall xs → OnFalse (is_ok r) (Contains xs x → ⊥)
+pub not_there : (xs : List ℕ) (x : ℕ) (r : Result ℕ ℕ) → IsBinarySearchResult (λ y. nat_cmp y x) xs r → DoNotFall xs →
+    OnFalse (is_ok r) (Contains xs x → ⊥)
 not_there xs x (Ok i) h up = tt
 not_there xs x (Err i) h up = λ there.
     let parts = searched xs x (Err i) h up in
@@ -169,33 +203,43 @@ not_there xs x (Err i) h up = λ there.
 -- ---- marks of variables
 
 -- if none is found, none is marked
-pub none_on : (p : Bool → Bool) → p true ≡ true → (marks : List Bool) → list_any p marks ≡ false → (v : ℕ) → ¬ IsMarked marks v
+pub none_on : (p : Bool → Bool) → p true ≡ true → (marks : List Bool) → list_any p marks ≡ false → (v : ℕ) →
+    ¬ IsMarked marks v
 none_on p is marks none v on = elim (cases_lt v (length marks)) [
-  | inl l ↦ true≢false (sym is ∙ from_any_false p marks true none (subst (Contains marks) on (Contains-get_or marks v false l)))
+  | inl l ↦ true≢false (sym is
+      ∙ from_any_false p marks true none (subst (Contains marks) on (Contains-get_or marks v false l)))
   | inr l ↦ true≢false (sym on ∙ get_or_past marks v false l)
 ]
 
 -- a mark set if there was none leaves the others
-pub mark_kept : (marks : List Bool) (place : ℕ) (b : Bool) → get_or marks place false ≡ false → (v : ℕ) → IsMarked marks v → IsMarked (slice_set marks place b) v
+pub mark_kept : (marks : List Bool) (place : ℕ) (b : Bool) → get_or marks place false ≡ false → (v : ℕ) →
+    IsMarked marks v →
+    IsMarked (slice_set marks place b) v
 mark_kept marks place b off v on = elim (cases_eq v place) [
   | inl e ↦ absurd (true≢false (sym on ∙ ap (λ (p : ℕ). get_or marks p false) e ∙ off))
   | inr n ↦ get_or-set_other marks place v b false n ∙ on
 ]
 
 -- what isn't marked then was set so
-pub mark_off : (marks : List Bool) (place : ℕ) (b : Bool) → place < length marks → ¬ IsMarked (slice_set marks place b) place → b ≡ false
+pub mark_off : (marks : List Bool) (place : ℕ) (b : Bool) → place < length marks →
+    ¬ IsMarked (slice_set marks place b) place → b ≡ false
 mark_off marks place true within off = absurd (off (get_or-set_same marks place true false within))
 mark_off marks place false within off = refl
 
 -- marks by the columns before a place and by that there are marks by those before the next
 module _ {X : Type 0} (f : X → Column) (sums : List ℕ) (columns : List X) where
-  pub marked_next : (totals : List ℕ) (old new : List Bool) (place : ℕ) (x : X) → place < length columns → x ≡ get_or columns place x → totals ≡ map total_of (map f columns) →
+  pub marked_next : (totals : List ℕ) (old new : List Bool) (place : ℕ) (x : X) → place < length columns →
+      x ≡ get_or columns place x →
+      totals ≡ map total_of (map f columns) →
       ((v : ℕ) → IsMarked old v → IsMarked new v)
-      → ((l : Literal) → Contains (f x).cube l → ¬ IsMarked new l.variable → HasNoPartner sums (get_or totals place 0) l) → AreMarkedBy sums old (take place (map f columns)) →
+      → ((l : Literal) → Contains (f x).cube l → ¬ IsMarked new l.variable →
+      HasNoPartner sums (get_or totals place 0) l) → AreMarkedBy sums old (take place (map f columns)) →
       AreMarkedBy sums new (take (place + 1) (map f columns))
-  marked_next totals old new place x within is e kept here before d l m = all_more (λ (y : Column). (n : Literal) → Contains y.cube n → ¬ IsMarked new n.variable → HasNoPartner sums (total_of y) n)
+  marked_next totals old new place x within is e kept here before d l m = all_more
+      (λ (y : Column). (n : Literal) → Contains y.cube n → ¬ IsMarked new n.variable → HasNoPartner sums (total_of y) n)
       (map f columns) place (f x) long (λ y h n i off. before y n h i (λ on. off (kept n.variable on)))
-      (subst (λ (y : Column). (n : Literal) → Contains y.cube n → ¬ IsMarked new n.variable → HasNoPartner sums (total_of y) n) (sym at) now) d m l
+      (subst (λ (y : Column). (n : Literal) → Contains y.cube n → ¬ IsMarked new n.variable →
+      HasNoPartner sums (total_of y) n) (sym at) now) d m l
     where
       long : place < length (map f columns)
       long = let same = length-map columns f in omega (arith, within, same)
@@ -204,11 +248,16 @@ module _ {X : Type 0} (f : X → Column) (sums : List ℕ) (columns : List X) wh
       at = get_or-map f columns place x (f x) within ∙ ap f (sym is)
 
       total : get_or totals place 0 ≡ total_of (f x)
-      total = ap (λ (ns : List ℕ). get_or ns place 0) e ∙ get_or-map total_of (map f columns) place (f x) 0 long ∙ ap total_of at
+      total = ap (λ (ns : List ℕ). get_or ns place 0) e ∙ get_or-map total_of (map f columns) place (f x) 0 long
+          ∙ ap total_of at
 
       now : (n : Literal) → Contains (f x).cube n → ¬ IsMarked new n.variable → HasNoPartner sums (total_of (f x)) n
-      now = subst (λ (t : ℕ). (n : Literal) → Contains (f x).cube n → ¬ IsMarked new n.variable → HasNoPartner sums t n) total here
+      now = subst (λ (t : ℕ). (n : Literal) → Contains (f x).cube n → ¬ IsMarked new n.variable → HasNoPartner sums t n)
+          total here
 
-  pub marked_all : (marks : List Bool) (place : ℕ) → length columns ≤ place → AreMarkedBy sums marks (take place (map f columns)) → AreMarkedBy sums marks (map f columns)
-  marked_all marks place long before d l m = all_of (λ (y : Column). (n : Literal) → Contains y.cube n → ¬ IsMarked marks n.variable → HasNoPartner sums (total_of y) n) (map f columns) place
+  pub marked_all : (marks : List Bool) (place : ℕ) → length columns ≤ place →
+      AreMarkedBy sums marks (take place (map f columns)) →
+      AreMarkedBy sums marks (map f columns)
+  marked_all marks place long before d l m = all_of (λ (y : Column). (n : Literal) → Contains y.cube n →
+      ¬ IsMarked marks n.variable → HasNoPartner sums (total_of y) n) (map f columns) place
       (let same = length-map columns f in omega (arith, long, same)) (λ y h n. before y n h) d m l

@@ -1,4 +1,5 @@
--- Kinds of columns: columns that touch have one time and literals on the same variables, and ask differently much above 0 in all.
+-- Kinds of columns: columns that touch have one time and literals on the same variables, and ask differently much above
+-- 0 in all.
 use Rattle.std.specs.Prelude.{ℕ, ◌%◌, ◌≡◌, ◌≢◌, Bool, false, List, length, get_or, sum_by, Contains}
 use Rattle.cpg_cube.specs.declared.literal.Literal.{Literal}
 use Rattle.cpg_cube.specs.Column.{Column}
@@ -12,7 +13,10 @@ variable_of l = l.variable
 
 -- the kind of a column with this time and these literals
 abbrev pub kind_by : ℕ → List Literal → ColumnKind
-kind_by time literals = record { number = mixed (mixed (mixed 0 time) (length literals)) (sum_by variable_of literals % 256); asked = sum_by low_of literals % 256 }
+kind_by time literals = record {
+  number = mixed (mixed (mixed 0 time) (length literals)) (sum_by variable_of literals % 256);
+  asked = sum_by low_of literals % 256;
+}
 
 -- the kind of a column
 abbrev pub kind_of : Column → ColumnKind
@@ -20,7 +24,8 @@ kind_of c = kind_by c.time c.cube
 
 -- a column of this kind asks what its place tells, if no difference is noted
 abbrev pub IsTold : List ℕ → List Bool → ColumnKind → Type 0
-IsTold told differing kind = ¬ IsMarked differing (place_in (length told) kind.number) → get_or told (place_in (length told) kind.number) 0 ≡ kind.asked
+IsTold told differing kind = ¬ IsMarked differing (place_in (length told) kind.number) →
+    get_or told (place_in (length told) kind.number) 0 ≡ kind.asked
 
 -- columns of these kinds ask what their places tell, if no difference is noted
 abbrev pub AreTold : List ℕ → List Bool → List ColumnKind → Type 0
@@ -32,5 +37,6 @@ is_candidate differing c = get_or differing (place_in (length differing) (kind_o
 
 -- all columns of one kind that ask differently are among the candidates
 abbrev pub HoldCandidates : List Column → List Column → Type 0
-HoldCandidates columns candidates = (c d : Column) → Contains columns c → Contains columns d → (kind_of c).number ≡ (kind_of d).number →
+HoldCandidates columns candidates =
+    (c d : Column) → Contains columns c → Contains columns d → (kind_of c).number ≡ (kind_of d).number →
     (kind_of c).asked ≢ (kind_of d).asked → Contains candidates c × Contains candidates d

@@ -1,4 +1,5 @@
--- Rows of columns that are as few as can be: no two columns with one time and touching ranges are left, and they stand by the least scenario that they match.
+-- Rows of columns that are as few as can be: no two columns with one time and touching ranges are left, and they stand
+-- by the least scenario that they match.
 use Rattle.std.specs.Prelude.{ℕ, ◌≡◌, ◌<◌, ◌≤◌, false, List, length, slice_get, Some, IsTrue, All, Contains}
 use Rattle.cpg_base.specs.Graph.{Graph}
 use Rattle.cpg_base.specs.Scenario.{Scenario, IsScenario, IsLeast, is_before}
@@ -22,7 +23,8 @@ AreMet g order columns = All (λ c. (s : Scenario) × IsLeastMatch g order c s) 
 
 -- columns stand by the least scenario that they match
 abbrev pub AreOrdered : Graph → List ℕ → List Column → Type 0
-AreOrdered g order columns = (i j : ℕ) (c d : Column) (s t : Scenario) → i < j → IsColumn columns i c → IsColumn columns j d →
+AreOrdered g order columns =
+    (i j : ℕ) (c d : Column) (s t : Scenario) → i < j → IsColumn columns i c → IsColumn columns j d →
     IsLeastMatch g order c s → IsLeastMatch g order d t → IsTrue (is_before g order s t)
 
 -- no literal has the whole range of its variable
@@ -35,7 +37,8 @@ AreWithin k columns = All (λ c. All (λ l. l.high ≤ top k l.variable) c.cube)
 
 -- no two columns can be made one
 abbrev pub IsMerged : Graph → List Column → Type 0
-IsMerged g columns = (i j v : ℕ) (c d : Column) → i < j → IsColumn columns i c → IsColumn columns j d → c.time ≡ d.time → DifferAt g.faults c.cube d.cube v → ⊥
+IsMerged g columns = (i j v : ℕ) (c d : Column) → i < j → IsColumn columns i c → IsColumn columns j d →
+    c.time ≡ d.time → DifferAt g.faults c.cube d.cube v → ⊥
 
 -- the first cube's range of each variable contains the second's
 abbrev pub IsWider : ℕ → List Literal → List Literal → Type 0
@@ -48,7 +51,8 @@ pub record AreMergeable (g : Graph) (columns : List Column) : Type 0 where
   pub met : All (λ c. (s : Scenario) × IsScenario g s × IsTrue (matches c.cube s)) columns
   pub apart : (s : Scenario) → IsScenario g s → length (times_in columns s) ≤ 1
 
--- in every scenario columns have the times of the entries, by a column that is as wide at least; and they are as few as can be
+-- in every scenario columns have the times of the entries, by a column that is as wide at least; and they are as few as
+-- can be
 pub record IsMergeOf (g : Graph) (order : List ℕ) (entries columns : List Column) : Type 0 where
   pub times : (s : Scenario) → IsScenario g s → times_in columns s ≡ times_in entries s
   pub wider : (s : Scenario) (e c : Column) → IsScenario g s → Contains entries e → Contains columns c →

@@ -1,6 +1,7 @@
--- How rows are merged: columns are sorted so that those which differ in one variable alone stand side by side, and neighbours
--- that touch are made one, variable by variable.
-use Rattle.std.specs.Prelude.{ℕ, ◌+◌, ◌≡◌, ◌≢◌, ◌<◌, ◌≤◌, ◌⊎◌, Bool, true, false, not, ◌&&◌, ◌||◌, ◌==◌, if◌then◌else◌, List, [], ◌∷◌, map, filter, length, Contains, IsPermutation}
+-- How rows are merged: columns are sorted so that those which differ in one variable alone stand side by side, and
+-- neighbours that touch are made one, variable by variable.
+use Rattle.std.specs.Prelude.{ℕ, ◌+◌, ◌≡◌, ◌≢◌, ◌<◌, ◌≤◌, ◌⊎◌, Bool, true, false, not, ◌&&◌, ◌||◌, ◌==◌, if◌then◌else◌}
+use Rattle.std.specs.Prelude.{List, [], ◌∷◌, map, filter, length, Contains, IsPermutation}
 use Rattle.std.specs.declared.cmp.Ordering.{Ordering}
 use Rattle.std.specs.Ordering.{nat_cmp, ordering_then, is_eq}
 use Rattle.std.specs.Cmp.Lexicographic.{slice_cmp}
@@ -22,11 +23,13 @@ without v cube = filter (λ l. not (l.variable == v)) cube
 
 -- the cube with another high of a variable's range
 abbrev pub raised : ℕ → ℕ → List Literal → List Literal
-raised v high cube = map (λ l. if l.variable == v then record { variable = l.variable; low = l.low; high = high } else l) cube
+raised v high cube =
+    map (λ l. if l.variable == v then record { variable = l.variable; low = l.low; high = high } else l) cube
 
 -- literals by variable, low and high
 abbrev pub literal_cmp : Literal → Literal → Ordering
-literal_cmp l m = ordering_then (nat_cmp l.variable m.variable) (ordering_then (nat_cmp l.low m.low) (nat_cmp l.high m.high))
+literal_cmp l m =
+    ordering_then (nat_cmp l.variable m.variable) (ordering_then (nat_cmp l.low m.low) (nat_cmp l.high m.high))
 
 -- columns by time and by their literals on other variables
 abbrev pub beside_cmp : ℕ → Column → Column → Ordering
@@ -75,7 +78,8 @@ pub record IsShorn (g : Graph) (columns : List Column) : Type 0 where
 -- the later columns have the times of the earlier, and each earlier lies within one of them
 pub record IsJoinOf (g : Graph) (before after : List Column) : Type 0 where
   pub times : (s : Scenario) → IsScenario g s → times_in after s ≡ times_in before s
-  pub held : (e : Column) → Contains before e → (c : Column) × Contains after c × (c.time ≡ e.time) × IsWider g.faults c.cube e.cube
+  pub held : (e : Column) → Contains before e →
+      (c : Column) × Contains after c × (c.time ≡ e.time) × IsWider g.faults c.cube e.cube
 
 -- equal but for a variable, where the second's range begins where the first's ends
 pub record TouchAt (k : ℕ) (v : ℕ) (a b : List Literal) : Type 0 where
@@ -84,13 +88,15 @@ pub record TouchAt (k : ℕ) (v : ℕ) (a b : List Literal) : Type 0 where
 
 -- no two columns of one time touch at the variable
 abbrev pub IsSettledOn : ℕ → ℕ → List Column → Type 0
-IsSettledOn k v columns = (c d : Column) → Contains columns c → Contains columns d → c.time ≡ d.time → TouchAt k v c.cube d.cube → ⊥
+IsSettledOn k v columns =
+    (c d : Column) → Contains columns c → Contains columns d → c.time ≡ d.time → TouchAt k v c.cube d.cube → ⊥
 
 -- what going over some variables does: columns get fewer, or none of them touch at any of these
 pub record IsPassed (g : Graph) (over : ℕ → Type 0) (before after : List Column) : Type 0 where
   pub joins : IsJoinOf g before after
   pub good : IsShorn g after
-  pub fewer : (length after < length before) ⊎ (IsPermutation before after × ((v : ℕ) → over v → IsSettledOn g.faults v after))
+  pub fewer : (length after < length before) ⊎
+      (IsPermutation before after × ((v : ℕ) → over v → IsSettledOn g.faults v after))
 
 -- a number from the first on, below the end
 abbrev pub IsBetween : ℕ → ℕ → ℕ → Type 0
@@ -104,4 +110,5 @@ pub record AreSettled (g : Graph) (before after : List Column) : Type 0 where
 
 -- columns that are known to be sorted are those of before, which were so
 abbrev pub IsSortedAs : Listing → Listing → Type 0
-IsSortedAs before after = after.is_sorted ≡ true → (before.is_sorted ≡ true) × (after.columns.items ≡ before.columns.items)
+IsSortedAs before after =
+    after.is_sorted ≡ true → (before.is_sorted ≡ true) × (after.columns.items ≡ before.columns.items)

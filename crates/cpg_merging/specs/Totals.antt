@@ -1,6 +1,7 @@
--- Numbers of columns, each a sum over its literals, by which it is found whether any two of a row touch: if two do, the later
--- one's sum with one literal changed is the sum of the other.
-use Rattle.std.specs.Prelude.{ℕ, ◌+◌, ◌-◌, ◌*◌, ◌/◌, ◌^◌, ◌%◌, ◌<◌, ◌≤◌, ◌≡◌, Bool, true, false, List, length, get_or, sum_by, Contains}
+-- Numbers of columns, each a sum over its literals, by which it is found whether any two of a row touch: if two do, the
+-- later one's sum with one literal changed is the sum of the other.
+use Rattle.std.specs.Prelude.{ℕ, ◌+◌, ◌-◌, ◌*◌, ◌/◌, ◌^◌, ◌%◌, ◌<◌, ◌≤◌, ◌≡◌, Bool, true, false, List, length, get_or}
+use Rattle.std.specs.Prelude.{sum_by, Contains}
 use Rattle.cpg_base.specs.Graph.{Graph, IsVariable}
 use Rattle.cpg_cube.specs.declared.literal.Literal.{Literal}
 use Rattle.cpg_cube.specs.Column.{Column}
@@ -45,7 +46,8 @@ IsMarked marks v = get_or marks v false ≡ true
 
 -- none of the sums is that of any column with a literal changed so, if the literal's variable isn't marked
 abbrev pub AreMarkedBy : List ℕ → List Bool → List Column → Type 0
-AreMarkedBy totals marks columns = (d : Column) (l : Literal) → Contains columns d → Contains d.cube l → ¬ IsMarked marks l.variable →
+AreMarkedBy totals marks columns =
+    (d : Column) (l : Literal) → Contains columns d → Contains d.cube l → ¬ IsMarked marks l.variable →
     HasNoPartner totals (total_of d) l
 
 -- no two columns of one time touch at a variable that isn't marked

@@ -1,5 +1,6 @@
 -- Whether a frame arrives, by the column that it names.
-use Rattle.std.proofs.Common.{ℕ, ◌<◌, ◌≡◌, ◌==◌, ◌&&◌, ◌||◌, Bool, true, false, cond, nat_lt, List, [], ◌∷◌, length, get_or, Some, None, refl, sym, ap, ◌∙◌, arith, lt-ltb, le-ltb, inl, inr}
+use Rattle.std.proofs.Common.{ℕ, ◌<◌, ◌≡◌, ◌==◌, ◌&&◌, ◌||◌, Bool, true, false, cond, nat_lt, List, [], ◌∷◌, length}
+use Rattle.std.proofs.Common.{get_or, Some, None, refl, sym, ap, ◌∙◌, arith, lt-ltb, le-ltb, inl, inr}
 use Rattle.std.specs.Prelude.{slice_get}
 use Rattle.std.specs.List.{list_any}
 use Rattle.std.proofs.lemmas.Bool.{cases_lt}
@@ -10,32 +11,42 @@ use Rattle.cpg_node.specs.Dispatcher.{OwnTable, Frame, no_column}
 use Rattle.cpg_node.specs.State.{arrives}
 
 -- an item with a column has a row
-has_row : (rows : List Row) (x i : ℕ) → i < length (columns_in rows x) → list_any (λ (row : Row). row.item == x) rows ≡ true
+has_row : (rows : List Row) (x i : ℕ) → i < length (columns_in rows x) →
+    list_any (λ (row : Row). row.item == x) rows ≡ true
 has_row [] x i l = absurd (omega (arith, l))
 has_row (row ∷ rows) x i l = go (row.item == x) (has_row rows x i) l
   where
-    go : (b : Bool) → (i < length (columns_in rows x) → list_any (λ (row : Row). row.item == x) rows ≡ true) → i < length (cond b row.columns (columns_in rows x)) →
+    go : (b : Bool) → (i < length (columns_in rows x) → list_any (λ (row : Row). row.item == x) rows ≡ true) →
+        i < length (cond b row.columns (columns_in rows x)) →
         (b || list_any (λ (row : Row). row.item == x) rows) ≡ true
     go true later l = refl
     go false later l = later l
 
 module _ (table : OwnTable) (arrival : ℕ) (f : Frame) where
-  pub arrives_at : (c : Column) → slice_get (columns_in table.hears f.item) f.column ≡ Some c → (c.time == arrival) ≡ arrives table arrival f
+  pub arrives_at : (c : Column) → slice_get (columns_in table.hears f.item) f.column ≡ Some c →
+      (c.time == arrival) ≡ arrives table arrival f
   arrives_at c is =
-      let l : f.column < length (columns_in table.hears f.item) = slice_get_within (columns_in table.hears f.item) f.column c is in
-      sym (ap (λ b. b && nat_lt f.column (length (columns_in table.hears f.item)) && ((get_or (columns_in table.hears f.item) f.column no_column).time == arrival))
+      let l : f.column < length (columns_in table.hears f.item) =
+      slice_get_within (columns_in table.hears f.item) f.column c is in
+      sym (ap (λ b. b && nat_lt f.column (length (columns_in table.hears f.item))
+      && ((get_or (columns_in table.hears f.item) f.column no_column).time == arrival))
       (has_row table.hears f.item f.column l)
-      ∙ ap (λ b. b && ((get_or (columns_in table.hears f.item) f.column no_column).time == arrival)) (lt-ltb f.column (length (columns_in table.hears f.item)) l)
-      ∙ ap (λ (d : Column). d.time == arrival) (get_or_from_slice_get (columns_in table.hears f.item) f.column c no_column is))
+      ∙ ap (λ b. b && ((get_or (columns_in table.hears f.item) f.column no_column).time == arrival))
+      (lt-ltb f.column (length (columns_in table.hears f.item)) l)
+      ∙ ap (λ (d : Column). d.time == arrival)
+      (get_or_from_slice_get (columns_in table.hears f.item) f.column c no_column is))
 
   pub arrives_nowhere : slice_get (columns_in table.hears f.item) f.column ≡ None → false ≡ arrives table arrival f
   arrives_nowhere is = elim (cases_lt f.column (length (columns_in table.hears f.item))) [
-    | inl l ↦ absurd (none-some (get_or (columns_in table.hears f.item) f.column no_column) (sym is ∙ slice_get-get_or (columns_in table.hears f.item) f.column no_column l))
-    | inr past ↦ sym (ap (λ b. list_any (λ (row : Row). row.item == f.item) table.hears && b && ((get_or (columns_in table.hears f.item) f.column no_column).time == arrival))
+    | inl l ↦ absurd (none-some (get_or (columns_in table.hears f.item) f.column no_column)
+        (sym is ∙ slice_get-get_or (columns_in table.hears f.item) f.column no_column l))
+    | inr past ↦ sym (ap (λ b. list_any (λ (row : Row). row.item == f.item) table.hears && b
+        && ((get_or (columns_in table.hears f.item) f.column no_column).time == arrival))
         (le-ltb f.column (length (columns_in table.hears f.item)) past)
         ∙ never (list_any (λ (row : Row). row.item == f.item) table.hears))
   ]
     where
-      never : (b : Bool) → (b && false && ((get_or (columns_in table.hears f.item) f.column no_column).time == arrival)) ≡ false
+      never : (b : Bool) →
+          (b && false && ((get_or (columns_in table.hears f.item) f.column no_column).time == arrival)) ≡ false
       never true = refl
       never false = refl

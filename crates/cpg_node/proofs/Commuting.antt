@@ -1,5 +1,6 @@
 -- Reports of different processes, and frames of one time, may come in any order.
-use Rattle.std.proofs.Common.{◌≡◌, ◌≢◌, ℕ, zero, suc, ◌<◌, ◌≤◌, min, max, Bool, true, false, not, ◌||◌, ◌==◌, List, [], ◌∷◌, length, set, get_or, Option, Some, None, refl, sym, ap, ap₂, ◌∙◌, subst}
+use Rattle.std.proofs.Common.{◌≡◌, ◌≢◌, ℕ, zero, suc, ◌<◌, ◌≤◌, min, max, Bool, true, false, not, ◌||◌, ◌==◌, List, []}
+use Rattle.std.proofs.Common.{◌∷◌, length, set, get_or, Option, Some, None, refl, sym, ap, ap₂, ◌∙◌, subst}
 use Rattle.std.proofs.Common.{arith, inl, inr, eq-eqb, ne_eqb, le-ltb}
 use Rattle.std.specs.Prelude.{IfSome, option_map, nat_lt}
 use Rattle.std.specs.List.{list_any}
@@ -8,7 +9,8 @@ use Rattle.std.proofs.lemmas.Option.{none-some, same_Some}
 use Rattle.std.proofs.lemmas.List.{length-set, get_or-set_same, get_or-set_other, set_past, set-set, set_comm}
 use Rattle.cpg_cube.specs.declared.literal.Literal.{Literal}
 use Rattle.cpg_table.specs.Table.{Row, columns_in}
-use Rattle.cpg_node.specs.Dispatcher.{Dispatcher, Own, Range, Running, Ended, Frame, zip_with, with_report, finished, next, range_of, cut_range, cut, cut_all, frame_literals, hear_frame, hear}
+use Rattle.cpg_node.specs.Dispatcher.{Dispatcher, Own, Range, Running, Ended, Frame, zip_with, with_report, finished}
+use Rattle.cpg_node.specs.Dispatcher.{next, range_of, cut_range, cut, cut_all, frame_literals, hear_frame, hear}
 use Rattle.cpg_node.specs.Dispatcher.{no_column, is_contradicted, is_strange}
 use Rattle.cpg_node.specs.State.{running_in, running_of, MayFinish}
 use Rattle.cpg_node.proofs.Turning.{next_reported}
@@ -17,14 +19,18 @@ use Rattle.cpg_node.proofs.Turning.{next_reported}
 
 kept_run : (f : Ended) (o : Own) (run : Option Running) → o.process ≢ f.process → with_report f o run ≡ run
 kept_run f o None ne = refl
-kept_run f o (Some run) ne = cond-false (o.process == f.process) (Some (record run { report = Some f })) (Some run) (ne_eqb o.process f.process ne)
+kept_run f o (Some run) ne = cond-false (o.process == f.process) (Some (record run { report = Some f })) (Some run)
+    (ne_eqb o.process f.process ne)
 
-pub other_running : (f : Ended) (p : ℕ) → f.process ≢ p → (os : List Own) (runs : List (Option Running)) → running_in os (zip_with (with_report f) os runs) p ≡ running_in os runs p
+pub other_running : (f : Ended) (p : ℕ) → f.process ≢ p → (os : List Own) (runs : List (Option Running)) →
+    running_in os (zip_with (with_report f) os runs) p ≡ running_in os runs p
 other_running f p ne [] runs = refl
 other_running f p ne (o ∷ os) [] = refl
 other_running f p ne (o ∷ os) (run ∷ runs) = elim (cases_eq o.process p) [
-  | inl e ↦ cond-true (o.process == p) _ _ (eq-eqb o.process p e) ∙ kept_run f o run (λ s. ne (sym s ∙ e)) ∙ sym (cond-true (o.process == p) _ _ (eq-eqb o.process p e))
-  | inr far ↦ cond-false (o.process == p) _ _ (ne_eqb o.process p far) ∙ other_running f p ne os runs ∙ sym (cond-false (o.process == p) _ _ (ne_eqb o.process p far))
+  | inl e ↦ cond-true (o.process == p) _ _ (eq-eqb o.process p e) ∙ kept_run f o run (λ s. ne (sym s ∙ e))
+      ∙ sym (cond-true (o.process == p) _ _ (eq-eqb o.process p e))
+  | inr far ↦ cond-false (o.process == p) _ _ (ne_eqb o.process p far) ∙ other_running f p ne os runs
+      ∙ sym (cond-false (o.process == p) _ _ (ne_eqb o.process p far))
 ]
 
 -- a report changes no instant
@@ -33,7 +39,8 @@ next_same d f = next_reported f d.table d.heard d.running d.last
 
 -- a report that may come may still come after another one, and could have come before it
 
-pub may_then : (d : Dispatcher) (f : Ended) (time : ℕ) (e : Ended) → f.process ≢ e.process → MayFinish d time e → MayFinish (finished d f) time e
+pub may_then : (d : Dispatcher) (f : Ended) (time : ℕ) (e : Ended) → f.process ≢ e.process → MayFinish d time e →
+    MayFinish (finished d f) time e
 may_then d f time e ne m = record {
   run = m.run;
   runs = other_running f e.process ne d.table.own d.running ∙ m.runs;
@@ -46,7 +53,9 @@ may_then d f time e ne m = record {
   before = subst (λ o. IfSome o (λ n. time ≤ n)) (sym (next_same d f)) m.before;
 }
 
-pub may_before : (d : Dispatcher) (f : Ended) (time : ℕ) (e : Ended) → f.process ≢ e.process → MayFinish (finished d f) time e → MayFinish d time e
+pub may_before : (d : Dispatcher) (f : Ended) (time : ℕ) (e : Ended) → f.process ≢ e.process →
+    MayFinish (finished d f) time e →
+    MayFinish d time e
 may_before d f time e ne m = record {
   run = m.run;
   runs = sym (other_running f e.process ne d.table.own d.running) ∙ m.runs;
@@ -62,42 +71,53 @@ may_before d f time e ne m = record {
 -- two reports leave the same in either order
 
 swapped : (x y : Ended) → x.process ≢ y.process → (os : List Own) (runs : List (Option Running)) →
-    zip_with (with_report y) os (zip_with (with_report x) os runs) ≡ zip_with (with_report x) os (zip_with (with_report y) os runs)
+    zip_with (with_report y) os (zip_with (with_report x) os runs)
+    ≡ zip_with (with_report x) os (zip_with (with_report y) os runs)
 swapped x y ne [] runs = refl
 swapped x y ne (o ∷ os) [] = refl
 swapped x y ne (o ∷ os) (run ∷ runs) = ap₂ ◌∷◌ one (swapped x y ne os runs)
   where
     one : with_report y o (with_report x o run) ≡ with_report x o (with_report y o run)
     one = elim (cases_eq o.process x.process) [
-      | inl e ↦ let far : o.process ≢ y.process = λ s. ne (sym e ∙ s) in kept_run y o (with_report x o run) far ∙ ap (with_report x o) (sym (kept_run y o run far))
+      | inl e ↦ let far : o.process ≢ y.process = λ s. ne (sym e ∙ s) in
+          kept_run y o (with_report x o run) far ∙ ap (with_report x o) (sym (kept_run y o run far))
       | inr far ↦ ap (with_report y o) (kept_run x o run far) ∙ sym (kept_run x o (with_report y o run) far)
     ]
 
-pub swap : (d : Dispatcher) (x y : Ended) → x.process ≢ y.process → finished (finished d x) y ≡ finished (finished d y) x
-swap d x y ne = ap (λ runs. record { table = d.table; heard = d.heard; running = runs; last = d.last }) (swapped x y ne d.table.own d.running)
+pub swap : (d : Dispatcher) (x y : Ended) → x.process ≢ y.process →
+    finished (finished d x) y ≡ finished (finished d y) x
+swap d x y ne = ap (λ runs. record { table = d.table; heard = d.heard; running = runs; last = d.last })
+    (swapped x y ne d.table.own d.running)
 
 -- an execution that is reported doesn't end again
 
 reported_run : (f : Ended) (os : List Own) (runs : List (Option Running)) →
-    running_in os (zip_with (with_report f) os runs) f.process ≡ option_map (λ (run : Running). record { start = run.start; report = Some f }) (running_in os runs f.process)
+    running_in os (zip_with (with_report f) os runs) f.process
+    ≡ option_map (λ (run : Running). record { start = run.start; report = Some f }) (running_in os runs f.process)
 reported_run f [] runs = refl
 reported_run f (o ∷ os) [] = refl
 reported_run f (o ∷ os) (run ∷ runs) = elim (cases_eq o.process f.process) [
   | inl e ↦ let b = eq-eqb o.process f.process e in
-      cond-true (o.process == f.process) _ _ b ∙ own run b ∙ sym (ap (option_map (λ (run : Running). record { start = run.start; report = Some f })) (cond-true (o.process == f.process) _ _ b))
+      cond-true (o.process == f.process) _ _ b ∙ own run b ∙ sym (ap (option_map (λ (run : Running).
+      record { start = run.start; report = Some f })) (cond-true (o.process == f.process) _ _ b))
   | inr far ↦ let b = ne_eqb o.process f.process far in
       cond-false (o.process == f.process) _ _ b ∙ reported_run f os runs
-      ∙ sym (ap (option_map (λ (run : Running). record { start = run.start; report = Some f })) (cond-false (o.process == f.process) _ _ b))
+      ∙ sym (ap (option_map (λ (run : Running). record { start = run.start; report = Some f }))
+      (cond-false (o.process == f.process) _ _ b))
 ]
   where
-    own : (run : Option Running) → o.process == f.process ≡ true → with_report f o run ≡ option_map (λ (run : Running). record { start = run.start; report = Some f }) run
+    own : (run : Option Running) → o.process == f.process ≡ true →
+        with_report f o run ≡ option_map (λ (run : Running). record { start = run.start; report = Some f }) run
     own None b = refl
-    own (Some run) b = cond-true (o.process == f.process) (Some (record { start = run.start; report = Some f })) (Some run) b
+    own (Some run) b =
+        cond-true (o.process == f.process) (Some (record { start = run.start; report = Some f })) (Some run) b
 
-pub reported_once : (d : Dispatcher) (f : Ended) (run : Running) → running_of (finished d f) f.process ≡ Some run → run.report ≡ None → ⊥
+pub reported_once : (d : Dispatcher) (f : Ended) (run : Running) → running_of (finished d f) f.process ≡ Some run →
+    run.report ≡ None → ⊥
 reported_once d f run e none = go (running_of d f.process) (sym (reported_run f d.table.own d.running) ∙ e)
   where
-    go : (o : Option Running) → option_map (λ (run : Running). record { start = run.start; report = Some f }) o ≡ Some run → ⊥
+    go : (o : Option Running) →
+        option_map (λ (run : Running). record { start = run.start; report = Some f }) o ≡ Some run → ⊥
     go None e = none-some run e
     go (Some before) e = none-some f (sym none ∙ ap (λ (r : Running). r.report) (sym (same_Some _ _ e)))
 
@@ -113,10 +133,12 @@ abbrev nothing : Range
 nothing = record { low = 0; high = 0 }
 
 cut_same : (h : List Range) (v : ℕ) (a b : Literal) → v < length h →
-    set (set h v (cut_range (range_of h v) a)) v (cut_range (range_of (set h v (cut_range (range_of h v) a)) v) b) ≡ set h v (cut_range (cut_range (range_of h v) a) b)
+    set (set h v (cut_range (range_of h v) a)) v (cut_range (range_of (set h v (cut_range (range_of h v) a)) v) b)
+    ≡ set h v (cut_range (cut_range (range_of h v) a) b)
 cut_same h v a b within =
     let one : Range = cut_range (range_of h v) a in
-    ap (λ r. set (set h v one) v (cut_range r b)) (get_or-set_same h v one nothing within) ∙ set-set h v one (cut_range one b)
+    ap (λ r. set (set h v one) v (cut_range r b)) (get_or-set_same h v one nothing within)
+    ∙ set-set h v one (cut_range one b)
 
 cut_twice : (h : List Range) (a b : Literal) → cut (cut h a) b ≡ cut (cut h b) a
 cut_twice h a b =
@@ -124,14 +146,19 @@ cut_twice h a b =
     let two : Range = cut_range (range_of h b.variable) b in
     elim (cases_lt a.variable (length h)) [
       | inr past ↦ ap (λ h. cut h b) (set_past h a.variable one past)
-          ∙ sym (set_past (cut h b) a.variable (cut_range (range_of (cut h b) a.variable) a) (omega (arith, past, length-set h b.variable two)))
+          ∙ sym (set_past (cut h b) a.variable (cut_range (range_of (cut h b) a.variable) a)
+          (omega (arith, past, length-set h b.variable two)))
       | inl within ↦ elim (cases_eq b.variable a.variable) [
         | inl e ↦ ap (λ u. set (cut h a) u (cut_range (range_of (cut h a) u) b)) e ∙ cut_same h a.variable a b within
-            ∙ ap (set h a.variable) (cut_ranges (range_of h a.variable) a b) ∙ sym (ap (λ u. set h u (cut_range (cut_range (range_of h u) b) a)) e)
-            ∙ sym (cut_same h b.variable b a (omega (arith, within, e))) ∙ sym (ap (λ u. set (cut h b) u (cut_range (range_of (cut h b) u) a)) (sym e))
-        | inr ne ↦ ap (λ r. set (cut h a) b.variable (cut_range r b)) (get_or-set_other h a.variable b.variable one nothing ne)
+            ∙ ap (set h a.variable) (cut_ranges (range_of h a.variable) a b)
+            ∙ sym (ap (λ u. set h u (cut_range (cut_range (range_of h u) b) a)) e)
+            ∙ sym (cut_same h b.variable b a (omega (arith, within, e)))
+            ∙ sym (ap (λ u. set (cut h b) u (cut_range (range_of (cut h b) u) a)) (sym e))
+        | inr ne ↦
+            ap (λ r. set (cut h a) b.variable (cut_range r b)) (get_or-set_other h a.variable b.variable one nothing ne)
             ∙ set_comm h a.variable b.variable one two (λ s. ne (sym s))
-            ∙ sym (ap (λ r. set (cut h b) a.variable (cut_range r a)) (get_or-set_other h b.variable a.variable two nothing (λ s. ne (sym s))))
+            ∙ sym (ap (λ r. set (cut h b) a.variable (cut_range r a))
+            (get_or-set_other h b.variable a.variable two nothing (λ s. ne (sym s))))
       ]
     ]
 
@@ -144,31 +171,41 @@ cuts_either [] ys h = refl
 cuts_either (x ∷ xs) ys h = cuts_either xs ys (cut h x) ∙ ap (λ h. cut_all h xs) (cut_over ys h x)
 
 pub hear_either : (d : Dispatcher) (x y : Frame) → hear (hear d x) y ≡ hear (hear d y) x
-hear_either d x y = ap (λ h. record { table = d.table; heard = h; running = d.running; last = d.last }) (cuts_either (frame_literals d.table x) (frame_literals d.table y) d.heard)
+hear_either d x y = ap (λ h. record { table = d.table; heard = h; running = d.running; last = d.last })
+    (cuts_either (frame_literals d.table x) (frame_literals d.table y) d.heard)
 
 -- what contradicts nothing after a literal contradicts nothing before it
-uncut : (h : List Range) (v : ℕ) (l : Literal) → list_any is_contradicted (set h v (cut_range (range_of h v) l)) ≡ false → list_any is_contradicted h ≡ false
+uncut : (h : List Range) (v : ℕ) (l : Literal) →
+    list_any is_contradicted (set h v (cut_range (range_of h v) l)) ≡ false →
+    list_any is_contradicted h ≡ false
 uncut [] v l e = e
 uncut (r ∷ h) zero l e = let p = or_parts (is_contradicted (cut_range r l)) (list_any is_contradicted h) e in
-    or_from (is_contradicted r) (list_any is_contradicted h) (le-ltb r.high r.low (let b = ltb-false (min r.high l.high) (max r.low l.low) p.0 in omega (arith, b))) p.1
-uncut (r ∷ h) (suc v) l e = let p = or_parts (is_contradicted r) (list_any is_contradicted (set h v (cut_range (range_of h v) l))) e in
+    or_from (is_contradicted r) (list_any is_contradicted h)
+    (le-ltb r.high r.low (let b = ltb-false (min r.high l.high) (max r.low l.low) p.0 in omega (arith, b))) p.1
+uncut (r ∷ h) (suc v) l e =
+    let p = or_parts (is_contradicted r) (list_any is_contradicted (set h v (cut_range (range_of h v) l))) e in
     or_from (is_contradicted r) (list_any is_contradicted h) p.0 (uncut h v l p.1)
 
-uncut_all : (ls : List Literal) (h : List Range) → list_any is_contradicted (cut_all h ls) ≡ false → list_any is_contradicted h ≡ false
+uncut_all : (ls : List Literal) (h : List Range) → list_any is_contradicted (cut_all h ls) ≡ false →
+    list_any is_contradicted h ≡ false
 uncut_all [] h e = e
 uncut_all (l ∷ ls) h e = uncut h l.variable l (uncut_all ls (cut h l) e)
 
-pub fine_either : (d : Dispatcher) (time : ℕ) (x y : Frame) → is_strange d time x ≡ false → is_strange (hear d x) time y ≡ false →
+pub fine_either : (d : Dispatcher) (time : ℕ) (x y : Frame) → is_strange d time x ≡ false →
+    is_strange (hear d x) time y ≡ false →
     (is_strange d time y ≡ false) × (is_strange (hear d y) time x ≡ false)
 fine_either d time x y e f =
     let p = or_parts (unknown x) (list_any is_contradicted (hear_frame d.table d.heard x)) e in
     let q = or_parts (unknown y) (list_any is_contradicted (hear_frame d.table (hear_frame d.table d.heard x) y)) f in
     let both : list_any is_contradicted (hear_frame d.table (hear_frame d.table d.heard y) x) ≡ false =
-    sym (ap (list_any is_contradicted) (cuts_either (frame_literals d.table x) (frame_literals d.table y) d.heard)) ∙ q.1 in (
-      or_from (unknown y) (list_any is_contradicted (hear_frame d.table d.heard y)) q.0 (uncut_all (frame_literals d.table x) (hear_frame d.table d.heard y) both),
+    sym (ap (list_any is_contradicted) (cuts_either (frame_literals d.table x) (frame_literals d.table y) d.heard))
+    ∙ q.1 in (
+      or_from (unknown y) (list_any is_contradicted (hear_frame d.table d.heard y)) q.0
+          (uncut_all (frame_literals d.table x) (hear_frame d.table d.heard y) both),
       or_from (unknown x) (list_any is_contradicted (hear_frame d.table (hear_frame d.table d.heard y) x)) p.0 both,
     )
   where
     unknown : Frame → Bool
-    unknown f = not (list_any (λ (row : Row). row.item == f.item) d.table.hears) || not (nat_lt f.column (length (columns_in d.table.hears f.item)))
+    unknown f = not (list_any (λ (row : Row). row.item == f.item) d.table.hears)
+        || not (nat_lt f.column (length (columns_in d.table.hears f.item)))
         || not ((get_or (columns_in d.table.hears f.item) f.column no_column).time == time)

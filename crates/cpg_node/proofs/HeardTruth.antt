@@ -1,5 +1,6 @@
 -- Each fact that a node is told is true of the scenario, and so is what they imply.
-use Rattle.std.proofs.Common.{◌≡◌, ℕ, ◌+◌, ◌-◌, ◌≤◌, Bool, true, false, cond, ◌==◌, List, [], map, filter, Contains, flat_map, refl, ap, arith, inl, inr, eqb-true, le-leb, leb, leb-true, lt-ltb}
+use Rattle.std.proofs.Common.{◌≡◌, ℕ, ◌+◌, ◌-◌, ◌≤◌, Bool, true, false, cond, ◌==◌, List, [], map, filter, Contains}
+use Rattle.std.proofs.Common.{flat_map, refl, ap, arith, inl, inr, eqb-true, le-leb, leb, leb-true, lt-ltb}
 use Rattle.std.proofs.Common.{le-ltb, length, get_or}
 use Rattle.std.proofs.lemmas.Bool.{cases_lt, and_from, and_parts, cond-true, cond-false}
 use Rattle.std.proofs.lemmas.List.{get_or_past}
@@ -10,7 +11,8 @@ use Rattle.cpg_base.specs.Graph.{Graph, process_count, item_count, item_at, node
 use Rattle.cpg_base.specs.Duration.{duration}
 use Rattle.cpg_base.specs.Bus.{slot_length}
 use Rattle.cpg_base.specs.Variable.{top}
-use Rattle.cpg_base.proofs.Lists.{Contains-nil, Contains-filter_parts, Contains-flat_map_parts, Contains-map_parts, numbers-Contains, greatest_cases, least_cases}
+use Rattle.cpg_base.proofs.Lists.{Contains-nil, Contains-filter_parts, Contains-flat_map_parts, Contains-map_parts}
+use Rattle.cpg_base.proofs.Lists.{numbers-Contains, greatest_cases, least_cases}
 use Rattle.cpg_base.specs.Scenario.{Scenario, IsScenario, number_of, number_of_value, fault_of}
 use Rattle.cpg_base.proofs.NumbersOf.{number_of-fault}
 use Rattle.cpg_cube.specs.Cube.{holds, matches}
@@ -25,8 +27,10 @@ cond_parts : {X : Type 0} (b : Bool) (xs : List X) (x : X) → Contains (cond b 
 cond_parts true xs x h = h
 cond_parts false xs x h = absurd (Contains-nil x h)
 
-match_of : (tables : List NodeTable) (s : Scenario) (x : ℕ) (c : Column) → Contains (matching tables s x) c → Match tables s x c
-match_of tables s x c h = let q = Contains-filter_parts (λ (c : Column). matches c.cube s) (columns_of tables x) c h in record { there = q.0; holds = q.1 }
+match_of : (tables : List NodeTable) (s : Scenario) (x : ℕ) (c : Column) → Contains (matching tables s x) c →
+    Match tables s x c
+match_of tables s x c h = let q = Contains-filter_parts (λ (c : Column). matches c.cube s) (columns_of tables x) c h in
+    record { there = q.0; holds = q.1 }
 
 -- at some time
 abbrev ever : ℕ → Bool
@@ -34,12 +38,17 @@ ever moment = true
 
 module _ (g : Graph) (tables : List NodeTable) (node time : ℕ) (s : Scenario) (law : IsScenario g s) where
   told : (l : Literal) → Contains (facts g tables node s time) l → Learnt g tables s node ever l
-  told l h = elim (Contains-append_cases (flat_map (facts_of_end g tables s time) (filter (λ p. node_of g p == node) (numbers_below (process_count g))))
-      (flat_map (facts_of_frame g tables s time) (filter (λ x. is_heard_by g node (item_at g x)) (numbers_below (item_count g)))) l h) [
+  told l h = elim (Contains-append_cases
+      (flat_map (facts_of_end g tables s time) (filter (λ p. node_of g p == node) (numbers_below (process_count g))))
+      (flat_map (facts_of_frame g tables s time)
+      (filter (λ x. is_heard_by g node (item_at g x)) (numbers_below (item_count g)))) l h) [
         | inl m ↦
-            let a = Contains-flat_map_parts (facts_of_end g tables s time) (filter (λ p. node_of g p == node) (numbers_below (process_count g))) l m in
+            let a = Contains-flat_map_parts (facts_of_end g tables s time)
+            (filter (λ p. node_of g p == node) (numbers_below (process_count g))) l m in
             let b = Contains-filter_parts (λ p. node_of g p == node) (numbers_below (process_count g)) a.0 a.1 in
-            let c = Contains-flat_map_parts (λ (c : Column). cond (leb (c.time + duration g a.0 (number_of s a.0)) time) (end_literals g s a.0) []) (matching tables s a.0) l a.2 in
+            let c = Contains-flat_map_parts
+            (λ (c : Column). cond (leb (c.time + duration g a.0 (number_of s a.0)) time) (end_literals g s a.0) [])
+            (matching tables s a.0) l a.2 in
             inl (record {
               process = a.0;
               within = numbers-Contains (process_count g) a.0 b.0;
@@ -50,9 +59,13 @@ module _ (g : Graph) (tables : List NodeTable) (node time : ℕ) (s : Scenario) 
               told = cond_parts (leb (c.0.time + duration g a.0 (number_of s a.0)) time) (end_literals g s a.0) l c.2;
             })
         | inr m ↦
-            let a = Contains-flat_map_parts (facts_of_frame g tables s time) (filter (λ x. is_heard_by g node (item_at g x)) (numbers_below (item_count g))) l m in
-            let b = Contains-filter_parts (λ x. is_heard_by g node (item_at g x)) (numbers_below (item_count g)) a.0 a.1 in
-            let c = Contains-flat_map_parts (λ (c : Column). cond (leb (c.time + slot_length g (home g a.0)) time) (frame_facts g s a.0 c) []) (matching tables s a.0) l a.2 in
+            let a = Contains-flat_map_parts (facts_of_frame g tables s time)
+            (filter (λ x. is_heard_by g node (item_at g x)) (numbers_below (item_count g))) l m in
+            let b =
+            Contains-filter_parts (λ x. is_heard_by g node (item_at g x)) (numbers_below (item_count g)) a.0 a.1 in
+            let c = Contains-flat_map_parts
+            (λ (c : Column). cond (leb (c.time + slot_length g (home g a.0)) time) (frame_facts g s a.0 c) [])
+            (matching tables s a.0) l a.2 in
             inr (record {
               item = a.0;
               within = numbers-Contains (item_count g) a.0 b.0;
@@ -84,11 +97,14 @@ module _ (g : Graph) (tables : List NodeTable) (node time : ℕ) (s : Scenario) 
   abbrev fs : List Literal
   fs = facts g tables node s time
 
-  true_of : (l m : Literal) → Contains (filter (λ (m : Literal). m.variable == l.variable) fs) m → (m.low ≤ number_of s l.variable) × (number_of s l.variable ≤ m.high)
+  true_of : (l m : Literal) → Contains (filter (λ (m : Literal). m.variable == l.variable) fs) m →
+      (m.low ≤ number_of s l.variable) × (number_of s l.variable ≤ m.high)
   true_of l m n =
       let p = Contains-filter_parts (λ (m : Literal). m.variable == l.variable) fs m n in
-      let t = and_parts (leb m.low (number_of s m.variable)) (leb (number_of s m.variable) m.high) (learnt_true m (told m p.0)) in
-      let same : number_of s m.variable ≡ number_of s l.variable = ap (number_of s) (eqb-true m.variable l.variable p.1) in
+      let t = and_parts (leb m.low (number_of s m.variable)) (leb (number_of s m.variable) m.high)
+      (learnt_true m (told m p.0)) in
+      let same : number_of s m.variable ≡ number_of s l.variable =
+      ap (number_of s) (eqb-true m.variable l.variable p.1) in
       let below : m.low ≤ number_of s m.variable = leb-true _ _ t.0 in
       let above : number_of s m.variable ≤ m.high = leb-true _ _ t.1 in
       (omega arith, omega arith)
@@ -96,20 +112,31 @@ module _ (g : Graph) (tables : List NodeTable) (node time : ℕ) (s : Scenario) 
   low : (l : Literal) → kept_low fs l.variable ≤ number_of s l.variable
   low l = elim (greatest_cases (map (λ (m : Literal). m.low) (filter (λ (m : Literal). m.variable == l.variable) fs))) [
     | inl z ↦ omega (arith, z)
-    | inr q ↦ let r = Contains-map_parts (λ (m : Literal). m.low) (filter (λ (m : Literal). m.variable == l.variable) fs) (kept_low fs l.variable) q in omega (arith, r.2, (true_of l r.0 r.1).0)
+    | inr q ↦ let r = Contains-map_parts (λ (m : Literal). m.low)
+        (filter (λ (m : Literal). m.variable == l.variable) fs) (kept_low fs l.variable) q in
+        omega (
+          arith,
+          r.2,
+          (true_of l r.0 r.1).0,
+        )
   ]
 
   high : (l : Literal) → number_of s l.variable ≤ kept_high g.faults fs l.variable
-  high l = elim (least_cases (top g.faults l.variable) (map (λ (m : Literal). m.high) (filter (λ (m : Literal). m.variable == l.variable) fs))) [
-    | inl z ↦ omega (arith, z, within l.variable)
-    | inr q ↦ let r = Contains-map_parts (λ (m : Literal). m.high) (filter (λ (m : Literal). m.variable == l.variable) fs) (kept_high g.faults fs l.variable) q in
-        omega (arith, r.2, (true_of l r.0 r.1).1)
-  ]
+  high l = elim (least_cases (top g.faults l.variable)
+      (map (λ (m : Literal). m.high) (filter (λ (m : Literal). m.variable == l.variable) fs))) [
+        | inl z ↦ omega (arith, z, within l.variable)
+        | inr q ↦ let r = Contains-map_parts (λ (m : Literal). m.high)
+            (filter (λ (m : Literal). m.variable == l.variable) fs) (kept_high g.faults fs l.variable) q in
+            omega (arith, r.2, (true_of l r.0 r.1).1)
+      ]
 
 -- a literal that is heard is true of the scenario, whatever the tables are
-pub heard_true : (g : Graph) (tables : List NodeTable) (node time : ℕ) (s : Scenario) (l : Literal) → IsScenario g s → is_heard g.faults (facts g tables node s time) l ≡ true → holds s l ≡ true
+pub heard_true : (g : Graph) (tables : List NodeTable) (node time : ℕ) (s : Scenario) (l : Literal) → IsScenario g s →
+    is_heard g.faults (facts g tables node s time) l ≡ true →
+    holds s l ≡ true
 heard_true g tables node time s l law h =
-    let r = and_parts (leb l.low (kept_low (facts g tables node s time) l.variable)) (leb (kept_high g.faults (facts g tables node s time) l.variable) l.high) h in
+    let r = and_parts (leb l.low (kept_low (facts g tables node s time) l.variable))
+    (leb (kept_high g.faults (facts g tables node s time) l.variable) l.high) h in
     and_from (leb l.low (number_of s l.variable)) (leb (number_of s l.variable) l.high)
     (le-leb l.low (number_of s l.variable) (omega (arith, leb-true _ _ r.0, low g tables node time s law l)))
     (le-leb (number_of s l.variable) l.high (omega (arith, leb-true _ _ r.1, high g tables node time s law l)))

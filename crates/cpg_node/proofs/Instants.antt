@@ -1,5 +1,6 @@
 -- A node comes to finitely many instants: each turn leaves fewer.
-use Rattle.std.proofs.Common.{◌≡◌, ◌≢◌, ℕ, ◌+◌, ◌*◌, ◌<◌, ◌≤◌, Bool, true, false, cond, ◌||◌, ◌==◌, List, [], ◌∷◌, ◌++◌, length, filter, fold, Contains, Option, Some, None, refl, sym, ap, ◌∙◌, subst}
+use Rattle.std.proofs.Common.{◌≡◌, ◌≢◌, ℕ, ◌+◌, ◌*◌, ◌<◌, ◌≤◌, Bool, true, false, cond, ◌||◌, ◌==◌, List, [], ◌∷◌, ◌++◌}
+use Rattle.std.proofs.Common.{length, filter, fold, Contains, Option, Some, None, refl, sym, ap, ◌∙◌, subst}
 use Rattle.std.proofs.Common.{arith, inl, inr, ◌⊎◌, true≢false, ltb, lt-ltb, ltb-true, le-ltb, eq-eqb, ne_eqb}
 use Rattle.std.specs.Prelude.{is_some}
 use Rattle.std.specs.List.{flat_map, list_any}
@@ -7,11 +8,13 @@ use Rattle.std.proofs.lemmas.Bool.{cases_eq, cond-true, cond-false}
 use Rattle.std.proofs.lemmas.List.{length-map, length-append}
 use Rattle.std.proofs.lemmas.List.Elements.{All-head, All-tail, filter-append, Contains-append_cases}
 use Rattle.std.proofs.lemmas.List.Sums.{sum_by-append}
-use Rattle.cpg_base.proofs.Lists.{Contains-first, Contains-rest, Contains-cases, Contains-nil, Contains-filter_parts, filter_none}
+use Rattle.cpg_base.proofs.Lists.{Contains-first, Contains-rest, Contains-cases, Contains-nil, Contains-filter_parts}
+use Rattle.cpg_base.proofs.Lists.{filter_none}
 use Rattle.cpg_base.proofs.Sums.{length-filter-le}
 use Rattle.cpg_table.specs.Table.{Row}
 use Rattle.cpg_table.specs.Lawful.{IsTable, column_count, rows_of}
-use Rattle.cpg_node.specs.Dispatcher.{Dispatcher, Own, OwnTable, Running, Ended, Frame, Act, candidates, is_after, next, possible_ends, times_in, zip_with, running_after, ends_in_turn, acts_of_turn}
+use Rattle.cpg_node.specs.Dispatcher.{Dispatcher, Own, OwnTable, Running, Ended, Frame, Act, candidates, is_after, next}
+use Rattle.cpg_node.specs.Dispatcher.{possible_ends, times_in, zip_with, running_after, ends_in_turn, acts_of_turn}
 use Rattle.cpg_node.specs.Dispatcher.{turn, finished}
 use Rattle.cpg_node.specs.Plan.{fixed_times}
 use Rattle.cpg_node.proofs.Next.{least_of_parts, next_is}
@@ -22,29 +25,37 @@ use Rattle.cpg_node.specs.Instants.{left_of, planned_times, end_times, entries_l
 
 -- What is after a later moment is after an earlier one.
 
-after_both : (last : Option ℕ) (time x : ℕ) → is_after last time ≡ true → is_after (Some time) x ≡ true → is_after last x ≡ true
+after_both : (last : Option ℕ) (time x : ℕ) → is_after last time ≡ true → is_after (Some time) x ≡ true →
+    is_after last x ≡ true
 after_both None time x a b = refl
 after_both (Some t) time x a b = lt-ltb t x (omega (arith, ltb-true t time a, ltb-true time x b))
 
-pub fewer_left : (last : Option ℕ) (time : ℕ) (xs : List ℕ) → is_after last time ≡ true → left_of (Some time) xs ≤ left_of last xs
-fewer_left last time xs a = length-filter-le (is_after (Some time)) (is_after last) xs (λ x b. after_both last time x a b)
+pub fewer_left : (last : Option ℕ) (time : ℕ) (xs : List ℕ) → is_after last time ≡ true →
+    left_of (Some time) xs ≤ left_of last xs
+fewer_left last time xs a =
+    length-filter-le (is_after (Some time)) (is_after last) xs (λ x b. after_both last time x a b)
 
-one_kept : (b c : Bool) (x : ℕ) (xs ys : List ℕ) → (b ≡ true → c ≡ true) → length xs < length ys → length (cond b (x ∷ xs) xs) < length (cond c (x ∷ ys) ys)
+one_kept : (b c : Bool) (x : ℕ) (xs ys : List ℕ) → (b ≡ true → c ≡ true) → length xs < length ys →
+    length (cond b (x ∷ xs) xs) < length (cond c (x ∷ ys) ys)
 one_kept true true x xs ys h l = omega arith
 one_kept true false x xs ys h l = absurd (true≢false (sym (h refl)))
 one_kept false true x xs ys h l = omega arith
 one_kept false false x xs ys h l = l
 
 -- fewer, if the later moment is one of them
-pub one_less : (last : Option ℕ) (time : ℕ) (xs : List ℕ) → is_after last time ≡ true → Contains xs time → left_of (Some time) xs < left_of last xs
+pub one_less : (last : Option ℕ) (time : ℕ) (xs : List ℕ) → is_after last time ≡ true → Contains xs time →
+    left_of (Some time) xs < left_of last xs
 one_less last time [] a c = absurd (Contains-nil time c)
 one_less last time (x ∷ xs) a c = elim (Contains-cases x xs time c) [
-  | inl e ↦ first (ltb time x) (is_after last x) (le-ltb time x (omega (arith, e))) (subst (λ x. is_after last x ≡ true) (sym e) a) (fewer_left last time xs a)
-  | inr m ↦ one_kept (ltb time x) (is_after last x) x (filter (is_after (Some time)) xs) (filter (is_after last) xs) (after_both last time x a) (one_less last time xs a m)
+  | inl e ↦ first (ltb time x) (is_after last x) (le-ltb time x (omega (arith, e)))
+      (subst (λ x. is_after last x ≡ true) (sym e) a) (fewer_left last time xs a)
+  | inr m ↦ one_kept (ltb time x) (is_after last x) x (filter (is_after (Some time)) xs) (filter (is_after last) xs)
+      (after_both last time x a) (one_less last time xs a m)
 ]
   where
     first : (b c : Bool) → b ≡ false → c ≡ true → left_of (Some time) xs ≤ left_of last xs →
-        length (cond b (x ∷ filter (is_after (Some time)) xs) (filter (is_after (Some time)) xs)) < length (cond c (x ∷ filter (is_after last) xs) (filter (is_after last) xs))
+        length (cond b (x ∷ filter (is_after (Some time)) xs) (filter (is_after (Some time)) xs))
+        < length (cond c (x ∷ filter (is_after last) xs) (filter (is_after last) xs))
     first true c e f l = absurd (true≢false e)
     first false true e f l = omega arith
     first false false e f l = absurd (true≢false (sym f))
@@ -64,7 +75,8 @@ few_each : (o : Own) (run : Option Running) → length o.times ≤ 9 → length 
 few_each o None l = omega arith
 few_each o (Some run) l = omega (arith, l, length-map o.times (λ d. run.start + d))
 
-pub few_ends : (os : List Own) (runs : List (Option Running)) → HaveFewEnds os → length (flat_map (λ ends. ends) (zip_with possible_ends os runs)) ≤ length os * 9
+pub few_ends : (os : List Own) (runs : List (Option Running)) → HaveFewEnds os →
+    length (flat_map (λ ends. ends) (zip_with possible_ends os runs)) ≤ length os * 9
 few_ends [] runs h = omega arith
 few_ends (o ∷ os) [] h = omega arith
 few_ends (o ∷ os) (run ∷ runs) h = omega (
@@ -76,7 +88,8 @@ few_ends (o ∷ os) (run ∷ runs) h = omega (
 
 -- Executions that start in a turn are no more than its acts.
 
-either_few : (p q : Own → Bool) (os : List Own) → length (filter (λ o. p o || q o) os) ≤ length (filter p os) + length (filter q os)
+either_few : (p q : Own → Bool) (os : List Own) →
+    length (filter (λ o. p o || q o) os) ≤ length (filter p os) + length (filter q os)
 either_few p q [] = omega arith
 either_few p q (o ∷ os) = go (p o) (q o) (filter (λ o. p o || q o) os) (filter p os) (filter q os) (either_few p q os)
   where
@@ -92,12 +105,15 @@ once x [] h = omega arith
 once x (o ∷ os) h = elim (cases_eq x o.process) [
   | inl e ↦ omega (
     arith,
-    ap (λ (l : List Own). length l) (cond-true (x == o.process) (o ∷ filter (λ (o : Own). x == o.process) os) (filter (λ (o : Own). x == o.process) os) (eq-eqb x o.process e)),
-    ap (λ (l : List Own). length l) (filter_none (λ (o : Own). x == o.process) os (λ y m. ne_eqb x y.process (λ s. absurd (omega (arith, h.0 y m, e, s))))),
+    ap (λ (l : List Own). length l) (cond-true (x == o.process) (o ∷ filter (λ (o : Own). x == o.process) os)
+        (filter (λ (o : Own). x == o.process) os) (eq-eqb x o.process e)),
+    ap (λ (l : List Own). length l) (filter_none (λ (o : Own). x == o.process) os
+        (λ y m. ne_eqb x y.process (λ s. absurd (omega (arith, h.0 y m, e, s))))),
   )
   | inr ne ↦ omega (
     arith,
-    ap (λ (l : List Own). length l) (cond-false (x == o.process) (o ∷ filter (λ (o : Own). x == o.process) os) (filter (λ (o : Own). x == o.process) os) (ne_eqb x o.process ne)),
+    ap (λ (l : List Own). length l) (cond-false (x == o.process) (o ∷ filter (λ (o : Own). x == o.process) os)
+        (filter (λ (o : Own). x == o.process) os) (ne_eqb x o.process ne)),
     once x os h.1,
   )
 ]
@@ -107,7 +123,11 @@ abbrev started : List Act → List Own → List Own
 started acts os = filter (λ (o : Own). list_any (λ (a : Act). a.item == o.process) acts) os
 
 started_few : (acts : List Act) (os : List Own) → DoRise os → length (started acts os) ≤ length acts
-started_few [] os h = omega (arith, ap (λ (l : List Own). length l) (filter_none (λ (o : Own). list_any (λ (a : Act). a.item == o.process) []) os (λ o m. refl)))
+started_few [] os h = omega (
+  arith,
+  ap (λ (l : List Own). length l)
+      (filter_none (λ (o : Own). list_any (λ (a : Act). a.item == o.process) []) os (λ o m. refl)),
+)
 started_few (a ∷ acts) os h = omega (
   arith,
   either_few (λ (o : Own). a.item == o.process) (λ (o : Own). list_any (λ (a : Act). a.item == o.process) acts) os,
@@ -115,21 +135,29 @@ started_few (a ∷ acts) os h = omega (
   started_few acts os h,
 )
 
-kept_parts : (p : ℕ → Bool) (xs ys : List ℕ) → length (filter p (xs ++ ys)) ≡ length (filter p xs) + length (filter p ys)
+kept_parts : (p : ℕ → Bool) (xs ys : List ℕ) →
+    length (filter p (xs ++ ys)) ≡ length (filter p xs) + length (filter p ys)
 kept_parts p xs ys = ap (λ (l : List ℕ). length l) (filter-append p xs ys) ∙ length-append (filter p xs) (filter p ys)
 
 -- a turn adds few possible ends
-grown_ends : (p : ℕ → Bool) (ended : List Ended) (acts : List Act) (time : ℕ) (os : List Own) (runs : List (Option Running)) → HaveFewEnds os →
-    length (filter p (flat_map (λ ends. ends) (zip_with possible_ends os (zip_with (running_after ended acts time) os runs))))
+grown_ends : (p : ℕ → Bool) (ended : List Ended) (acts : List Act) (time : ℕ) (os : List Own)
+    (runs : List (Option Running)) →
+    HaveFewEnds os →
+    length (filter p
+    (flat_map (λ ends. ends) (zip_with possible_ends os (zip_with (running_after ended acts time) os runs))))
     ≤ length (filter p (flat_map (λ ends. ends) (zip_with possible_ends os runs))) + length (started acts os) * 9
 grown_ends p ended acts time [] runs h = omega arith
 grown_ends p ended acts time (o ∷ os) [] h = omega arith
-grown_ends p ended acts time (o ∷ os) (run ∷ runs) h = go (list_any (λ (a : Act). a.item == o.process) acts) (list_any (λ (e : Ended). e.process == o.process) ended)
-    (flat_map (λ ends. ends) (zip_with possible_ends os (zip_with (running_after ended acts time) os runs))) (flat_map (λ ends. ends) (zip_with possible_ends os runs)) (started acts os)
+grown_ends p ended acts time (o ∷ os) (run ∷ runs) h =
+    go (list_any (λ (a : Act). a.item == o.process) acts) (list_any (λ (e : Ended). e.process == o.process) ended)
+    (flat_map (λ ends. ends) (zip_with possible_ends os (zip_with (running_after ended acts time) os runs)))
+    (flat_map (λ ends. ends) (zip_with possible_ends os runs)) (started acts os)
     (grown_ends p ended acts time os runs (All-tail (λ (o : Own). length o.times ≤ 9) o os h))
   where
-    go : (starts ends : Bool) (new old : List ℕ) (more : List Own) → length (filter p new) ≤ length (filter p old) + length more * 9 →
-        length (filter p (possible_ends o (cond starts (Some (record { start = time; report = None })) (cond ends None run)) ++ new))
+    go : (starts ends : Bool) (new old : List ℕ) (more : List Own) →
+        length (filter p new) ≤ length (filter p old) + length more * 9 →
+        length (filter p
+        (possible_ends o (cond starts (Some (record { start = time; report = None })) (cond ends None run)) ++ new))
         ≤ length (filter p (possible_ends o run ++ old)) + length (cond starts (o ∷ more) more) * 9
     go true ends new old more l =
         let begun : Option Running = Some (record { start = time; report = None }) in
@@ -142,32 +170,42 @@ grown_ends p ended acts time (o ∷ os) (run ∷ runs) h = go (list_any (λ (a :
           few_each o begun (All-head (λ (o : Own). length o.times ≤ 9) o os h),
         )
     go false true new old more l = omega (arith, l, kept_parts p (possible_ends o run) old)
-    go false false new old more l = omega (arith, l, kept_parts p (possible_ends o run) new, kept_parts p (possible_ends o run) old)
+    go false false new old more l =
+        omega (arith, l, kept_parts p (possible_ends o run) new, kept_parts p (possible_ends o run) old)
 
 -- The instants of a node.
 
 -- the next instant is planned, or is a possible end
-instant_is : (d : Dispatcher) (time : ℕ) → next d ≡ Some time → Contains (planned_times d) time ⊎ Contains (end_times d) time
+instant_is : (d : Dispatcher) (time : ℕ) → next d ≡ Some time →
+    Contains (planned_times d) time ⊎ Contains (end_times d) time
 instant_is d time e = go (is_some d.last)
     (Contains-filter_parts (is_after d.last) (cond (is_some d.last) (candidates d) (0 ∷ candidates d)) time
     (least_of_parts (filter (is_after d.last) (cond (is_some d.last) (candidates d) (0 ∷ candidates d))) time e).0).0
   where
-    go : (b : Bool) → Contains (cond b (candidates d) (0 ∷ candidates d)) time → Contains (cond b (fixed_times d.table) (0 ∷ fixed_times d.table)) time ⊎ Contains (end_times d) time
+    go : (b : Bool) → Contains (cond b (candidates d) (0 ∷ candidates d)) time →
+        Contains (cond b (fixed_times d.table) (0 ∷ fixed_times d.table)) time ⊎ Contains (end_times d) time
     go true c = Contains-append_cases (fixed_times d.table) (end_times d) time c
     go false c = elim (Contains-cases 0 (candidates d) time c) [
       | inl s ↦ inl (subst (Contains (0 ∷ fixed_times d.table)) s (Contains-first 0 (fixed_times d.table)))
-      | inr m ↦ elim (Contains-append_cases (fixed_times d.table) (end_times d) time m) [ inl f ↦ inl (Contains-rest 0 (fixed_times d.table) time f) | inr n ↦ inr n ]
+      | inr m ↦ elim (Contains-append_cases (fixed_times d.table) (end_times d) time m) [
+        | inl f ↦ inl (Contains-rest 0 (fixed_times d.table) time f)
+        | inr n ↦ inr n
+      ]
     ]
 
-fixed_left : (d : Dispatcher) (p : ℕ → Bool) → length (filter p (fixed_times d.table)) ≤ length (filter p (planned_times d))
+fixed_left : (d : Dispatcher) (p : ℕ → Bool) →
+    length (filter p (fixed_times d.table)) ≤ length (filter p (planned_times d))
 fixed_left d p = go (is_some d.last)
   where
-    go : (b : Bool) → length (filter p (fixed_times d.table)) ≤ length (filter p (cond b (fixed_times d.table) (0 ∷ fixed_times d.table)))
+    go : (b : Bool) →
+        length (filter p (fixed_times d.table))
+        ≤ length (filter p (cond b (fixed_times d.table) (0 ∷ fixed_times d.table)))
     go true = omega arith
     go false = front_left p 0 (fixed_times d.table)
 
 -- a turn leaves fewer instants
-module _ (d : Dispatcher) (time : ℕ) (frames : List Frame) (comes : next d ≡ Some time) (rise : DoRise d.table.own) (ends : HaveFewEnds d.table.own) where
+module _ (d : Dispatcher) (time : ℕ) (frames : List Frame) (comes : next d ≡ Some time) (rise : DoRise d.table.own)
+    (ends : HaveFewEnds d.table.own) where
   after : is_after d.last time ≡ true
   after = (next_is d time comes).after
 
@@ -179,18 +217,36 @@ module _ (d : Dispatcher) (time : ℕ) (frames : List Frame) (comes : next d ≡
       let room = room_turn d time frames comes in
       let fixed = fixed_left d (is_after (Some time)) in
       elim (instant_is d time comes) [
-        | inl c ↦ omega (arith, one_less d.last time (planned_times d) after c, fewer_left d.last time (end_times d) after, grown, few, room, fixed)
-        | inr c ↦ omega (arith, fewer_left d.last time (planned_times d) after, one_less d.last time (end_times d) after c, grown, few, room, fixed)
+        | inl c ↦ omega (
+          arith,
+          one_less d.last time (planned_times d) after c,
+          fewer_left d.last time (end_times d) after,
+          grown,
+          few,
+          room,
+          fixed,
+        )
+        | inr c ↦ omega (
+          arith,
+          fewer_left d.last time (planned_times d) after,
+          one_less d.last time (end_times d) after c,
+          grown,
+          few,
+          room,
+          fixed,
+        )
       ]
 
 -- a turn of a lawful table leaves fewer instants
-pub table_less : (d : Dispatcher) (time : ℕ) (frames : List Frame) → next d ≡ Some time → IsTable d.table → instants_left (turn d time [] frames) < instants_left d
+pub table_less : (d : Dispatcher) (time : ℕ) (frames : List Frame) → next d ≡ Some time → IsTable d.table →
+    instants_left (turn d time [] frames) < instants_left d
 table_less d time frames comes made = turn_less d time frames comes (own_rise d.table made) (own_few_ends d.table made)
 
 -- reports change nothing
 pub reported_left : (d : Dispatcher) (es : List Ended) → instants_left (fold finished d es) ≡ instants_left d
 reported_left d [] = refl
-reported_left d (e ∷ es) = reported_left (finished d e) es ∙ ap (λ l. left_of d.last (planned_times d) + left_of d.last (flat_map (λ ends. ends) l) + length (entries_left d) * 9)
+reported_left d (e ∷ es) = reported_left (finished d e) es ∙ ap
+    (λ l. left_of d.last (planned_times d) + left_of d.last (flat_map (λ ends. ends) l) + length (entries_left d) * 9)
     (ends_reported e d.table.own d.running)
 
 -- How many instants there are at all.
@@ -208,7 +264,8 @@ fixed_count t = omega (
 )
 
 -- at most 10 for each entry, one more, and the ends of what runs
-pub most_instants : (d : Dispatcher) → length d.table.own ≤ 128 → HaveFewEnds d.table.own → instants_left d ≤ column_count (rows_of d.table) * 10 + 1153
+pub most_instants : (d : Dispatcher) → length d.table.own ≤ 128 → HaveFewEnds d.table.own →
+    instants_left d ≤ column_count (rows_of d.table) * 10 + 1153
 most_instants d few ends = omega (
   arith,
   all_left (is_after d.last) (planned_times d),
@@ -222,6 +279,7 @@ most_instants d few ends = omega (
   sum_by-append (λ (row : Row). length row.columns) d.table.sends d.table.hears,
 )
   where
-    planned : (b : Bool) → length (cond b (fixed_times d.table) (0 ∷ fixed_times d.table)) ≤ length (fixed_times d.table) + 1
+    planned : (b : Bool) →
+        length (cond b (fixed_times d.table) (0 ∷ fixed_times d.table)) ≤ length (fixed_times d.table) + 1
     planned true = omega arith
     planned false = omega arith

@@ -1,5 +1,6 @@
 -- The least of lists of times.
-use Rattle.std.proofs.Common.{◌≡◌, ℕ, ◌<◌, ◌≤◌, ◌+◌, Bool, min, List, [], ◌∷◌, ◌++◌, map, filter, fold, length, drop, get_or, Contains, Option, Some, None, refl, sym, ap, ◌∙◌, arith, drop-cons}
+use Rattle.std.proofs.Common.{◌≡◌, ℕ, ◌<◌, ◌≤◌, ◌+◌, Bool, min, List, [], ◌∷◌, ◌++◌, map, filter, fold, length, drop}
+use Rattle.std.proofs.Common.{get_or, Contains, Option, Some, None, refl, sym, ap, ◌∙◌, arith, drop-cons}
 use Rattle.std.proofs.Common.{add-one}
 use Rattle.std.specs.List.{flat_map}
 use Rattle.std.proofs.lemmas.List.Elements.{filter-append}
@@ -12,10 +13,13 @@ use Rattle.cpg_node.proofs.Next.{least_of_parts}
 -- what is in a list and not above any of it is its least
 pub least_is : (xs : List ℕ) (t : ℕ) → Contains xs t → ((x : ℕ) → Contains xs x → t ≤ x) → least_of xs ≡ Some t
 least_is [] t c l = absurd (Contains-nil t c)
-least_is (y ∷ ys) t c l = let p = least_of_parts (y ∷ ys) (fold min y ys) refl in ap Some (omega (arith, p.1 t c, l (fold min y ys) p.0))
+least_is (y ∷ ys) t c l = let p = least_of_parts (y ∷ ys) (fold min y ys) refl in
+    ap Some (omega (arith, p.1 t c, l (fold min y ys) p.0))
 
 -- lists with the same members have the same least
-pub least_same : (xs ys : List ℕ) → ((x : ℕ) → Contains xs x → Contains ys x) → ((x : ℕ) → Contains ys x → Contains xs x) → least_of xs ≡ least_of ys
+pub least_same : (xs ys : List ℕ) → ((x : ℕ) → Contains xs x → Contains ys x) →
+    ((x : ℕ) → Contains ys x → Contains xs x) →
+    least_of xs ≡ least_of ys
 least_same [] [] to from = refl
 least_same [] (y ∷ ys) to from = absurd (Contains-nil y (from y (Contains-first y ys)))
 least_same (x ∷ xs) ys to from = let p = least_of_parts (x ∷ xs) (fold min x xs) refl in
@@ -45,32 +49,43 @@ least_cons x (y ∷ ys) = ap Some (fold_min x y ys)
 pub least_append : (xs ys : List ℕ) → least_of (xs ++ ys) ≡ earlier (least_of xs) (least_of ys)
 least_append [] ys = refl
 least_append (x ∷ xs) ys = least_cons x (xs ++ ys) ∙ ap (earlier (Some x)) (least_append xs ys)
-    ∙ sym (earlier_assoc (Some x) (least_of xs) (least_of ys)) ∙ ap (λ o. earlier o (least_of ys)) (sym (least_cons x xs))
+    ∙ sym (earlier_assoc (Some x) (least_of xs) (least_of ys))
+    ∙ ap (λ o. earlier o (least_of ys)) (sym (least_cons x xs))
 
 -- the least of what passes, of two lists
-pub least_passing : (p : ℕ → Bool) (xs ys : List ℕ) → least_of (filter p (xs ++ ys)) ≡ earlier (least_of (filter p xs)) (least_of (filter p ys))
+pub least_passing : (p : ℕ → Bool) (xs ys : List ℕ) →
+    least_of (filter p (xs ++ ys)) ≡ earlier (least_of (filter p xs)) (least_of (filter p ys))
 least_passing p xs ys = ap least_of (filter-append p xs ys) ∙ least_append (filter p xs) (filter p ys)
 
 -- a loop over lists of times
-pub least_more : (p : ℕ → Bool) (first : Option ℕ) (xs ys : List ℕ) (whole : Option ℕ) → earlier first (least_of (filter p (xs ++ ys))) ≡ whole →
+pub least_more : (p : ℕ → Bool) (first : Option ℕ) (xs ys : List ℕ) (whole : Option ℕ) →
+    earlier first (least_of (filter p (xs ++ ys))) ≡ whole →
     earlier (earlier first (least_of (filter p xs))) (least_of (filter p ys)) ≡ whole
-least_more p first xs ys whole e = earlier_assoc first (least_of (filter p xs)) (least_of (filter p ys)) ∙ ap (earlier first) (sym (least_passing p xs ys)) ∙ e
+least_more p first xs ys whole e = earlier_assoc first (least_of (filter p xs)) (least_of (filter p ys))
+    ∙ ap (earlier first) (sym (least_passing p xs ys)) ∙ e
 
-pub least_zip : {A B : Type 0} (p : ℕ → Bool) (f : A → B → List ℕ) (n : ℕ) (os : List A) (rs : List B) (a : A) (b : B) (first now : Option ℕ) (whole : Option ℕ) → n < length os →
+pub least_zip : {A B : Type 0} (p : ℕ → Bool) (f : A → B → List ℕ) (n : ℕ) (os : List A) (rs : List B) (a : A) (b : B)
+    (first now : Option ℕ) (whole : Option ℕ) → n < length os →
     length os ≡ length rs → a ≡ get_or os n a →
-    now ≡ earlier first (least_of (filter p (f a (get_or rs n b)))) → earlier first (least_of (filter p (flat_map (λ l. l) (zip_with f (drop n os) (drop n rs))))) ≡ whole →
+    now ≡ earlier first (least_of (filter p (f a (get_or rs n b)))) →
+    earlier first (least_of (filter p (flat_map (λ l. l) (zip_with f (drop n os) (drop n rs))))) ≡ whole →
     earlier now (least_of (filter p (flat_map (λ l. l) (zip_with f (drop (n + 1) os) (drop (n + 1) rs))))) ≡ whole
 least_zip p f n os rs a b first now whole l e at is h =
     let rest = flat_map (λ l. l) (zip_with f (drop (n + 1) os) (drop (n + 1) rs)) in
     ap (λ o. earlier o (least_of (filter p rest))) is
-    ∙ least_more p first (f a (get_or rs n b)) rest whole (ap (λ a. earlier first (least_of (filter p (f a (get_or rs n b) ++ rest)))) at
+    ∙ least_more p first (f a (get_or rs n b)) rest whole
+    (ap (λ a. earlier first (least_of (filter p (f a (get_or rs n b) ++ rest)))) at
     ∙ ap (λ l. earlier first (least_of (filter p (flat_map (λ l. l) l)))) (sym (zip_with-drop f n os rs a b l e)) ∙ h)
 
-pub least_map : (p : ℕ → Bool) (f : ℕ → ℕ) (n : ℕ) (ts : List ℕ) (d : ℕ) (first now end whole : Option ℕ) → n < length ts → end ≡ least_of (filter p (f (get_or ts n d) ∷ [])) →
+pub least_map : (p : ℕ → Bool) (f : ℕ → ℕ) (n : ℕ) (ts : List ℕ) (d : ℕ) (first now end whole : Option ℕ) →
+    n < length ts →
+    end ≡ least_of (filter p (f (get_or ts n d) ∷ [])) →
     now ≡ earlier first end →
-    earlier first (least_of (filter p (map f (drop n ts)))) ≡ whole → earlier now (least_of (filter p (map f (drop (n + 1) ts)))) ≡ whole
+    earlier first (least_of (filter p (map f (drop n ts)))) ≡ whole →
+    earlier now (least_of (filter p (map f (drop (n + 1) ts)))) ≡ whole
 least_map p f n ts d first now end whole l at is h =
     let rest = map f (drop (n + 1) ts) in
     ap (λ o. earlier o (least_of (filter p rest))) (is ∙ ap (earlier first) at)
     ∙ least_more p first (f (get_or ts n d) ∷ []) rest whole
-    (ap (λ l. earlier first (least_of (filter p (map f l)))) (sym (drop-cons ts n d l ∙ ap (λ m. get_or ts n d ∷ drop m ts) (sym (add-one n)))) ∙ h)
+    (ap (λ l. earlier first (least_of (filter p (map f l))))
+    (sym (drop-cons ts n d l ∙ ap (λ m. get_or ts n d ∷ drop m ts) (sym (add-one n)))) ∙ h)

@@ -1,5 +1,6 @@
 -- Things in order of time, and the place of the last turn among them.
-use Rattle.std.proofs.Common.{◌≡◌, ℕ, ◌<◌, ◌≤◌, true, false, List, [], ◌∷◌, filter, length, get_or, slice_get, Contains, Option, Some, None, refl, sym, ap, ◌∙◌, subst, arith, inl, inr, true≢false}
+use Rattle.std.proofs.Common.{◌≡◌, ℕ, ◌<◌, ◌≤◌, true, false, List, [], ◌∷◌, filter, length, get_or, slice_get, Contains}
+use Rattle.std.proofs.Common.{Option, Some, None, refl, sym, ap, ◌∙◌, subst, arith, inl, inr, true≢false}
 use Rattle.std.proofs.Common.{ltb-true, lt-ltb, le-ltb}
 use Rattle.std.proofs.lemmas.Bool.{cases_lt, ltb-false}
 use Rattle.std.proofs.lemmas.Option.{slice_get-get_or, slice_get_past}
@@ -14,13 +15,19 @@ pub reached_time : (last time : ℕ) → is_after (Some last) time ≡ false →
 reached_time last time e = ltb-false last time e
 
 -- the place moves on to the first that is after the new turn
-pub moves_on : {X : Type 0} (time : X → ℕ) (last : Option ℕ) (xs : List X) (place next now : ℕ) → IsLine time last xs place → is_after last now ≡ true →
-    place ≤ next → next ≤ length xs → ((i : ℕ) (d : X) → place ≤ i → i < next → time (get_or xs i d) ≤ now) → ((d : X) → next < length xs → now < time (get_or xs next d)) →
+pub moves_on : {X : Type 0} (time : X → ℕ) (last : Option ℕ) (xs : List X) (place next now : ℕ) →
+    IsLine time last xs place →
+    is_after last now ≡ true →
+    place ≤ next → next ≤ length xs → ((i : ℕ) (d : X) → place ≤ i → i < next → time (get_or xs i d) ≤ now) →
+    ((d : X) → next < length xs → now < time (get_or xs next d)) →
     IsLine time (Some now) xs next
 moves_on {X = X} time last xs place next now line after l w before here = record {
   within = w;
   rises = line.rises;
-  reached = λ i d h. le-ltb now (time (get_or xs i d)) (elim (cases_lt i place) [ inl k ↦ early last after (time (get_or xs i d)) (line.reached i d k) | inr k ↦ before i d k h ]);
+  reached = λ i d h. le-ltb now (time (get_or xs i d)) (elim (cases_lt i place) [
+    | inl k ↦ early last after (time (get_or xs i d)) (line.reached i d k)
+    | inr k ↦ before i d k h
+  ]);
   left = λ i d h k. lt-ltb now (time (get_or xs i d)) (omega (arith, here d (omega arith), line.rises next i d h k));
 }
   where
@@ -29,19 +36,27 @@ moves_on {X = X} time last xs place next now line after l w before here = record
     early (Some s) a t e = omega (arith, ltb-true s now a, reached_time s t e)
 
 -- the place moves on to the first that is after the new turn, if a call sees the list
-pub moves_on_seen : {X : Type 0} (time : X → ℕ) (last : Option ℕ) (xs seen : List X) (place next now : ℕ) → IsLine time last xs place → is_after last now ≡ true → seen ≡ xs →
-    (place ≤ next) × (next ≤ length seen) → ((i : ℕ) (d : X) → place ≤ i → i < next → time (get_or seen i d) ≤ now) → ((d : X) → next < length seen → now < time (get_or seen next d)) →
+pub moves_on_seen : {X : Type 0} (time : X → ℕ) (last : Option ℕ) (xs seen : List X) (place next now : ℕ) →
+    IsLine time last xs place → is_after last now ≡ true → seen ≡ xs →
+    (place ≤ next) × (next ≤ length seen) → ((i : ℕ) (d : X) → place ≤ i → i < next → time (get_or seen i d) ≤ now) →
+    ((d : X) → next < length seen → now < time (get_or seen next d)) →
     IsLine time (Some now) xs next
-moves_on_seen {X = X} time last xs seen place next now line after e inside before here = moves_on time last xs place next now line after inside.0 (omega (arith, inside.1, ap length e))
-    (subst (λ (ys : List X). (i : ℕ) (d : X) → place ≤ i → i < next → time (get_or ys i d) ≤ now) e before) (subst (λ (ys : List X). (d : X) → next < length ys → now < time (get_or ys next d)) e here)
+moves_on_seen {X = X} time last xs seen place next now line after e inside before here =
+    moves_on time last xs place next now line after inside.0 (omega (arith, inside.1, ap length e))
+    (subst (λ (ys : List X). (i : ℕ) (d : X) → place ≤ i → i < next → time (get_or ys i d) ≤ now) e before)
+    (subst (λ (ys : List X). (d : X) → next < length ys → now < time (get_or ys next d)) e here)
 
 -- the first after the last turn is the least of all that are
-pub first_left : (last : ℕ) (xs : List ℕ) (place : ℕ) → IsLine (λ t. t) (Some last) xs place → slice_get xs place ≡ least_of (filter (is_after (Some last)) xs)
+pub first_left : (last : ℕ) (xs : List ℕ) (place : ℕ) → IsLine (λ t. t) (Some last) xs place →
+    slice_get xs place ≡ least_of (filter (is_after (Some last)) xs)
 first_left last xs place line = elim (cases_lt place (length xs)) [
-  | inl h ↦ let x = get_or xs place 0 in slice_get-get_or xs place 0 h ∙ sym (least_is (filter (is_after (Some last)) xs) x
-      (Contains-filter (is_after (Some last)) xs x (line.left place 0 (omega arith) h) (place, h, get_or_default xs place x 0 h))
+  | inl h ↦ let x = get_or xs place 0 in
+      slice_get-get_or xs place 0 h ∙ sym (least_is (filter (is_after (Some last)) xs) x
+      (Contains-filter (is_after (Some last)) xs x (line.left place 0 (omega arith) h)
+      (place, h, get_or_default xs place x 0 h))
       (λ y c. least y (Contains-filter_parts (is_after (Some last)) xs y c)))
-  | inr h ↦ slice_get_past xs place h ∙ sym (ap least_of (none (filter (is_after (Some last)) xs) (λ y c. past h y (Contains-filter_parts (is_after (Some last)) xs y c))))
+  | inr h ↦ slice_get_past xs place h ∙ sym (ap least_of
+      (none (filter (is_after (Some last)) xs) (λ y c. past h y (Contains-filter_parts (is_after (Some last)) xs y c))))
 ]
   where
     -- where a member that is after the last turn stands
@@ -52,7 +67,12 @@ first_left last xs place line = elim (cases_lt place (length xs)) [
     ]
 
     least : (y : ℕ) → Contains xs y × (is_after (Some last) y ≡ true) → get_or xs place 0 ≤ y
-    least y ((i, l, e), a) = omega (arith, e, line.rises place i y (stands y i l e a) l, get_or_default xs place y 0 (omega (arith, stands y i l e a)))
+    least y ((i, l, e), a) = omega (
+      arith,
+      e,
+      line.rises place i y (stands y i l e a) l,
+      get_or_default xs place y 0 (omega (arith, stands y i l e a)),
+    )
 
     past : length xs ≤ place → (y : ℕ) → Contains xs y × (is_after (Some last) y ≡ true) → ⊥
     past h y ((i, l, e), a) = omega (arith, stands y i l e a)

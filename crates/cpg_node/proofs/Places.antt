@@ -1,5 +1,6 @@
 -- Two lists of one length, changed place by place.
-use Rattle.std.proofs.Common.{◌≡◌, ◌≢◌, ℕ, suc, zero, ◌<◌, ◌+◌, ◌==◌, Bool, true, false, cond, drop, List, [], ◌∷◌, length, set, get_or, refl, sym, ap, ◌∙◌, arith, add-one, eqb-true, Option}
+use Rattle.std.proofs.Common.{◌≡◌, ◌≢◌, ℕ, suc, zero, ◌<◌, ◌+◌, ◌==◌, Bool, true, false, cond, drop, List, [], ◌∷◌}
+use Rattle.std.proofs.Common.{length, set, get_or, refl, sym, ap, ◌∙◌, arith, add-one, eqb-true, Option}
 use Rattle.cpg_node.specs.Dispatcher.{Own, Running, zip_with}
 use Rattle.cpg_node.specs.State.{running_in}
 
@@ -10,58 +11,76 @@ zip_front f (suc n) [] rs = rs
 zip_front f (suc n) (o ∷ os) [] = []
 zip_front f (suc n) (o ∷ os) (r ∷ rs) = f o r ∷ zip_front f n os rs
 
-pub zip_front-whole : {A B : Type 0} (f : A → B → B) (os : List A) (rs : List B) → length os ≡ length rs → zip_front f (length os) os rs ≡ zip_with f os rs
+pub zip_front-whole : {A B : Type 0} (f : A → B → B) (os : List A) (rs : List B) → length os ≡ length rs →
+    zip_front f (length os) os rs ≡ zip_with f os rs
 zip_front-whole f [] [] e = refl
 zip_front-whole f [] (r ∷ rs) e = absurd (omega arith)
 zip_front-whole f (o ∷ os) [] e = refl
 zip_front-whole f (o ∷ os) (r ∷ rs) e = ap (λ l. f o r ∷ l) (zip_front-whole f os rs (omega arith))
 
-pub zip_front-length : {A B : Type 0} (f : A → B → B) (n : ℕ) (os : List A) (rs : List B) → length (zip_front f n os rs) ≡ length rs
+pub zip_front-length : {A B : Type 0} (f : A → B → B) (n : ℕ) (os : List A) (rs : List B) →
+    length (zip_front f n os rs) ≡ length rs
 zip_front-length f zero os rs = refl
 zip_front-length f (suc n) [] rs = refl
 zip_front-length f (suc n) (o ∷ os) [] = refl
 zip_front-length f (suc n) (o ∷ os) (r ∷ rs) = ap (λ l. suc l) (zip_front-length f n os rs)
 
 -- a place that is not changed yet
-pub zip_front-at : {A B : Type 0} (f : A → B → B) (n : ℕ) (os : List A) (rs : List B) (d : B) → get_or (zip_front f n os rs) n d ≡ get_or rs n d
+pub zip_front-at : {A B : Type 0} (f : A → B → B) (n : ℕ) (os : List A) (rs : List B) (d : B) →
+    get_or (zip_front f n os rs) n d ≡ get_or rs n d
 zip_front-at f zero os rs d = refl
 zip_front-at f (suc n) [] rs d = refl
 zip_front-at f (suc n) (o ∷ os) [] d = refl
 zip_front-at f (suc n) (o ∷ os) (r ∷ rs) d = zip_front-at f n os rs d
 
 -- one more place
-pub zip_front-more : {A B : Type 0} (f : A → B → B) (n : ℕ) (os : List A) (rs : List B) (a : A) (b : B) → n < length os → length os ≡ length rs →
+pub zip_front-more : {A B : Type 0} (f : A → B → B) (n : ℕ) (os : List A) (rs : List B) (a : A) (b : B) →
+    n < length os →
+    length os ≡ length rs →
     set (zip_front f n os rs) n (f (get_or os n a) (get_or rs n b)) ≡ zip_front f (suc n) os rs
 zip_front-more f n [] rs a b l e = absurd (omega arith)
 zip_front-more f n (o ∷ os) [] a b l e = absurd (omega arith)
 zip_front-more f zero (o ∷ os) (r ∷ rs) a b l e = refl
-zip_front-more f (suc n) (o ∷ os) (r ∷ rs) a b l e = ap (λ l. f o r ∷ l) (zip_front-more f n os rs a b (omega arith) (omega arith))
+zip_front-more f (suc n) (o ∷ os) (r ∷ rs) a b l e =
+    ap (λ l. f o r ∷ l) (zip_front-more f n os rs a b (omega arith) (omega arith))
 
 -- the step of a loop that changes place after place
-pub zip_front-next : {A B : Type 0} (f : A → B → B) (n : ℕ) (os : List A) (rs ls : List B) (a : A) (d r : B) → n < length os → length os ≡ length rs →
+pub zip_front-next : {A B : Type 0} (f : A → B → B) (n : ℕ) (os : List A) (rs ls : List B) (a : A) (d r : B) →
+    n < length os →
+    length os ≡ length rs →
     ls ≡ zip_front f n os rs → a ≡ get_or os n a → r ≡ f a (get_or ls n d) → set ls n r ≡ zip_front f (n + 1) os rs
 zip_front-next f n os rs ls a d r l e is at s =
     let there : get_or ls n d ≡ get_or rs n d = ap (λ l. get_or l n d) is ∙ zip_front-at f n os rs d in
-    (λ i. set (is i) n ((s ∙ ap (f a) there ∙ ap (λ o. f o (get_or rs n d)) at) i)) ∙ zip_front-more f n os rs a d l e ∙ ap (λ m. zip_front f m os rs) (sym (add-one n))
+    (λ i. set (is i) n ((s ∙ ap (f a) there ∙ ap (λ o. f o (get_or rs n d)) at) i)) ∙ zip_front-more f n os rs a d l e
+    ∙ ap (λ m. zip_front f m os rs) (sym (add-one n))
 
 -- the end of a loop that changes place after place
-pub zip_front-done : {A B : Type 0} (f : A → B → B) (n : ℕ) (os : List A) (rs ls : List B) → n ≡ length os → length os ≡ length rs → ls ≡ zip_front f n os rs → ls ≡ zip_with f os rs
+pub zip_front-done : {A B : Type 0} (f : A → B → B) (n : ℕ) (os : List A) (rs ls : List B) → n ≡ length os →
+    length os ≡ length rs → ls ≡ zip_front f n os rs →
+    ls ≡ zip_with f os rs
 zip_front-done f n os rs ls all e is = is ∙ ap (λ n. zip_front f n os rs) all ∙ zip_front-whole f os rs e
 
 -- what is left of two lists together begins at the place
-drop_both : {A B C : Type 0} (f : A → B → C) (n : ℕ) (os : List A) (rs : List B) (a : A) (b : B) → n < length os → length os ≡ length rs →
-    zip_with f (drop n os) (drop n rs) ≡ f (get_or os n a) (get_or rs n b) ∷ zip_with f (drop (suc n) os) (drop (suc n) rs)
+drop_both : {A B C : Type 0} (f : A → B → C) (n : ℕ) (os : List A) (rs : List B) (a : A) (b : B) → n < length os →
+    length os ≡ length rs →
+    zip_with f (drop n os) (drop n rs)
+    ≡ f (get_or os n a) (get_or rs n b) ∷ zip_with f (drop (suc n) os) (drop (suc n) rs)
 drop_both f n [] rs a b l e = absurd (omega arith)
 drop_both f n (o ∷ os) [] a b l e = absurd (omega arith)
 drop_both f zero (o ∷ os) (r ∷ rs) a b l e = refl
 drop_both f (suc n) (o ∷ os) (r ∷ rs) a b l e = drop_both f n os rs a b (omega arith) (omega arith)
 
-pub zip_with-drop : {A B C : Type 0} (f : A → B → C) (n : ℕ) (os : List A) (rs : List B) (a : A) (b : B) → n < length os → length os ≡ length rs →
-    zip_with f (drop n os) (drop n rs) ≡ f (get_or os n a) (get_or rs n b) ∷ zip_with f (drop (n + 1) os) (drop (n + 1) rs)
-zip_with-drop f n os rs a b l e = drop_both f n os rs a b l e ∙ ap (λ m. f (get_or os n a) (get_or rs n b) ∷ zip_with f (drop m os) (drop m rs)) (sym (add-one n))
+pub zip_with-drop : {A B C : Type 0} (f : A → B → C) (n : ℕ) (os : List A) (rs : List B) (a : A) (b : B) →
+    n < length os →
+    length os ≡ length rs →
+    zip_with f (drop n os) (drop n rs)
+    ≡ f (get_or os n a) (get_or rs n b) ∷ zip_with f (drop (n + 1) os) (drop (n + 1) rs)
+zip_with-drop f n os rs a b l e = drop_both f n os rs a b l e
+    ∙ ap (λ m. f (get_or os n a) (get_or rs n b) ∷ zip_with f (drop m os) (drop m rs)) (sym (add-one n))
 
 -- a process at another place
-running_in-suc : (n : ℕ) (os : List Own) (rs : List (Option Running)) (p : ℕ) (a : Own) → n < length os → length os ≡ length rs → a ≡ get_or os n a → a.process ≢ p →
+running_in-suc : (n : ℕ) (os : List Own) (rs : List (Option Running)) (p : ℕ) (a : Own) → n < length os →
+    length os ≡ length rs → a ≡ get_or os n a → a.process ≢ p →
     running_in (drop n os) (drop n rs) p ≡ running_in (drop (suc n) os) (drop (suc n) rs) p
 running_in-suc n [] rs p a l e at other = absurd (omega arith)
 running_in-suc n (o ∷ os) [] p a l e at other = absurd (omega arith)
@@ -70,8 +89,11 @@ running_in-suc zero (o ∷ os) (r ∷ rs) p a l e at other = go (o.process == p)
     go : (b : Bool) → (o.process == p) ≡ b → cond b r (running_in os rs p) ≡ running_in os rs p
     go true t = absurd (other (ap (λ (o : Own). o.process) at ∙ eqb-true o.process p t))
     go false t = refl
-running_in-suc (suc n) (o ∷ os) (r ∷ rs) p a l e at other = running_in-suc n os rs p a (omega arith) (omega arith) at other
+running_in-suc (suc n) (o ∷ os) (r ∷ rs) p a l e at other =
+    running_in-suc n os rs p a (omega arith) (omega arith) at other
 
-pub running_in-next : (n : ℕ) (os : List Own) (rs : List (Option Running)) (p : ℕ) (a : Own) → n < length os → length os ≡ length rs → a ≡ get_or os n a → a.process ≢ p →
+pub running_in-next : (n : ℕ) (os : List Own) (rs : List (Option Running)) (p : ℕ) (a : Own) → n < length os →
+    length os ≡ length rs → a ≡ get_or os n a → a.process ≢ p →
     running_in (drop n os) (drop n rs) p ≡ running_in (drop (n + 1) os) (drop (n + 1) rs) p
-running_in-next n os rs p a l e at other = running_in-suc n os rs p a l e at other ∙ ap (λ m. running_in (drop m os) (drop m rs) p) (sym (add-one n))
+running_in-next n os rs p a l e at other =
+    running_in-suc n os rs p a l e at other ∙ ap (λ m. running_in (drop m os) (drop m rs) p) (sym (add-one n))

@@ -1,5 +1,6 @@
 -- What is planned for a time, and the acts of a turn.
-use Rattle.std.proofs.Common.{◌≡◌, ℕ, suc, zero, ◌<◌, ◌≤◌, ◌+◌, ◌-◌, Bool, true, false, cond, ◌&&◌, ◌==◌, List, [], ◌∷◌, ◌++◌, map, filter, length, take, drop, get_or, Contains, refl, sym, ap, ap₂}
+use Rattle.std.proofs.Common.{◌≡◌, ℕ, suc, zero, ◌<◌, ◌≤◌, ◌+◌, ◌-◌, Bool, true, false, cond, ◌&&◌, ◌==◌, List, [], ◌∷◌}
+use Rattle.std.proofs.Common.{◌++◌, map, filter, length, take, drop, get_or, Contains, refl, sym, ap, ap₂}
 use Rattle.std.proofs.Common.{◌∙◌, subst, arith, drop-cons, add-one, eqb-true, eq-eqb}
 use Rattle.std.specs.Prelude.{not}
 use Rattle.std.specs.List.{flat_map, list_all}
@@ -16,28 +17,36 @@ use Rattle.cpg_node.specs.Dispatcher.{OwnTable, Range, Act, times_in, has_heard,
 use Rattle.cpg_node.specs.Plan.{Planned, plan_of_columns, plan_from, plan_of, no_row, takes, act_of, SameAtEachTime}
 
 -- one more entry
-pub acts_more : (test : Planned → Bool) (p : Planned) (ps : List Planned) → map act_of (filter test (p ∷ ps)) ≡ map act_of (filter test (p ∷ [])) ++ map act_of (filter test ps)
+pub acts_more : (test : Planned → Bool) (p : Planned) (ps : List Planned) →
+    map act_of (filter test (p ∷ ps)) ≡ map act_of (filter test (p ∷ [])) ++ map act_of (filter test ps)
 acts_more test p ps = go (test p)
   where
-    go : (b : Bool) → map act_of (cond b (p ∷ filter test ps) (filter test ps)) ≡ map act_of (cond b (p ∷ []) []) ++ map act_of (filter test ps)
+    go : (b : Bool) →
+        map act_of (cond b (p ∷ filter test ps) (filter test ps)) ≡ map act_of (cond b (p ∷ []) [])
+        ++ map act_of (filter test ps)
     go true = refl
     go false = refl
 
-pub plan_from-append : (place : ℕ) (xs ys : List Row) → plan_from place (xs ++ ys) ≡ plan_from place xs ++ plan_from (place + length xs) ys
+pub plan_from-append : (place : ℕ) (xs ys : List Row) →
+    plan_from place (xs ++ ys) ≡ plan_from place xs ++ plan_from (place + length xs) ys
 plan_from-append place [] ys = let e : place ≡ place + 0 = omega arith in ap (λ n. plan_from n ys) e
-plan_from-append place (x ∷ xs) ys = ap (λ l. plan_of_columns place x.item 0 x.columns ++ l) (plan_from-append (place + 1) xs ys)
+plan_from-append place (x ∷ xs) ys =
+    ap (λ l. plan_of_columns place x.item 0 x.columns ++ l) (plan_from-append (place + 1) xs ys)
     ∙ (let e : place + 1 + length xs ≡ place + suc (length xs) = omega arith in
     ap (λ n. plan_of_columns place x.item 0 x.columns ++ (plan_from (place + 1) xs ++ plan_from n ys)) e
-    ∙ sym (append_assoc (plan_of_columns place x.item 0 x.columns) (plan_from (place + 1) xs) (plan_from (place + suc (length xs)) ys)))
+    ∙ sym (append_assoc (plan_of_columns place x.item 0 x.columns) (plan_from (place + 1) xs)
+    (plan_from (place + suc (length xs)) ys)))
 
 -- the times of what is planned are those of the rows
-times_of_columns : (place x i : ℕ) (cs : List Column) → map (λ (p : Planned). p.time) (plan_of_columns place x i cs) ≡ map (λ (c : Column). c.time) cs
+times_of_columns : (place x i : ℕ) (cs : List Column) →
+    map (λ (p : Planned). p.time) (plan_of_columns place x i cs) ≡ map (λ (c : Column). c.time) cs
 times_of_columns place x i [] = refl
 times_of_columns place x i (c ∷ cs) = ap (λ l. c.time ∷ l) (times_of_columns place x (i + 1) cs)
 
 pub plan_times : (place : ℕ) (rows : List Row) → map (λ (p : Planned). p.time) (plan_from place rows) ≡ times_in rows
 plan_times place [] = refl
-plan_times place (row ∷ rows) = map-append (λ (p : Planned). p.time) (plan_of_columns place row.item 0 row.columns) (plan_from (place + 1) rows)
+plan_times place (row ∷ rows) =
+    map-append (λ (p : Planned). p.time) (plan_of_columns place row.item 0 row.columns) (plan_from (place + 1) rows)
     ∙ ap₂ ◌++◌ (times_of_columns place row.item 0 row.columns) (plan_times (place + 1) rows)
 
 -- The acts of a time are those of what is planned for it, in its order.
@@ -52,49 +61,68 @@ acts_of_row : (rows : List Row) (heard : List Range) (time place x i : ℕ) (cs 
 acts_of_row rows heard time place x i [] at = refl
 acts_of_row rows heard time place x i (c ∷ cs) at =
     let p : Planned = record { time = c.time; row = place; item = x; column = i } in
-    let same : is_due rows heard time p ≡ (c.time == time) && list_all (has_heard heard) c.cube = ap (λ (d : Column). (c.time == time) && list_all (has_heard heard) d.cube) (at 0 i (omega arith)) in
+    let same : is_due rows heard time p ≡ (c.time == time) && list_all (has_heard heard) c.cube =
+    ap (λ (d : Column). (c.time == time) && list_all (has_heard heard) d.cube) (at 0 i (omega arith)) in
     let rest = acts_of_row rows heard time place x (i + 1) cs (λ k n e. at (suc k) n (omega arith)) in
-    go p ((c.time == time) && list_all (has_heard heard) c.cube) (is_due rows heard time p) same (λ h. eqb-true c.time time (and_parts (c.time == time) (list_all (has_heard heard) c.cube) h).0)
-    (filter (is_due rows heard time) (plan_of_columns place x (i + 1) cs)) (acts_of_columns heard time x (i + 1) cs) rest
+    go p ((c.time == time) && list_all (has_heard heard) c.cube) (is_due rows heard time p) same
+    (λ h. eqb-true c.time time (and_parts (c.time == time) (list_all (has_heard heard) c.cube) h).0)
+    (filter (is_due rows heard time) (plan_of_columns place x (i + 1) cs))
+    (acts_of_columns heard time x (i + 1) cs) rest
   where
-    go : (p : Planned) (b e : Bool) → e ≡ b → (b ≡ true → p.time ≡ time) → (ps : List Planned) (acts : List Act) → acts ≡ map act_of ps →
-        cond b (record { time = time; item = p.item; column = p.column } ∷ []) [] ++ acts ≡ map act_of (cond e (p ∷ ps) ps)
-    go p true e s t ps acts r = ap₂ (λ (n : ℕ) (l : List Act). record { time = n; item = p.item; column = p.column } ∷ l) (sym (t refl)) r ∙ ap (λ e. map act_of (cond e (p ∷ ps) ps)) (sym s)
+    go : (p : Planned) (b e : Bool) → e ≡ b → (b ≡ true → p.time ≡ time) → (ps : List Planned) (acts : List Act) →
+        acts ≡ map act_of ps →
+        cond b (record { time = time; item = p.item; column = p.column } ∷ []) []
+        ++ acts ≡ map act_of (cond e (p ∷ ps) ps)
+    go p true e s t ps acts r =
+        ap₂ (λ (n : ℕ) (l : List Act). record { time = n; item = p.item; column = p.column } ∷ l) (sym (t refl)) r
+        ∙ ap (λ e. map act_of (cond e (p ∷ ps) ps)) (sym s)
     go p false e s t ps acts r = r ∙ ap (λ e. map act_of (cond e (p ∷ ps) ps)) (sym s)
 
-acts_of_rows : (all : List Row) (heard : List Range) (time place : ℕ) (rows : List Row) → ((k n : ℕ) → n ≡ place + k → get_or all n no_row ≡ get_or rows k no_row) →
-    flat_map (λ (row : Row). acts_of_columns heard time row.item 0 row.columns) rows ≡ map act_of (filter (is_due all heard time) (plan_from place rows))
+acts_of_rows : (all : List Row) (heard : List Range) (time place : ℕ) (rows : List Row) →
+    ((k n : ℕ) → n ≡ place + k → get_or all n no_row ≡ get_or rows k no_row) →
+    flat_map (λ (row : Row). acts_of_columns heard time row.item 0 row.columns) rows
+    ≡ map act_of (filter (is_due all heard time) (plan_from place rows))
 acts_of_rows all heard time place [] at = refl
 acts_of_rows all heard time place (row ∷ rows) at =
     ap₂ ◌++◌ (acts_of_row all heard time place row.item 0 row.columns
-    (λ k n e. ap (λ (r : Row). get_or r.columns n no_column) (at 0 place (omega arith)) ∙ ap (λ n. get_or row.columns n no_column) (let m : n ≡ k = omega arith in m)))
+    (λ k n e. ap (λ (r : Row). get_or r.columns n no_column) (at 0 place (omega arith))
+    ∙ ap (λ n. get_or row.columns n no_column) (let m : n ≡ k = omega arith in m)))
     (acts_of_rows all heard time (place + 1) rows (λ k n e. at (suc k) n (omega arith)))
-    ∙ sym (ap (map act_of) (filter-append (is_due all heard time) (plan_of_columns place row.item 0 row.columns) (plan_from (place + 1) rows))
-    ∙ map-append act_of (filter (is_due all heard time) (plan_of_columns place row.item 0 row.columns)) (filter (is_due all heard time) (plan_from (place + 1) rows)))
+    ∙ sym (ap (map act_of) (filter-append (is_due all heard time) (plan_of_columns place row.item 0 row.columns)
+    (plan_from (place + 1) rows))
+    ∙ map-append act_of (filter (is_due all heard time) (plan_of_columns place row.item 0 row.columns))
+    (filter (is_due all heard time) (plan_from (place + 1) rows)))
 
-acts_planned : (t : OwnTable) (heard : List Range) (time : ℕ) → acts_at t heard time ≡ map act_of (filter (is_due (t.sends ++ t.starts) heard time) (plan_of t))
-acts_planned t heard time = acts_of_rows (t.sends ++ t.starts) heard time 0 (t.sends ++ t.starts) (λ k n e. ap (λ n. get_or (t.sends ++ t.starts) n no_row) (let m : n ≡ k = omega arith in m))
+acts_planned : (t : OwnTable) (heard : List Range) (time : ℕ) →
+    acts_at t heard time ≡ map act_of (filter (is_due (t.sends ++ t.starts) heard time) (plan_of t))
+acts_planned t heard time = acts_of_rows (t.sends ++ t.starts) heard time 0 (t.sends ++ t.starts)
+    (λ k n e. ap (λ n. get_or (t.sends ++ t.starts) n no_row) (let m : n ≡ k = omega arith in m))
 
 -- a test of two parts passes what the second keeps of what the first does
 filter_both : {X : Type 0} (p q : X → Bool) (xs : List X) → filter (λ x. p x && q x) xs ≡ filter q (filter p xs)
 filter_both p q [] = refl
 filter_both p q (x ∷ xs) = go (p x) (filter_both p q xs)
   where
-    go : (b : Bool) → filter (λ x. p x && q x) xs ≡ filter q (filter p xs) → cond (b && q x) (x ∷ filter (λ x. p x && q x) xs) (filter (λ x. p x && q x) xs) ≡ filter q
+    go : (b : Bool) → filter (λ x. p x && q x) xs ≡ filter q (filter p xs) →
+        cond (b && q x) (x ∷ filter (λ x. p x && q x) xs) (filter (λ x. p x && q x) xs) ≡ filter q
         (cond b (x ∷ filter p xs) (filter p xs))
     go true e = ap (λ l. cond (q x) (x ∷ l) l) e
     go false e = e
 
 -- the acts at a time are those of the same entries in another order
 pub acts_same : (t : OwnTable) (heard : List Range) (time : ℕ) (plan : List Planned) → SameAtEachTime plan (plan_of t) →
-    acts_at t heard time ≡ map act_of (filter (takes (t.sends ++ t.starts) heard) (filter (λ (p : Planned). p.time == time) plan))
-acts_same t heard time plan same = acts_planned t heard time ∙ ap (map act_of) (filter_both (λ (p : Planned). p.time == time) (takes (t.sends ++ t.starts) heard) (plan_of t)
+    acts_at t heard time
+    ≡ map act_of (filter (takes (t.sends ++ t.starts) heard) (filter (λ (p : Planned). p.time == time) plan))
+acts_same t heard time plan same = acts_planned t heard time
+    ∙ ap (map act_of) (filter_both (λ (p : Planned). p.time == time) (takes (t.sends ++ t.starts) heard) (plan_of t)
     ∙ ap (filter (takes (t.sends ++ t.starts) heard)) (sym (same time)))
 
 -- what passes where it stands together
 pub filter_run : {X : Type 0} (test : X → Bool) (xs : List X) (first end : ℕ) → first ≤ end → end ≤ length xs →
-    ((i : ℕ) (d : X) → i < first → test (get_or xs i d) ≡ false) → ((i : ℕ) (d : X) → first ≤ i → i < end → test (get_or xs i d) ≡ true) →
-    ((i : ℕ) (d : X) → end ≤ i → i < length xs → test (get_or xs i d) ≡ false) → filter test xs ≡ take (end - first) (drop first xs)
+    ((i : ℕ) (d : X) → i < first → test (get_or xs i d) ≡ false) →
+    ((i : ℕ) (d : X) → first ≤ i → i < end → test (get_or xs i d) ≡ true) →
+    ((i : ℕ) (d : X) → end ≤ i → i < length xs → test (get_or xs i d) ≡ false) →
+    filter test xs ≡ take (end - first) (drop first xs)
 filter_run {X = X} test [] first end a b before in' after = sym (empty first (end - first))
   where
     empty : (n m : ℕ) → take {A = X} m (drop n []) ≡ []
@@ -102,25 +130,36 @@ filter_run {X = X} test [] first end a b before in' after = sym (empty first (en
     empty zero (suc m) = refl
     empty (suc n) zero = refl
     empty (suc n) (suc m) = refl
-filter_run test (x ∷ xs) zero zero a b before in' after = cond-false _ (x ∷ filter test xs) (filter test xs) (after 0 x (omega arith) (omega arith))
-    ∙ filter_run test xs zero zero a (omega arith) (λ i d h. absurd (omega arith)) (λ i d h k. absurd (omega arith)) (λ i d h k. after (suc i) d (omega arith) (omega arith))
-filter_run test (x ∷ xs) zero (suc end) a b before in' after = cond-true _ (x ∷ filter test xs) (filter test xs) (in' 0 x (omega arith) (omega arith))
-    ∙ ap (λ l. x ∷ l) (filter_run test xs zero end (omega arith) (omega arith) (λ i d h. absurd (omega arith)) (λ i d h k. in' (suc i) d (omega arith) (omega arith))
-    (λ i d h k. after (suc i) d (omega arith) (omega arith)) ∙ ap (λ n. take n xs) (let e : end - 0 ≡ end = omega arith in e))
+filter_run test (x ∷ xs) zero zero a b before in' after =
+    cond-false _ (x ∷ filter test xs) (filter test xs) (after 0 x (omega arith) (omega arith))
+    ∙ filter_run test xs zero zero a (omega arith) (λ i d h. absurd (omega arith)) (λ i d h k. absurd (omega arith))
+    (λ i d h k. after (suc i) d (omega arith) (omega arith))
+filter_run test (x ∷ xs) zero (suc end) a b before in' after =
+    cond-true _ (x ∷ filter test xs) (filter test xs) (in' 0 x (omega arith) (omega arith))
+    ∙ ap (λ l. x ∷ l) (filter_run test xs zero end (omega arith) (omega arith) (λ i d h. absurd (omega arith))
+    (λ i d h k. in' (suc i) d (omega arith) (omega arith))
+    (λ i d h k. after (suc i) d (omega arith) (omega arith))
+    ∙ ap (λ n. take n xs) (let e : end - 0 ≡ end = omega arith in e))
     ∙ ap (λ n. take n (x ∷ xs)) (let e : suc end ≡ suc end - 0 = omega arith in e)
 filter_run test (x ∷ xs) (suc first) zero a b before in' after = absurd (omega arith)
-filter_run test (x ∷ xs) (suc first) (suc end) a b before in' after = cond-false _ (x ∷ filter test xs) (filter test xs) (before 0 x (omega arith))
-    ∙ filter_run test xs first end (omega arith) (omega arith) (λ i d h. before (suc i) d (omega arith)) (λ i d h k. in' (suc i) d (omega arith) (omega arith))
+filter_run test (x ∷ xs) (suc first) (suc end) a b before in' after =
+    cond-false _ (x ∷ filter test xs) (filter test xs) (before 0 x (omega arith))
+    ∙ filter_run test xs first end (omega arith) (omega arith) (λ i d h. before (suc i) d (omega arith))
+    (λ i d h k. in' (suc i) d (omega arith) (omega arith))
     (λ i d h k. after (suc i) d (omega arith) (omega arith))
     ∙ ap (λ n. take n (drop first xs)) (let e : end - first ≡ suc end - suc first = omega arith in e)
 
 -- the step of a loop over entries
-pub acts_next : (test : Planned → Bool) (ps : List Planned) (n : ℕ) (d : Planned) (acts more : List Act) → n < length ps → acts ++ map act_of (filter test (drop n ps)) ≡ map act_of (filter test ps) →
-    more ≡ acts ++ map act_of (filter test (get_or ps n d ∷ [])) → more ++ map act_of (filter test (drop (n + 1) ps)) ≡ map act_of (filter test ps)
+pub acts_next : (test : Planned → Bool) (ps : List Planned) (n : ℕ) (d : Planned) (acts more : List Act) →
+    n < length ps →
+    acts ++ map act_of (filter test (drop n ps)) ≡ map act_of (filter test ps) →
+    more ≡ acts ++ map act_of (filter test (get_or ps n d ∷ [])) →
+    more ++ map act_of (filter test (drop (n + 1) ps)) ≡ map act_of (filter test ps)
 acts_next test ps n d acts more l is m =
     let rest = map act_of (filter test (drop (n + 1) ps)) in
     ap (λ l. l ++ rest) m ∙ append_assoc acts (map act_of (filter test (get_or ps n d ∷ []))) rest
-    ∙ ap (λ l. acts ++ l) (sym (ap (λ l. map act_of (filter test l)) (drop-cons ps n d l ∙ ap (λ m. get_or ps n d ∷ drop m ps) (sym (add-one n))) ∙ acts_more test (get_or ps n d) (drop (n + 1) ps)))
+    ∙ ap (λ l. acts ++ l) (sym (ap (λ l. map act_of (filter test l)) (drop-cons ps n d l
+    ∙ ap (λ m. get_or ps n d ∷ drop m ps) (sym (add-one n))) ∙ acts_more test (get_or ps n d) (drop (n + 1) ps)))
     ∙ is
 
 -- Members.
@@ -128,24 +167,34 @@ acts_next test ps n d acts more l is m =
 -- what is planned in another order is planned
 pub planned_in : (ps qs : List Planned) → SameAtEachTime ps qs → (p : Planned) → Contains ps p → Contains qs p
 planned_in ps qs same p c = (Contains-filter_parts (λ (q : Planned). q.time == p.time) qs p
-    (subst (λ l. Contains l p) (same p.time) (Contains-filter (λ (q : Planned). q.time == p.time) ps p (eq-eqb p.time p.time refl) c))).0
+    (subst (λ l. Contains l p) (same p.time)
+    (Contains-filter (λ (q : Planned). q.time == p.time) ps p (eq-eqb p.time p.time refl) c))).0
 
-pub planned_time : (t : OwnTable) (p : Planned) → Contains (plan_of t) p → Contains (times_in (t.sends ++ t.starts)) p.time
-planned_time t p c = subst (λ l. Contains l p.time) (plan_times 0 (t.sends ++ t.starts)) (Contains-map (λ (p : Planned). p.time) (plan_of t) p c)
+pub planned_time : (t : OwnTable) (p : Planned) → Contains (plan_of t) p →
+    Contains (times_in (t.sends ++ t.starts)) p.time
+planned_time t p c = subst (λ l. Contains l p.time) (plan_times 0 (t.sends ++ t.starts))
+    (Contains-map (λ (p : Planned). p.time) (plan_of t) p c)
 
 -- a stable sort by time keeps the order of each time
 
 tie_is : (a b : ℕ) → (not (is_lt (nat_cmp a b)) && not (is_lt (nat_cmp b a))) ≡ (b == a)
 tie_is a b = grind (arith, nat_tests)
 
-pub same_from_stable : (xs ys : List Planned) → IsStableByKey (λ (p : Planned). p.time) nat_cmp xs ys → SameAtEachTime ys xs
+pub same_from_stable : (xs ys : List Planned) → IsStableByKey (λ (p : Planned). p.time) nat_cmp xs ys →
+    SameAtEachTime ys xs
 same_from_stable xs ys stable time =
     let x : Planned = record { time = time; row = 0; item = 0; column = 0 } in
-    same_filter (λ (p : Planned). p.time == time) (λ p. not (is_lt (nat_cmp time p.time)) && not (is_lt (nat_cmp p.time time))) ys (λ p c. sym (tie_is time p.time))
-    ∙ stable x ∙ same_filter (λ p. not (is_lt (nat_cmp time p.time)) && not (is_lt (nat_cmp p.time time))) (λ (p : Planned). p.time == time) xs (λ p c. tie_is time p.time)
+    same_filter (λ (p : Planned). p.time == time)
+    (λ p. not (is_lt (nat_cmp time p.time)) && not (is_lt (nat_cmp p.time time))) ys
+    (λ p c. sym (tie_is time p.time))
+    ∙ stable x ∙ same_filter (λ p. not (is_lt (nat_cmp time p.time)) && not (is_lt (nat_cmp p.time time)))
+    (λ (p : Planned). p.time == time) xs (λ p c. tie_is time p.time)
 
-pub planned_is : (t : OwnTable) (new one two : List Planned) (sends starts : List Row) (n : ℕ) → new ≡ [] → sends ≡ t.sends → starts ≡ t.starts → n ≡ length t.sends →
+pub planned_is : (t : OwnTable) (new one two : List Planned) (sends starts : List Row) (n : ℕ) → new ≡ [] →
+    sends ≡ t.sends → starts ≡ t.starts →
+    n ≡ length t.sends →
     one ≡ new ++ plan_from 0 sends → two ≡ one ++ plan_from n starts → two ≡ plan_of t
-planned_is t new one two sends starts n a b c d e f = f ∙ ap₂ ◌++◌ (e ∙ ap (λ l. l ++ plan_from 0 sends) a ∙ ap (plan_from 0) b)
+planned_is t new one two sends starts n a b c d e f =
+    f ∙ ap₂ ◌++◌ (e ∙ ap (λ l. l ++ plan_from 0 sends) a ∙ ap (plan_from 0) b)
     (ap₂ plan_from (d ∙ (let z : length t.sends ≡ 0 + length t.sends = omega arith in z)) c)
     ∙ sym (plan_from-append 0 t.sends t.starts)

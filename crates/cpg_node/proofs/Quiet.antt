@@ -1,24 +1,30 @@
 -- Turns at which nothing ends, arrives or is due.
-use Rattle.std.proofs.Common.{◌≡◌, ℕ, ◌+◌, ◌≤◌, Bool, true, false, cond, ◌&&◌, ◌==◌, List, [], ◌∷◌, ◌++◌, map, fold, length, get_or, Contains, Option, Some, None, refl, sym, ap, ap₂, ◌∙◌, subst}
+use Rattle.std.proofs.Common.{◌≡◌, ℕ, ◌+◌, ◌≤◌, Bool, true, false, cond, ◌&&◌, ◌==◌, List, [], ◌∷◌, ◌++◌, map, fold}
+use Rattle.std.proofs.Common.{length, get_or, Contains, Option, Some, None, refl, sym, ap, ap₂, ◌∙◌, subst}
 use Rattle.std.proofs.Common.{arith, inl, inr, ne_eqb}
 use Rattle.std.specs.Prelude.{All, IfSome}
 use Rattle.std.specs.List.{flat_map, list_all}
-use Rattle.std.proofs.lemmas.List.Elements.{All-cons, All-append, All-head, All-tail, All-nil, Contains-append_left, Contains-append_right, Contains-append_cases, Contains-get_or}
-use Rattle.cpg_base.proofs.Lists.{Contains-first, Contains-rest, Contains-cases, Contains-nil, Contains-map, Contains-flat_map}
+use Rattle.std.proofs.lemmas.List.Elements.{All-cons, All-append, All-head, All-tail, All-nil, Contains-append_left}
+use Rattle.std.proofs.lemmas.List.Elements.{Contains-append_right, Contains-append_cases, Contains-get_or}
+use Rattle.cpg_base.proofs.Lists.{Contains-first, Contains-rest, Contains-cases, Contains-nil, Contains-map}
+use Rattle.cpg_base.proofs.Lists.{Contains-flat_map}
 use Rattle.cpg_cube.specs.Column.{Column}
 use Rattle.cpg_head.specs.declared.head_parts.HeadProcess.{HeadProcess}
 use Rattle.cpg_head.specs.Head.{IsHeadProcess}
 use Rattle.cpg_table.specs.Items.{own_front, own_from}
 use Rattle.cpg_table.specs.Table.{Row, NodeTable}
 use Rattle.cpg_table.specs.Lawful.{IsTable}
-use Rattle.cpg_node.specs.Dispatcher.{Own, Range, Running, Ended, times_in, zip_with, possible_ends, due_report, due_reports, due_reports_of, hear_end, has_heard, acts_of_columns, acts_at}
+use Rattle.cpg_node.specs.Dispatcher.{Own, Range, Running, Ended, times_in, zip_with, possible_ends, due_report}
+use Rattle.cpg_node.specs.Dispatcher.{due_reports, due_reports_of, hear_end, has_heard, acts_of_columns, acts_at}
 use Rattle.cpg_node.specs.Dispatcher.{heard_after, acts_of_turn, running_after}
 use Rattle.cpg_node.specs.Plan.{fixed_times}
-use Rattle.cpg_node.specs.Quiet.{QuietTurnsChangeNothing, awaited_faults, awaited_end, TurnsLeftOutAreQuiet, TellsFew, AwaitedAreCandidates}
+use Rattle.cpg_node.specs.Quiet.{QuietTurnsChangeNothing, awaited_faults, awaited_end, TurnsLeftOutAreQuiet, TellsFew}
+use Rattle.cpg_node.specs.Quiet.{AwaitedAreCandidates}
 
 -- A quiet turn.
 
-same_runs : (time : ℕ) (os : List Own) (runs : List (Option Running)) → length runs ≡ length os → zip_with (running_after [] [] time) os runs ≡ runs
+same_runs : (time : ℕ) (os : List Own) (runs : List (Option Running)) → length runs ≡ length os →
+    zip_with (running_after [] [] time) os runs ≡ runs
 same_runs time [] [] e = refl
 same_runs time [] (run ∷ runs) e = absurd (omega arith)
 same_runs time (o ∷ os) [] e = absurd (omega arith)
@@ -28,28 +34,41 @@ pub quiet_turns : QuietTurnsChangeNothing
 quiet_turns d time count q =
     let heard : heard_after d time [] [] ≡ d.heard = ap (fold (hear_end d.table) d.heard) q.ends in
     let acts : acts_of_turn d time [] [] ≡ [] = ap (λ h. acts_at d.table h time) heard ∙ q.acts in
-    let runs : zip_with (running_after (due_reports d time) (acts_of_turn d time [] []) time) d.table.own d.running ≡ d.running =
-    ap₂ (λ es acts. zip_with (running_after es acts time) d.table.own d.running) q.ends acts ∙ same_runs time d.table.own d.running count in
+    let runs : zip_with (running_after (due_reports d time) (acts_of_turn d time [] []) time) d.table.own d.running
+    ≡ d.running =
+    ap₂ (λ es acts. zip_with (running_after es acts time) d.table.own d.running) q.ends acts
+    ∙ same_runs time d.table.own d.running count in
     (λ i. record { table = d.table; heard = heard i; running = runs i; last = Some time }, acts)
 
 -- An instant that is no column's and not awaited.
 
-no_acts_of : (heard : List Range) (time x i : ℕ) (cs : List Column) → (Contains (map (λ (c : Column). c.time) cs) time → ⊥) → acts_of_columns heard time x i cs ≡ []
+no_acts_of : (heard : List Range) (time x i : ℕ) (cs : List Column) →
+    (Contains (map (λ (c : Column). c.time) cs) time → ⊥) →
+    acts_of_columns heard time x i cs ≡ []
 no_acts_of heard time x i [] n = refl
 no_acts_of heard time x i (c ∷ cs) n =
-    ap (λ b. cond (b && list_all (has_heard heard) c.cube) (record { time = time; item = x; column = i } ∷ []) [] ++ acts_of_columns heard time x (i + 1) cs)
-    (ne_eqb c.time time (λ e. n (subst (Contains (c.time ∷ map (λ (c : Column). c.time) cs)) e (Contains-first c.time (map (λ (c : Column). c.time) cs)))))
+    ap (λ b. cond (b && list_all (has_heard heard) c.cube) (record { time = time; item = x; column = i } ∷ []) []
+    ++ acts_of_columns heard time x (i + 1) cs)
+    (ne_eqb c.time time (λ e. n (subst (Contains (c.time ∷ map (λ (c : Column). c.time) cs)) e
+    (Contains-first c.time (map (λ (c : Column). c.time) cs)))))
     ∙ no_acts_of heard time x (i + 1) cs (λ m. n (Contains-rest c.time (map (λ (c : Column). c.time) cs) time m))
 
-no_acts_in : (heard : List Range) (time : ℕ) (rows : List Row) → ((row : Row) → Contains rows row → Contains (map (λ (c : Column). c.time) row.columns) time → ⊥) →
+no_acts_in : (heard : List Range) (time : ℕ) (rows : List Row) →
+    ((row : Row) → Contains rows row → Contains (map (λ (c : Column). c.time) row.columns) time → ⊥) →
     flat_map (λ (row : Row). acts_of_columns heard time row.item 0 row.columns) rows ≡ []
 no_acts_in heard time [] n = refl
-no_acts_in heard time (row ∷ rows) n = ap₂ ◌++◌ (no_acts_of heard time row.item 0 row.columns (n row (Contains-first row rows))) (no_acts_in heard time rows (λ r m. n r (Contains-rest row rows r m)))
+no_acts_in heard time (row ∷ rows) n =
+    ap₂ ◌++◌ (no_acts_of heard time row.item 0 row.columns (n row (Contains-first row rows)))
+    (no_acts_in heard time rows (λ r m. n r (Contains-rest row rows r m)))
 
-in_rows : (rows : List Row) (row : Row) (time : ℕ) → Contains rows row → Contains (map (λ (c : Column). c.time) row.columns) time → Contains (times_in rows) time
-in_rows rows row time m c = Contains-flat_map (λ (row : Row). map (λ (c : Column). c.time) row.columns) rows row time m c
+in_rows : (rows : List Row) (row : Row) (time : ℕ) → Contains rows row →
+    Contains (map (λ (c : Column). c.time) row.columns) time →
+    Contains (times_in rows) time
+in_rows rows row time m c =
+    Contains-flat_map (λ (row : Row). map (λ (c : Column). c.time) row.columns) rows row time m c
 
-no_reports : (k time : ℕ) (os : List Own) (runs : List (Option Running)) → (Contains (flat_map (λ ends. ends) (zip_with (awaited_end k) os runs)) time → ⊥) →
+no_reports : (k time : ℕ) (os : List Own) (runs : List (Option Running)) →
+    (Contains (flat_map (λ ends. ends) (zip_with (awaited_end k) os runs)) time → ⊥) →
     flat_map (λ es. es) (zip_with (due_reports_of time) os runs) ≡ []
 no_reports k time [] runs n = refl
 no_reports k time (o ∷ os) [] n = refl
@@ -65,18 +84,25 @@ no_reports k time (o ∷ os) (Some run ∷ runs) n = go run.report n (no_reports
     go None n ih = ih (λ m. n (Contains-rest _ rest time m))
     go (Some e) n ih = ap (λ b. cond b (e ∷ []) [] ++ flat_map (λ es. es) (zip_with (due_reports_of time) os runs))
         (ne_eqb (run.start + get_or o.times e.faults 0) time
-        (λ s. n (subst (Contains ((run.start + get_or o.times e.faults 0) ∷ rest)) s (Contains-first (run.start + get_or o.times e.faults 0) rest))))
+        (λ s. n (subst (Contains ((run.start + get_or o.times e.faults 0) ∷ rest)) s
+        (Contains-first (run.start + get_or o.times e.faults 0) rest))))
         ∙ ih (λ m. n (Contains-rest _ rest time m))
 
 pub turns_left_out : TurnsLeftOutAreQuiet
 turns_left_out d time n heard = record {
-  ends = no_reports d.table.faults time d.table.own d.running (λ m. n (Contains-append_right (fixed_times d.table) ends time m));
-  acts = no_acts_in heard time (d.table.sends ++ d.table.starts) (λ row m c. elim (Contains-append_cases d.table.sends d.table.starts row m) [
-    | inl s ↦ n (Contains-append_left (fixed_times d.table) ends time (Contains-append_left (times_in d.table.starts ++ times_in d.table.sends) (times_in d.table.hears) time
-        (Contains-append_right (times_in d.table.starts) (times_in d.table.sends) time (in_rows d.table.sends row time s c))))
-    | inr s ↦ n (Contains-append_left (fixed_times d.table) ends time (Contains-append_left (times_in d.table.starts ++ times_in d.table.sends) (times_in d.table.hears) time
-        (Contains-append_left (times_in d.table.starts) (times_in d.table.sends) time (in_rows d.table.starts row time s c))))
-  ]);
+  ends = no_reports d.table.faults time d.table.own d.running
+      (λ m. n (Contains-append_right (fixed_times d.table) ends time m));
+  acts = no_acts_in heard time (d.table.sends ++ d.table.starts)
+      (λ row m c. elim (Contains-append_cases d.table.sends d.table.starts row m) [
+        | inl s ↦ n (Contains-append_left (fixed_times d.table) ends time
+            (Contains-append_left (times_in d.table.starts ++ times_in d.table.sends) (times_in d.table.hears) time
+            (Contains-append_right (times_in d.table.starts) (times_in d.table.sends) time
+            (in_rows d.table.sends row time s c))))
+        | inr s ↦ n (Contains-append_left (fixed_times d.table) ends time
+            (Contains-append_left (times_in d.table.starts ++ times_in d.table.sends) (times_in d.table.hears) time
+            (Contains-append_left (times_in d.table.starts) (times_in d.table.sends) time
+            (in_rows d.table.starts row time s c))))
+      ]);
 }
   where
     ends : List ℕ
@@ -88,37 +114,51 @@ turns_left_out d time n heard = record {
 abbrev HasAll : ℕ → Own → Type 0
 HasAll k o = length o.times ≡ k + 1
 
-own_all : (k n node p c : ℕ) (qs : List HeadProcess) → All (IsHeadProcess k n) qs → All (HasAll k) (own_from node p c qs)
+own_all : (k n node p c : ℕ) (qs : List HeadProcess) → All (IsHeadProcess k n) qs →
+    All (HasAll k) (own_from node p c qs)
 own_all k n node p c [] h = All-nil (HasAll k)
-own_all k n node p c (q ∷ qs) h = All-append (HasAll k) (own_front node p c q) (own_from node (p + 1) (cond q.condition (c + 1) c) qs)
-    (front (q.node == node)) (own_all k n node (p + 1) (cond q.condition (c + 1) c) qs (All-tail (IsHeadProcess k n) q qs h))
+own_all k n node p c (q ∷ qs) h =
+    All-append (HasAll k) (own_front node p c q) (own_from node (p + 1) (cond q.condition (c + 1) c) qs)
+    (front (q.node == node))
+    (own_all k n node (p + 1) (cond q.condition (c + 1) c) qs (All-tail (IsHeadProcess k n) q qs h))
   where
-    front : (b : Bool) → All (HasAll k) (cond b (record { process = p; condition = cond q.condition (Some c) None; times = q.times } ∷ []) [])
-    front true = All-cons (HasAll k) (record { process = p; condition = cond q.condition (Some c) None; times = q.times }) [] ((All-head (IsHeadProcess k n) q qs h).count) (All-nil (HasAll k))
+    front : (b : Bool) →
+        All (HasAll k)
+        (cond b (record { process = p; condition = cond q.condition (Some c) None; times = q.times } ∷ []) [])
+    front true =
+        All-cons (HasAll k) (record { process = p; condition = cond q.condition (Some c) None; times = q.times }) []
+        ((All-head (IsHeadProcess k n) q qs h).count) (All-nil (HasAll k))
     front false = All-nil (HasAll k)
 
 own_has : (t : NodeTable) → IsTable t → All (HasAll t.faults) t.own
 own_has t h = subst (λ k. All (HasAll k) t.own) (sym h.of.faults)
-    (subst (All (HasAll h.head.faults)) (sym h.of.own) (own_all h.head.faults (length h.head.nodes) h.node 0 0 h.head.processes h.lawful.processes))
+    (subst (All (HasAll h.head.faults)) (sym h.of.own)
+    (own_all h.head.faults (length h.head.nodes) h.node 0 0 h.head.processes h.lawful.processes))
 
 few_faults : (k : ℕ) (r : Option Ended) → IfSome r (λ (e : Ended). e.faults ≤ k) → awaited_faults k r ≤ k
 few_faults k None h = omega arith
 few_faults k (Some e) h = h
 
-possible : (k : ℕ) (os : List Own) (runs : List (Option Running)) → All (HasAll k) os → All (TellsFew k) runs → (time : ℕ) →
-    Contains (flat_map (λ ends. ends) (zip_with (awaited_end k) os runs)) time → Contains (flat_map (λ ends. ends) (zip_with possible_ends os runs)) time
+possible : (k : ℕ) (os : List Own) (runs : List (Option Running)) → All (HasAll k) os → All (TellsFew k) runs →
+    (time : ℕ) →
+    Contains (flat_map (λ ends. ends) (zip_with (awaited_end k) os runs)) time →
+    Contains (flat_map (λ ends. ends) (zip_with possible_ends os runs)) time
 possible k [] runs a f time m = absurd (Contains-nil time m)
 possible k (o ∷ os) [] a f time m = absurd (Contains-nil time m)
-possible k (o ∷ os) (None ∷ runs) a f time m = possible k os runs (All-tail (HasAll k) o os a) (All-tail (TellsFew k) None runs f) time m
+possible k (o ∷ os) (None ∷ runs) a f time m =
+    possible k os runs (All-tail (HasAll k) o os a) (All-tail (TellsFew k) None runs f) time m
 possible k (o ∷ os) (Some run ∷ runs) a f time m =
     let n = awaited_faults k run.report in
     let few : n ≤ k = few_faults k run.report (All-head (TellsFew k) (Some run) runs f) in
     let all : length o.times ≡ k + 1 = All-head (HasAll k) o os a in
     let mine : List ℕ = map (λ d. run.start + d) o.times in
     let rest : List ℕ = flat_map (λ ends. ends) (zip_with possible_ends os runs) in
-    elim (Contains-cases (run.start + get_or o.times n 0) (flat_map (λ ends. ends) (zip_with (awaited_end k) os runs)) time m) [
-      | inl e ↦ Contains-append_left mine rest time (subst (Contains mine) e (Contains-map (λ d. run.start + d) o.times (get_or o.times n 0) (Contains-get_or o.times n 0 (omega (arith, few, all)))))
-      | inr r ↦ Contains-append_right mine rest time (possible k os runs (All-tail (HasAll k) o os a) (All-tail (TellsFew k) (Some run) runs f) time r)
+    elim (Contains-cases (run.start + get_or o.times n 0)
+    (flat_map (λ ends. ends) (zip_with (awaited_end k) os runs)) time m) [
+      | inl e ↦ Contains-append_left mine rest time (subst (Contains mine) e (Contains-map (λ d. run.start + d) o.times
+          (get_or o.times n 0) (Contains-get_or o.times n 0 (omega (arith, few, all)))))
+      | inr r ↦ Contains-append_right mine rest time
+          (possible k os runs (All-tail (HasAll k) o os a) (All-tail (TellsFew k) (Some run) runs f) time r)
     ]
 
 pub awaited_candidates : AwaitedAreCandidates
@@ -127,5 +167,6 @@ awaited_candidates d made few time m =
     let all : List ℕ = flat_map (λ ends. ends) (zip_with possible_ends d.table.own d.running) in
     elim (Contains-append_cases (fixed_times d.table) ends time m) [
       | inl f ↦ Contains-append_left (fixed_times d.table) all time f
-      | inr e ↦ Contains-append_right (fixed_times d.table) all time (possible d.table.faults d.table.own d.running (own_has d.table made) few time e)
+      | inr e ↦ Contains-append_right (fixed_times d.table) all time
+          (possible d.table.faults d.table.own d.running (own_has d.table made) few time e)
     ]

@@ -1,5 +1,6 @@
 -- How many acts a node may still do: each entry of its table is taken at most once.
-use Rattle.std.proofs.Common.{◌≡◌, ℕ, ◌+◌, ◌≤◌, Bool, true, false, cond, ◌&&◌, ◌==◌, List, [], ◌∷◌, ◌++◌, length, map, filter, Option, Some, None, refl, sym, ap, ap₂, ◌∙◌, arith, true≢false, ltb}
+use Rattle.std.proofs.Common.{◌≡◌, ℕ, ◌+◌, ◌≤◌, Bool, true, false, cond, ◌&&◌, ◌==◌, List, [], ◌∷◌, ◌++◌, length, map}
+use Rattle.std.proofs.Common.{filter, Option, Some, None, refl, sym, ap, ap₂, ◌∙◌, arith, true≢false, ltb}
 use Rattle.std.proofs.Common.{lt-ltb, ltb-true, eqb-true}
 use Rattle.std.specs.List.{flat_map, list_all}
 use Rattle.std.proofs.lemmas.List.{length-map, length-append}
@@ -8,7 +9,8 @@ use Rattle.std.proofs.lemmas.List.Sums.{sum_by-append, sum_by-cons}
 use Rattle.cpg_table.specs.Lawful.{column_count}
 use Rattle.cpg_table.specs.Table.{Row}
 use Rattle.cpg_cube.specs.Column.{Column}
-use Rattle.cpg_node.specs.Dispatcher.{Dispatcher, Range, Frame, Act, is_after, next, has_heard, acts_of_columns, acts_of_turn, heard_after, turn, times_in}
+use Rattle.cpg_node.specs.Dispatcher.{Dispatcher, Range, Frame, Act, is_after, next, has_heard, acts_of_columns}
+use Rattle.cpg_node.specs.Dispatcher.{acts_of_turn, heard_after, turn, times_in}
 use Rattle.cpg_node.proofs.Next.{next_is}
 use Rattle.cpg_node.specs.Instants.{entries_left}
 
@@ -18,18 +20,24 @@ now time ts = filter (λ t. t == time) ts
 
 -- A turn does no more acts than there are entries of its time.
 
-columns_few : (heard : List Range) (time x i : ℕ) (cs : List Column) → length (acts_of_columns heard time x i cs) ≤ length (now time (map (λ (c : Column). c.time) cs))
+columns_few : (heard : List Range) (time x i : ℕ) (cs : List Column) →
+    length (acts_of_columns heard time x i cs) ≤ length (now time (map (λ (c : Column). c.time) cs))
 columns_few heard time x i [] = omega arith
-columns_few heard time x i (c ∷ cs) = go (c.time == time) (list_all (has_heard heard) c.cube) (columns_few heard time x (i + 1) cs)
+columns_few heard time x i (c ∷ cs) =
+    go (c.time == time) (list_all (has_heard heard) c.cube) (columns_few heard time x (i + 1) cs)
   where
-    go : (a b : Bool) → length (acts_of_columns heard time x (i + 1) cs) ≤ length (now time (map (λ (c : Column). c.time) cs)) →
-        length (cond (a && b) (record { time = time; item = x; column = i } ∷ []) [] ++ acts_of_columns heard time x (i + 1) cs) ≤ length
+    go : (a b : Bool) →
+        length (acts_of_columns heard time x (i + 1) cs) ≤ length (now time (map (λ (c : Column). c.time) cs)) →
+        length (cond (a && b) (record { time = time; item = x; column = i } ∷ []) []
+        ++ acts_of_columns heard time x (i + 1) cs) ≤ length
         (cond a (c.time ∷ now time (map (λ (c : Column). c.time) cs)) (now time (map (λ (c : Column). c.time) cs)))
     go true true l = omega (arith, l)
     go true false l = omega (arith, l)
     go false b l = l
 
-rows_few : (heard : List Range) (time : ℕ) (rows : List Row) → length (flat_map (λ (row : Row). acts_of_columns heard time row.item 0 row.columns) rows) ≤ length (now time (times_in rows))
+rows_few : (heard : List Range) (time : ℕ) (rows : List Row) →
+    length (flat_map (λ (row : Row). acts_of_columns heard time row.item 0 row.columns) rows)
+    ≤ length (now time (times_in rows))
 rows_few heard time [] = omega arith
 rows_few heard time (row ∷ rows) =
     let acts : List Act = acts_of_columns heard time row.item 0 row.columns in
@@ -49,7 +57,8 @@ after_later None time x a h = refl
 after_later (Some l) time x a h = lt-ltb l x (omega (arith, ltb-true l time a, h))
 
 -- the entries of a turn's time aren't left after it
-left_then : (last : Option ℕ) (time : ℕ) → is_after last time ≡ true → (ts : List ℕ) → length (now time ts) + length (filter (is_after (Some time)) ts) ≤ length (filter (is_after last) ts)
+left_then : (last : Option ℕ) (time : ℕ) → is_after last time ≡ true → (ts : List ℕ) →
+    length (now time ts) + length (filter (is_after (Some time)) ts) ≤ length (filter (is_after last) ts)
 left_then last time a [] = omega arith
 left_then last time a (t ∷ ts) = go (t == time) (ltb time t) (is_after last t)
     (λ e f. omega (arith, eqb-true t time e, ltb-true time t f))
@@ -59,7 +68,8 @@ left_then last time a (t ∷ ts) = go (t == time) (ltb time t) (is_after last t)
   where
     go : (e f b : Bool) → (e ≡ true → f ≡ true → ⊥) → (e ≡ true → b ≡ true) → (f ≡ true → b ≡ true) →
         length (now time ts) + length (filter (is_after (Some time)) ts) ≤ length (filter (is_after last) ts) →
-        length (cond e (t ∷ now time ts) (now time ts)) + length (cond f (t ∷ filter (is_after (Some time)) ts) (filter (is_after (Some time)) ts)) ≤ length
+        length (cond e (t ∷ now time ts) (now time ts))
+        + length (cond f (t ∷ filter (is_after (Some time)) ts) (filter (is_after (Some time)) ts)) ≤ length
         (cond b (t ∷ filter (is_after last) ts) (filter (is_after last) ts))
     go true true b apart x y h = absurd (apart refl refl)
     go true false true apart x y h = omega (arith, h)
@@ -70,7 +80,8 @@ left_then last time a (t ∷ ts) = go (t == time) (ltb time t) (is_after last t)
     go false false false apart x y h = h
 
 -- the acts of a turn and the entries that are left after it
-pub room_turn : (d : Dispatcher) (time : ℕ) (frames : List Frame) → next d ≡ Some time → length (acts_of_turn d time [] frames) + length (entries_left (turn d time [] frames)) ≤ length
+pub room_turn : (d : Dispatcher) (time : ℕ) (frames : List Frame) → next d ≡ Some time →
+    length (acts_of_turn d time [] frames) + length (entries_left (turn d time [] frames)) ≤ length
     (entries_left d)
 room_turn d time frames e = omega (
   arith,
@@ -83,14 +94,16 @@ pub all_left : (p : ℕ → Bool) (xs : List ℕ) → length (filter p xs) ≤ l
 all_left p [] = omega arith
 all_left p (x ∷ xs) = go (p x) (all_left p xs)
   where
-    go : (b : Bool) → length (filter p xs) ≤ length xs → length (cond b (x ∷ filter p xs) (filter p xs)) ≤ length (x ∷ xs)
+    go : (b : Bool) → length (filter p xs) ≤ length xs →
+        length (cond b (x ∷ filter p xs) (filter p xs)) ≤ length (x ∷ xs)
     go true l = omega arith
     go false l = omega arith
 
 pub times_count : (rows : List Row) → length (times_in rows) ≡ column_count rows
 times_count [] = refl
 times_count (row ∷ rows) = length-append (map (λ (c : Column). c.time) row.columns) (times_in rows)
-    ∙ ap₂ (λ m n. m + n) (length-map row.columns (λ (c : Column). c.time)) (times_count rows) ∙ sym (sum_by-cons (λ (row : Row). length row.columns) row rows)
+    ∙ ap₂ (λ m n. m + n) (length-map row.columns (λ (c : Column). c.time)) (times_count rows)
+    ∙ sym (sum_by-cons (λ (row : Row). length row.columns) row rows)
 
 -- At first there are no more than columns of what the node sends and starts.
 

@@ -1,7 +1,10 @@
 -- What a lawful table says of its times.
-use Rattle.std.proofs.Common.{◌≡◌, ℕ, ◌<◌, ◌≤◌, ◌+◌, ◌^◌, Bool, true, false, cond, ◌==◌, List, [], ◌∷◌, ◌++◌, length, map, Contains, Some, None, refl, sym, ap, ◌∙◌, subst, arith, inl, inr}
+use Rattle.std.proofs.Common.{◌≡◌, ℕ, ◌<◌, ◌≤◌, ◌+◌, ◌^◌, Bool, true, false, cond, ◌==◌, List, [], ◌∷◌, ◌++◌, length}
+use Rattle.std.proofs.Common.{map, Contains, Some, None, refl, sym, ap, ◌∙◌, subst, arith, inl, inr}
 use Rattle.std.specs.Prelude.{All}
-use Rattle.std.proofs.lemmas.List.Elements.{All-cons, All-append, All-head, All-tail, All-nil, All-contains, All-contains_itself, All-weaker, Contains-append_left, Contains-append_right}
+use Rattle.std.proofs.lemmas.List.Elements.{All-cons, All-append, All-head, All-tail, All-nil, All-contains}
+use Rattle.std.proofs.lemmas.List.Elements.{All-contains_itself, All-weaker, Contains-append_left}
+use Rattle.std.proofs.lemmas.List.Elements.{Contains-append_right}
 use Rattle.std.proofs.lemmas.List.Elements.{Contains-append_cases}
 use Rattle.cpg_base.specs.declared.limits.TheConstants.{MOST_COLUMNS}
 use Rattle.cpg_base.proofs.Lists.{Contains-cases, Contains-nil, Contains-flat_map_parts, Contains-map_parts}
@@ -20,45 +23,63 @@ use Rattle.cpg_node.proofs.Planning.{planned_in, planned_time}
 abbrev pub AreShort : Own → Type 0
 AreShort o = All (λ d. d < 2 ^ 60) o.times
 
-own_short : (k n node p c : ℕ) (qs : List HeadProcess) → All (IsHeadProcess k n) qs → All AreShort (own_from node p c qs)
+own_short : (k n node p c : ℕ) (qs : List HeadProcess) → All (IsHeadProcess k n) qs →
+    All AreShort (own_from node p c qs)
 own_short k n node p c [] h = All-nil AreShort
-own_short k n node p c (q ∷ qs) h = All-append AreShort (own_front node p c q) (own_from node (p + 1) (cond q.condition (c + 1) c) qs)
-    (front (q.node == node)) (own_short k n node (p + 1) (cond q.condition (c + 1) c) qs (All-tail (IsHeadProcess k n) q qs h))
+own_short k n node p c (q ∷ qs) h =
+    All-append AreShort (own_front node p c q) (own_from node (p + 1) (cond q.condition (c + 1) c) qs)
+    (front (q.node == node))
+    (own_short k n node (p + 1) (cond q.condition (c + 1) c) qs (All-tail (IsHeadProcess k n) q qs h))
   where
-    front : (b : Bool) → All AreShort (cond b (record { process = p; condition = cond q.condition (Some c) None; times = q.times } ∷ []) [])
-    front true = All-cons AreShort (record { process = p; condition = cond q.condition (Some c) None; times = q.times }) [] ((All-head (IsHeadProcess k n) q qs h).times) (All-nil AreShort)
+    front : (b : Bool) →
+        All AreShort
+        (cond b (record { process = p; condition = cond q.condition (Some c) None; times = q.times } ∷ []) [])
+    front true = All-cons AreShort (record { process = p; condition = cond q.condition (Some c) None; times = q.times })
+        [] ((All-head (IsHeadProcess k n) q qs h).times) (All-nil AreShort)
     front false = All-nil AreShort
 
 -- an execution takes less than 2 to the 60
 pub times_short : (t : NodeTable) → IsTable t → All AreShort t.own
-times_short t h = subst (All AreShort) (sym h.of.own) (own_short h.head.faults (length h.head.nodes) h.node 0 0 h.head.processes h.lawful.processes)
+times_short t h = subst (All AreShort) (sym h.of.own)
+    (own_short h.head.faults (length h.head.nodes) h.node 0 0 h.head.processes h.lawful.processes)
 
 -- a node's processes, by number
 abbrev pub DoRise : List Own → Type 0
 DoRise os = Rises (λ (a b : Own). a.process < b.process) os
 
 own_number : (p : ℕ) (x o : Own) (b : Bool) → x.process ≡ p → Contains (cond b (x ∷ []) []) o → o.process ≡ p
-own_number p x o true is m = elim (Contains-cases x [] o m) [ inl e ↦ ap (λ (o : Own). o.process) (sym e) ∙ is | inr n ↦ absurd (Contains-nil o n) ]
+own_number p x o true is m = elim (Contains-cases x [] o m) [
+  | inl e ↦ ap (λ (o : Own). o.process) (sym e) ∙ is
+  | inr n ↦ absurd (Contains-nil o n)
+]
 own_number p x o false is m = absurd (Contains-nil o m)
 
 own_above : (node p c : ℕ) (qs : List HeadProcess) (o : Own) → Contains (own_from node p c qs) o → p ≤ o.process
 own_above node p c [] o m = absurd (Contains-nil o m)
-own_above node p c (q ∷ qs) o m = elim (Contains-append_cases (own_front node p c q) (own_from node (p + 1) (cond q.condition (c + 1) c) qs) o m) [
-  | inl n ↦ omega (arith, own_number p (record { process = p; condition = cond q.condition (Some c) None; times = q.times }) o (q.node == node) refl n)
-  | inr n ↦ omega (arith, own_above node (p + 1) (cond q.condition (c + 1) c) qs o n)
-]
+own_above node p c (q ∷ qs) o m =
+    elim (Contains-append_cases (own_front node p c q) (own_from node (p + 1) (cond q.condition (c + 1) c) qs) o m) [
+      | inl n ↦ omega (
+        arith,
+        own_number p (record { process = p; condition = cond q.condition (Some c) None; times = q.times }) o
+            (q.node == node) refl n,
+      )
+      | inr n ↦ omega (arith, own_above node (p + 1) (cond q.condition (c + 1) c) qs o n)
+    ]
 
 own_rises : (node p c : ℕ) (qs : List HeadProcess) → DoRise (own_from node p c qs)
 own_rises node p c [] = tt
-own_rises node p c (q ∷ qs) = Rises-append (λ (a b : Own). a.process < b.process) (own_front node p c q) (own_from node (p + 1) (cond q.condition (c + 1) c) qs)
+own_rises node p c (q ∷ qs) = Rises-append (λ (a b : Own). a.process < b.process) (own_front node p c q)
+    (own_from node (p + 1) (cond q.condition (c + 1) c) qs)
     (front (q.node == node)) (own_rises node (p + 1) (cond q.condition (c + 1) c) qs)
     (λ a b m n. omega (
       arith,
-      own_number p (record { process = p; condition = cond q.condition (Some c) None; times = q.times }) a (q.node == node) refl m,
+      own_number p (record { process = p; condition = cond q.condition (Some c) None; times = q.times }) a
+          (q.node == node) refl m,
       own_above node (p + 1) (cond q.condition (c + 1) c) qs b n,
     ))
   where
-    front : (b : Bool) → DoRise (cond b (record { process = p; condition = cond q.condition (Some c) None; times = q.times } ∷ []) [])
+    front : (b : Bool) →
+        DoRise (cond b (record { process = p; condition = cond q.condition (Some c) None; times = q.times } ∷ []) [])
     front true = (λ o m. absurd (Contains-nil o m), tt)
     front false = tt
 
@@ -69,23 +90,33 @@ own_rise t h = subst DoRise (sym h.of.own) (own_rises h.node 0 0 h.head.processe
 abbrev pub HaveFewEnds : List Own → Type 0
 HaveFewEnds os = All (λ (o : Own). length o.times ≤ 9) os
 
-own_ends : (k n node p c : ℕ) (qs : List HeadProcess) → k ≤ 8 → All (IsHeadProcess k n) qs → HaveFewEnds (own_from node p c qs)
+own_ends : (k n node p c : ℕ) (qs : List HeadProcess) → k ≤ 8 → All (IsHeadProcess k n) qs →
+    HaveFewEnds (own_from node p c qs)
 own_ends k n node p c [] few h = All-nil (λ (o : Own). length o.times ≤ 9)
-own_ends k n node p c (q ∷ qs) few h = All-append (λ (o : Own). length o.times ≤ 9) (own_front node p c q) (own_from node (p + 1) (cond q.condition (c + 1) c) qs)
-    (front (q.node == node)) (own_ends k n node (p + 1) (cond q.condition (c + 1) c) qs few (All-tail (IsHeadProcess k n) q qs h))
+own_ends k n node p c (q ∷ qs) few h = All-append (λ (o : Own). length o.times ≤ 9) (own_front node p c q)
+    (own_from node (p + 1) (cond q.condition (c + 1) c) qs)
+    (front (q.node == node))
+    (own_ends k n node (p + 1) (cond q.condition (c + 1) c) qs few (All-tail (IsHeadProcess k n) q qs h))
   where
-    front : (b : Bool) → HaveFewEnds (cond b (record { process = p; condition = cond q.condition (Some c) None; times = q.times } ∷ []) [])
-    front true = All-cons (λ (o : Own). length o.times ≤ 9) (record { process = p; condition = cond q.condition (Some c) None; times = q.times }) []
+    front : (b : Bool) →
+        HaveFewEnds
+        (cond b (record { process = p; condition = cond q.condition (Some c) None; times = q.times } ∷ []) [])
+    front true = All-cons (λ (o : Own). length o.times ≤ 9)
+        (record { process = p; condition = cond q.condition (Some c) None; times = q.times }) []
         (omega (arith, few, (All-head (IsHeadProcess k n) q qs h).count)) (All-nil (λ (o : Own). length o.times ≤ 9))
     front false = All-nil (λ (o : Own). length o.times ≤ 9)
 
 pub own_few_ends : (t : NodeTable) → IsTable t → HaveFewEnds t.own
-own_few_ends t h = subst HaveFewEnds (sym h.of.own) (own_ends h.head.faults (length h.head.nodes) h.node 0 0 h.head.processes h.lawful.faults h.lawful.processes)
+own_few_ends t h = subst HaveFewEnds (sym h.of.own)
+    (own_ends h.head.faults (length h.head.nodes) h.node 0 0 h.head.processes h.lawful.faults h.lawful.processes)
 
 -- rows that are among those of a table have few columns
-rows_few : (t : NodeTable) → IsTable t → (rows : List Row) → ((row : Row) → Contains rows row → Contains (rows_of t) row) → All (λ (row : Row). length row.columns ≤ MOST_COLUMNS) rows
+rows_few : (t : NodeTable) → IsTable t → (rows : List Row) →
+    ((row : Row) → Contains rows row → Contains (rows_of t) row) →
+    All (λ (row : Row). length row.columns ≤ MOST_COLUMNS) rows
 rows_few t h rows in' = All-weaker (Contains rows) (λ (row : Row). length row.columns ≤ MOST_COLUMNS)
-    (λ row c. (All-contains (IsLawfulRow (space_of h.head)) (rows_of t) row h.of.lawful (in' row c)).few) rows (All-contains_itself rows)
+    (λ row c. (All-contains (IsLawfulRow (space_of h.head)) (rows_of t) row h.of.lawful (in' row c)).few) rows
+    (All-contains_itself rows)
 
 in_sends : (t : NodeTable) (row : Row) → Contains t.sends row → Contains (rows_of t) row
 in_sends t row c = Contains-append_right t.starts (t.sends ++ t.hears) row (Contains-append_left t.sends t.hears row c)
@@ -99,7 +130,8 @@ sends_few t h = rows_few t h t.sends (in_sends t)
 pub starts_few : (t : NodeTable) → IsTable t → All (λ (row : Row). length row.columns ≤ MOST_COLUMNS) t.starts
 starts_few t h = rows_few t h t.starts (in_starts t)
 
-time_early : (t : NodeTable) → IsTable t → (rows : List Row) → ((row : Row) → Contains rows row → Contains (rows_of t) row) → (x : ℕ) → Contains (times_in rows) x → x < 2 ^ 60
+time_early : (t : NodeTable) → IsTable t → (rows : List Row) →
+    ((row : Row) → Contains rows row → Contains (rows_of t) row) → (x : ℕ) → Contains (times_in rows) x → x < 2 ^ 60
 time_early t h rows in' x c =
     let r = Contains-flat_map_parts (λ (row : Row). map (λ (d : Column). d.time) row.columns) rows x c in
     let d = Contains-map_parts (λ (d : Column). d.time) r.0.columns x r.2 in
@@ -107,9 +139,11 @@ time_early t h rows in' x c =
     ((All-contains (IsLawfulRow (space_of h.head)) (rows_of t) r.0 h.of.lawful (in' r.0 r.1)).columns) d.1).time)
 
 -- what is planned is before 2 to the 60
-pub plan_early : (t : NodeTable) → IsTable t → (plan : List Planned) → SameAtEachTime plan (plan_of t) → All (λ (p : Planned). p.time < 2 ^ 60) plan
+pub plan_early : (t : NodeTable) → IsTable t → (plan : List Planned) → SameAtEachTime plan (plan_of t) →
+    All (λ (p : Planned). p.time < 2 ^ 60) plan
 plan_early t h plan same = All-weaker (Contains plan) (λ (p : Planned). p.time < 2 ^ 60)
-    (λ p c. time_early t h (t.sends ++ t.starts) (λ row d. elim (Contains-append_cases t.sends t.starts row d) [ inl k ↦ in_sends t row k | inr k ↦ in_starts t row k ])
+    (λ p c. time_early t h (t.sends ++ t.starts) (λ row d.
+    elim (Contains-append_cases t.sends t.starts row d) [ inl k ↦ in_sends t row k | inr k ↦ in_starts t row k ])
     p.time (planned_time t p (planned_in plan (plan_of t) same p c))) plan (All-contains_itself plan)
 
 in_hears : (t : NodeTable) (row : Row) → Contains t.hears row → Contains (rows_of t) row

@@ -1,17 +1,23 @@
 -- What a node keeps before and after a turn.
-use Rattle.std.proofs.Common.{◌+◌, ◌⊎◌, ◌≡◌, ℕ, suc, ◌<◌, ◌≤◌, ◌-◌, ◌^◌, min, Bool, true, false, cond, ◌==◌, List, [], ◌∷◌, ◌++◌, map, filter, fold, length, take, drop, get_or, slice_get, Contains}
-use Rattle.std.proofs.Common.{Option, Some, None, refl, sym, ap, ap₂, ◌∙◌, subst, arith, inl, inr, true≢false, eq-eqb, eqb-true}
+use Rattle.std.proofs.Common.{◌+◌, ◌⊎◌, ◌≡◌, ℕ, suc, ◌<◌, ◌≤◌, ◌-◌, ◌^◌, min, Bool, true, false, cond, ◌==◌, List, []}
+use Rattle.std.proofs.Common.{◌∷◌, ◌++◌, map, filter, fold, length, take, drop, get_or, slice_get, Contains}
+use Rattle.std.proofs.Common.{Option, Some, None, refl, sym, ap, ap₂, ◌∙◌, subst, arith, inl, inr, true≢false, eq-eqb}
+use Rattle.std.proofs.Common.{eqb-true}
 use Rattle.std.proofs.lemmas.Bool.{cases_lt, false_from_ne_true}
 use Rattle.std.proofs.lemmas.List.Sums.{fold-append}
 use Rattle.std.specs.Prelude.{is_some, All, IfSome, IsPermutation}
 use Rattle.std.specs.List.{flat_map, list_any}
 use Rattle.std.specs.List.Sorted.{IsNonDecreasingBy}
-use Rattle.std.proofs.lemmas.List.Elements.{All-contains, All-cons, All-head, All-tail, All-nil, Contains-append_left, Contains-append_right, Contains-append_cases, Contains-get_or}
+use Rattle.std.proofs.lemmas.List.Elements.{All-contains, All-cons, All-head, All-tail, All-nil, Contains-append_left}
+use Rattle.std.proofs.lemmas.List.Elements.{Contains-append_right, Contains-append_cases, Contains-get_or}
 use Rattle.std.proofs.lemmas.Grind.{flat_map-append}
 use Rattle.std.proofs.lemmas.List.Sorted.{Contains-permutation, IsPermutation-sym}
-use Rattle.cpg_base.proofs.Lists.{Contains-nil, Contains-cases, Contains-map_parts, Contains-filter, Contains-filter_parts}
-use Rattle.cpg_node.specs.Dispatcher.{Dispatcher, times_in, Own, OwnTable, Range, Running, Ended, Frame, Act, zip_with, possible_ends, candidates, is_after, least_of, next, with_report, running_after}
-use Rattle.cpg_node.specs.Dispatcher.{due_reports, hear_end, hear_frame, acts_at, heard_after, acts_of_turn, ends_in_turn, turn}
+use Rattle.cpg_base.proofs.Lists.{Contains-nil, Contains-cases, Contains-map_parts, Contains-filter}
+use Rattle.cpg_base.proofs.Lists.{Contains-filter_parts}
+use Rattle.cpg_node.specs.Dispatcher.{Dispatcher, times_in, Own, OwnTable, Range, Running, Ended, Frame, Act, zip_with}
+use Rattle.cpg_node.specs.Dispatcher.{possible_ends, candidates, is_after, least_of, next, with_report, running_after}
+use Rattle.cpg_node.specs.Dispatcher.{due_reports, hear_end, hear_frame, acts_at, heard_after, acts_of_turn}
+use Rattle.cpg_node.specs.Dispatcher.{ends_in_turn, turn}
 use Rattle.cpg_table.specs.Table.{Row}
 use Rattle.cpg_cube.specs.Column.{Column}
 use Rattle.cpg_node.specs.State.{NodeState, earlier, IsTimed, AreTimed}
@@ -25,7 +31,8 @@ use Rattle.cpg_node.proofs.Planning.{filter_run, acts_same, planned_in, planned_
 
 -- before the first turn all is left
 pub line_open : {X : Type 0} (time : X → ℕ) (xs : List X) → IsNonDecreasingBy time xs → IsLine time None xs 0
-line_open time xs up = record { within = omega arith; rises = up; reached = λ i d h. absurd (omega arith); left = λ i d h k. refl }
+line_open time xs up =
+    record { within = omega arith; rises = up; reached = λ i d h. absurd (omega arith); left = λ i d h k. refl }
 
 fold_zero : (xs : List ℕ) → fold min 0 xs ≡ 0
 fold_zero [] = refl
@@ -33,13 +40,18 @@ fold_zero (x ∷ xs) = let e : min 0 x ≡ 0 = omega arith in ap (λ n. fold min
 
 -- before the first turn the next instant is 0
 pub next_open : (d : Dispatcher) → d.last ≡ None → Some 0 ≡ next d
-next_open d e = sym (ap (λ last. least_of (filter (is_after last) (cond (is_some last) (candidates d) (0 ∷ candidates d)))) e ∙ ap Some (fold_zero (filter (is_after None) (candidates d))))
+next_open d e =
+    sym (ap (λ last. least_of (filter (is_after last) (cond (is_some last) (candidates d) (0 ∷ candidates d)))) e
+    ∙ ap Some (fold_zero (filter (is_after None) (candidates d))))
 
 -- after a turn it is the first of the table's times that is left, or the first possible end
-pub next_found : (table : OwnTable) (heard : List Range) (running : List (Option Running)) (last : ℕ) (times : List ℕ) (place : ℕ) → IsPermutation (fixed_times table) times →
+pub next_found : (table : OwnTable) (heard : List Range) (running : List (Option Running)) (last : ℕ) (times : List ℕ)
+    (place : ℕ) →
+    IsPermutation (fixed_times table) times →
     IsLine (λ t. t) (Some last) times place →
     next (record { table = table; heard = heard; running = running; last = Some last })
-    ≡ earlier (slice_get times place) (least_of (filter (is_after (Some last)) (flat_map (λ ends. ends) (zip_with possible_ends table.own running))))
+    ≡ earlier (slice_get times place)
+    (least_of (filter (is_after (Some last)) (flat_map (λ ends. ends) (zip_with possible_ends table.own running))))
 next_found table heard running last times place p line =
     let a = is_after (Some last) in
     let ends : List ℕ = flat_map (λ ends. ends) (zip_with possible_ends table.own running) in
@@ -47,11 +59,14 @@ next_found table heard running last times place p line =
     let parts : candidates d ≡ fixed_times table ++ ends = refl in
     ap (λ l. least_of (filter a l)) parts ∙ least_passing a (fixed_times table) ends
     ∙ ap (λ o. earlier o (least_of (filter a ends)))
-    (least_same (filter a (fixed_times table)) (filter a times) (kept (fixed_times table) times p) (kept times (fixed_times table) (IsPermutation-sym (fixed_times table) times p)) ∙
+    (least_same (filter a (fixed_times table)) (filter a times) (kept (fixed_times table) times p)
+    (kept times (fixed_times table) (IsPermutation-sym (fixed_times table) times p)) ∙
     sym (first_left last times place line))
   where
-    kept : (xs ys : List ℕ) → IsPermutation xs ys → (x : ℕ) → Contains (filter (is_after (Some last)) xs) x → Contains (filter (is_after (Some last)) ys) x
-    kept xs ys p x c = let r = Contains-filter_parts (is_after (Some last)) xs x c in Contains-filter (is_after (Some last)) ys x r.1 (Contains-permutation xs ys x p r.0)
+    kept : (xs ys : List ℕ) → IsPermutation xs ys → (x : ℕ) → Contains (filter (is_after (Some last)) xs) x →
+        Contains (filter (is_after (Some last)) ys) x
+    kept xs ys p x c = let r = Contains-filter_parts (is_after (Some last)) xs x c in
+        Contains-filter (is_after (Some last)) ys x r.1 (Contains-permutation xs ys x p r.0)
 
 -- A report changes no time.
 
@@ -59,18 +74,24 @@ same_ends : (e : Ended) (o : Own) (run : Option Running) → possible_ends o (wi
 same_ends e o None = refl
 same_ends e o (Some run) = go (o.process == e.process)
   where
-    go : (b : Bool) → possible_ends o (cond b (Some (record { start = run.start; report = Some e })) (Some run)) ≡ possible_ends o (Some run)
+    go : (b : Bool) →
+        possible_ends o (cond b (Some (record { start = run.start; report = Some e })) (Some run))
+        ≡ possible_ends o (Some run)
     go true = refl
     go false = refl
 
-pub ends_reported : (e : Ended) (os : List Own) (runs : List (Option Running)) → zip_with possible_ends os (zip_with (with_report e) os runs) ≡ zip_with possible_ends os runs
+pub ends_reported : (e : Ended) (os : List Own) (runs : List (Option Running)) →
+    zip_with possible_ends os (zip_with (with_report e) os runs) ≡ zip_with possible_ends os runs
 ends_reported e [] runs = refl
 ends_reported e (o ∷ os) [] = refl
 ends_reported e (o ∷ os) (run ∷ runs) = ap₂ ◌∷◌ (same_ends e o run) (ends_reported e os runs)
 
-pub next_reported : (e : Ended) (table : OwnTable) (heard : List Range) (running : List (Option Running)) (last : Option ℕ) →
-    next (record { table = table; heard = heard; running = zip_with (with_report e) table.own running; last = last }) ≡ next (record { table = table; heard = heard; running = running; last = last })
-next_reported e table heard running last = ap (λ l. let c = times_in table.starts ++ times_in table.sends ++ times_in table.hears ++ flat_map (λ ends. ends) l in
+pub next_reported : (e : Ended) (table : OwnTable) (heard : List Range) (running : List (Option Running))
+    (last : Option ℕ) →
+    next (record { table = table; heard = heard; running = zip_with (with_report e) table.own running; last = last })
+    ≡ next (record { table = table; heard = heard; running = running; last = last })
+next_reported e table heard running last = ap
+    (λ l. let c = times_in table.starts ++ times_in table.sends ++ times_in table.hears ++ flat_map (λ ends. ends) l in
     least_of (filter (is_after last) (cond (is_some last) c (0 ∷ c)))) (ends_reported e table.own running)
 
 timed_report : (e : Ended) (o : Own) (run : Option Running) → IsTimed run → IsTimed (with_report e o run)
@@ -82,33 +103,43 @@ timed_report e o (Some run) h = go (o.process == e.process)
     go false = h
 
 -- what holds of all that runs, place by place
-timed_zip : (f : Own → Option Running → Option Running) → ((o : Own) (run : Option Running) → IsTimed run → IsTimed (f o run)) → (os : List Own) (runs : List (Option Running)) → AreTimed runs →
+timed_zip : (f : Own → Option Running → Option Running) →
+    ((o : Own) (run : Option Running) → IsTimed run → IsTimed (f o run)) →
+    (os : List Own) (runs : List (Option Running)) → AreTimed runs →
     AreTimed (zip_with f os runs)
 timed_zip f keep [] runs h = All-nil IsTimed
 timed_zip f keep (o ∷ os) [] h = All-nil IsTimed
-timed_zip f keep (o ∷ os) (run ∷ runs) h = All-cons IsTimed (f o run) (zip_with f os runs) (keep o run (All-head IsTimed run runs h)) (timed_zip f keep os runs (All-tail IsTimed run runs h))
+timed_zip f keep (o ∷ os) (run ∷ runs) h = All-cons IsTimed (f o run) (zip_with f os runs)
+    (keep o run (All-head IsTimed run runs h)) (timed_zip f keep os runs (All-tail IsTimed run runs h))
 
-pub timed_reported : (e : Ended) (os : List Own) (runs : List (Option Running)) → AreTimed runs → AreTimed (zip_with (with_report e) os runs)
+pub timed_reported : (e : Ended) (os : List Own) (runs : List (Option Running)) → AreTimed runs →
+    AreTimed (zip_with (with_report e) os runs)
 timed_reported e = timed_zip (with_report e) (timed_report e)
 
 -- what a turn starts begins at its time
-timed_after : (ended : List Ended) (acts : List Act) (time : ℕ) → (0 < length acts → time < 2 ^ 60) → (o : Own) (run : Option Running) → IsTimed run → IsTimed (running_after ended acts time o run)
-timed_after ended acts time early o run h = go (list_any (λ (a : Act). a.item == o.process) acts) refl (list_any (λ (e : Ended). e.process == o.process) ended)
+timed_after : (ended : List Ended) (acts : List Act) (time : ℕ) → (0 < length acts → time < 2 ^ 60) →
+    (o : Own) (run : Option Running) → IsTimed run →
+    IsTimed (running_after ended acts time o run)
+timed_after ended acts time early o run h =
+    go (list_any (λ (a : Act). a.item == o.process) acts) refl (list_any (λ (e : Ended). e.process == o.process) ended)
   where
     some : (acts : List Act) → list_any (λ (a : Act). a.item == o.process) acts ≡ true → 0 < length acts
     some [] e = absurd (true≢false (sym e))
     some (a ∷ acts) e = omega arith
 
-    go : (b : Bool) → list_any (λ (a : Act). a.item == o.process) acts ≡ b → (c : Bool) → IsTimed (cond b (Some (record { start = time; report = None })) (cond c None run))
+    go : (b : Bool) → list_any (λ (a : Act). a.item == o.process) acts ≡ b → (c : Bool) →
+        IsTimed (cond b (Some (record { start = time; report = None })) (cond c None run))
     go true e c = early (some acts e)
     go false e true = tt
     go false e false = h
 
-pub timed_turn : (ended : List Ended) (acts : List Act) (time : ℕ) → (0 < length acts → time < 2 ^ 60) → (os : List Own) (runs : List (Option Running)) → AreTimed runs →
+pub timed_turn : (ended : List Ended) (acts : List Act) (time : ℕ) → (0 < length acts → time < 2 ^ 60) →
+    (os : List Own) (runs : List (Option Running)) → AreTimed runs →
     AreTimed (zip_with (running_after ended acts time) os runs)
 timed_turn ended acts time early = timed_zip (running_after ended acts time) (timed_after ended acts time early)
 
-pub length_zip : {A B C : Type 0} (f : A → B → C) (os : List A) (rs : List B) → length rs ≡ length os → length (zip_with f os rs) ≡ length os
+pub length_zip : {A B C : Type 0} (f : A → B → C) (os : List A) (rs : List B) → length rs ≡ length os →
+    length (zip_with f os rs) ≡ length os
 length_zip f [] rs e = refl
 length_zip f (o ∷ os) [] e = absurd (omega arith)
 length_zip f (o ∷ os) (r ∷ rs) e = ap (λ n. suc n) (length_zip f os rs (omega arith))
@@ -116,28 +147,34 @@ length_zip f (o ∷ os) (r ∷ rs) e = ap (λ n. suc n) (length_zip f os rs (ome
 -- What a turn does.
 
 -- the state after a turn, by its parts
-pub turn_is : (table : OwnTable) (heard : List Range) (running : List (Option Running)) (last : Option ℕ) (time : ℕ) (ended due : List Ended) (frames : List Frame)
+pub turn_is : (table : OwnTable) (heard : List Range) (running : List (Option Running)) (last : Option ℕ) (time : ℕ)
+    (ended due : List Ended) (frames : List Frame)
     (after : List Range) (acts : List Act) (runs : List (Option Running)) →
     due ≡ due_reports (record { table = table; heard = heard; running = running; last = last }) time →
     after ≡ fold (hear_frame table) (fold (hear_end table) (fold (hear_end table) heard ended) due) frames →
     acts ≡ acts_at table after time →
     runs ≡ zip_with (running_after (ended ++ due) acts time) table.own running →
     let d : Dispatcher = record { table = table; heard = heard; running = running; last = last } in
-    (record { table = table; heard = after; running = runs; last = Some time } ≡ turn d time ended frames) × (acts ≡ acts_of_turn d time ended frames)
+    (record { table = table; heard = after; running = runs; last = Some time } ≡ turn d time ended frames) ×
+    (acts ≡ acts_of_turn d time ended frames)
 turn_is table heard running last time ended due frames after acts runs is h a r =
     let d : Dispatcher = record { table = table; heard = heard; running = running; last = last } in
     let heard' : after ≡ heard_after d time ended frames = h ∙ ap (λ l. fold (hear_frame table) l frames)
     (sym (fold-append (hear_end table) heard ended due) ∙ ap (λ l. fold (hear_end table) heard (ended ++ l)) is) in
     let acts' : acts ≡ acts_of_turn d time ended frames = a ∙ ap (λ l. acts_at table l time) heard' in
-    let runs' : runs ≡ zip_with (running_after (ends_in_turn d time ended) (acts_of_turn d time ended frames) time) table.own running =
+    let runs' : runs ≡ zip_with (running_after (ends_in_turn d time ended) (acts_of_turn d time ended frames) time)
+    table.own running =
     r ∙ ap₂ (λ es bs. zip_with (running_after (ended ++ es) bs time) table.own running) is acts' in
     ((λ i. record { table = table; heard = heard' i; running = runs' i; last = Some time }), acts')
 
 -- the entries of the turn stand together after the place; ps and qs are the plan, as calls see it
-module _ (table : OwnTable) (heard : List Range) (running : List (Option Running)) (last : Option ℕ) (time : ℕ) (plan ps qs : List Planned) (place end : ℕ)
+module _ (table : OwnTable) (heard : List Range) (running : List (Option Running)) (last : Option ℕ) (time : ℕ)
+    (plan ps qs : List Planned) (place end : ℕ)
     (same : SameAtEachTime plan (plan_of table)) (line : IsLine (λ (p : Planned). p.time) last plan place)
-    (comes : next (record { table = table; heard = heard; running = running; last = last }) ≡ Some time) (seen : ps ≡ plan) (sliced : qs ≡ plan)
-    (inside : (place ≤ end) × (end ≤ length ps)) (before : (i : ℕ) (d : Planned) → place ≤ i → i < end → (get_or ps i d).time ≤ time)
+    (comes : next (record { table = table; heard = heard; running = running; last = last }) ≡ Some time)
+    (seen : ps ≡ plan) (sliced : qs ≡ plan)
+    (inside : (place ≤ end) × (end ≤ length ps))
+    (before : (i : ℕ) (d : Planned) → place ≤ i → i < end → (get_or ps i d).time ≤ time)
     (here : (d : Planned) → end < length ps → time < (get_or ps end d).time) where
   abbrev node : Dispatcher
   node = record { table = table; heard = heard; running = running; last = last }
@@ -152,23 +189,27 @@ module _ (table : OwnTable) (heard : List Range) (running : List (Option Running
   within = omega (arith, inside.1, ap length seen)
 
   before' : (i : ℕ) (d : Planned) → place ≤ i → i < end → (get_or plan i d).time ≤ time
-  before' = subst (λ (ps : List Planned). (i : ℕ) (d : Planned) → place ≤ i → i < end → (get_or ps i d).time ≤ time) seen before
+  before' = subst (λ (ps : List Planned). (i : ℕ) (d : Planned) → place ≤ i → i < end → (get_or ps i d).time ≤ time)
+      seen before
 
   here' : (d : Planned) → end < length plan → time < (get_or plan end d).time
   here' = subst (λ (ps : List Planned). (d : Planned) → end < length ps → time < (get_or ps end d).time) seen here
 
   -- the times of what is planned are candidates
   planned_time' : (x : ℕ) → Contains (times_in (table.sends ++ table.starts)) x → Contains (candidates node) x
-  planned_time' x c = Contains-append_left (fixed_times table) (flat_map (λ ends. ends) (zip_with possible_ends table.own running)) x
+  planned_time' x c =
+      Contains-append_left (fixed_times table) (flat_map (λ ends. ends) (zip_with possible_ends table.own running)) x
       (Contains-append_left (times_in table.starts ++ times_in table.sends) (times_in table.hears) x
       (elim (Contains-append_cases (times_in table.sends) (times_in table.starts) x
-      (subst (λ l. Contains l x) (flat_map-append (λ (row : Row). map (λ (c : Column). c.time) row.columns) table.sends table.starts) c)) [
+      (subst (λ l. Contains l x)
+      (flat_map-append (λ (row : Row). map (λ (c : Column). c.time) row.columns) table.sends table.starts) c)) [
         | inl k ↦ Contains-append_right (times_in table.starts) (times_in table.sends) x k
         | inr k ↦ Contains-append_left (times_in table.starts) (times_in table.sends) x k
       ]))
 
   candidate : (i : ℕ) (d : Planned) → i < length plan → Contains (candidates node) (get_or plan i d).time
-  candidate i d l = planned_time' (get_or plan i d).time (planned_time table (get_or plan i d) (planned_in plan (plan_of table) same (get_or plan i d) (Contains-get_or plan i d l)))
+  candidate i d l = planned_time' (get_or plan i d).time (planned_time table (get_or plan i d)
+      (planned_in plan (plan_of table) same (get_or plan i d) (Contains-get_or plan i d l)))
 
   -- the time of an entry in the run
   at_time : (i : ℕ) (d : Planned) → place ≤ i → i < end → (get_or plan i d).time ≡ time
@@ -180,7 +221,8 @@ module _ (table : OwnTable) (heard : List Range) (running : List (Option Running
   )
 
   other : (t : ℕ) → is_after last t ≡ false → (t == time) ≡ false
-  other t e = false_from_ne_true (t == time) (λ s. true≢false (sym next'.after ∙ ap (is_after last) (sym (eqb-true t time s)) ∙ e))
+  other t e = false_from_ne_true (t == time)
+      (λ s. true≢false (sym next'.after ∙ ap (is_after last) (sym (eqb-true t time s)) ∙ e))
 
   later : (t : ℕ) → time < t → (t == time) ≡ false
   later t l = false_from_ne_true (t == time) (λ s. absurd (omega (arith, l, eqb-true t time s)))
@@ -191,48 +233,64 @@ module _ (table : OwnTable) (heard : List Range) (running : List (Option Running
       (λ i d k l. eq-eqb (get_or plan i d).time time (at_time i d k l))
       (λ i d k l. later (get_or plan i d).time (omega (arith, here' d (omega arith), line.rises end i d k l)))
 
-  pub acts_are : (after : List Range) (acts : List Act) → acts ≡ map act_of (filter (takes (table.sends ++ table.starts) after) (take (end - place) (drop place qs))) → acts ≡ acts_at table after time
-  acts_are after acts e = e ∙ ap (λ l. map act_of (filter (takes (table.sends ++ table.starts) after) (take (end - place) (drop place l)))) sliced
-      ∙ sym (acts_same table after time plan same ∙ ap (λ l. map act_of (filter (takes (table.sends ++ table.starts) after) l)) run)
+  pub acts_are : (after : List Range) (acts : List Act) →
+      acts ≡ map act_of (filter (takes (table.sends ++ table.starts) after) (take (end - place) (drop place qs))) →
+      acts ≡ acts_at table after time
+  acts_are after acts e = e ∙ ap
+      (λ l. map act_of (filter (takes (table.sends ++ table.starts) after) (take (end - place) (drop place l)))) sliced
+      ∙ sym (acts_same table after time plan same
+      ∙ ap (λ l. map act_of (filter (takes (table.sends ++ table.starts) after) l)) run)
 
   pub line_moves : IsLine (λ (p : Planned). p.time) (Some time) plan end
   line_moves = moves_on (λ (p : Planned). p.time) last plan place end time line next'.after from within before' here'
 
   -- a turn that does something is early enough for a sum
-  pub early_turn : (after : List Range) (acts : List Act) → acts ≡ map act_of (filter (takes (table.sends ++ table.starts) after) (take (end - place) (drop place qs))) →
+  pub early_turn : (after : List Range) (acts : List Act) →
+      acts ≡ map act_of (filter (takes (table.sends ++ table.starts) after) (take (end - place) (drop place qs))) →
       All (λ (p : Planned). p.time < 2 ^ 60) plan → 0 < length acts → time < 2 ^ 60
   early_turn after acts e early some = elim (cases_lt place end) [
-    | inl l ↦ let d : Planned = record { time = 0; row = 0; item = 0; column = 0 } in omega (arith, at_time place d (omega arith) l, early place d (omega (arith, within)))
+    | inl l ↦ let d : Planned = record { time = 0; row = 0; item = 0; column = 0 } in
+        omega (arith, at_time place d (omega arith) l, early place d (omega (arith, within)))
     | inr l ↦ absurd (omega (arith, some, ap length e ∙ none (end - place) (omega arith)))
   ]
     where
-      none : (n : ℕ) → n ≡ 0 → length (map act_of (filter (takes (table.sends ++ table.starts) after) (take n (drop place qs)))) ≡ 0
-      none n z = ap (λ n. length (map act_of (filter (takes (table.sends ++ table.starts) after) (take n (drop place qs))))) z
+      none : (n : ℕ) → n ≡ 0 →
+          length (map act_of (filter (takes (table.sends ++ table.starts) after) (take n (drop place qs)))) ≡ 0
+      none n z =
+          ap (λ n. length (map act_of (filter (takes (table.sends ++ table.starts) after) (take n (drop place qs))))) z
 
 -- The clauses of a turn, about the state as a caller sees it.
 
-pub returned_turn : (now : NodeState) (d : Dispatcher) (acts : List Act) (time : ℕ) (after : Dispatcher) (ended : List Ended) (frames : List Frame) → record { dispatcher = d; acts = acts } ≡ now →
+pub returned_turn : (now : NodeState) (d : Dispatcher) (acts : List Act) (time : ℕ) (after : Dispatcher)
+    (ended : List Ended) (frames : List Frame) →
+    record { dispatcher = d; acts = acts } ≡ now →
     next d ≡ Some time →
     after ≡ turn d time ended frames → IfSome (next now.dispatcher) (λ t. after ≡ turn now.dispatcher t ended frames)
 returned_turn now d acts time after ended frames view comes is =
-    subst (λ (s : NodeState). IfSome (next s.dispatcher) (λ t. after ≡ turn s.dispatcher t ended frames)) view (subst (λ o. IfSome o (λ t. after ≡ turn d t ended frames)) (sym comes) is)
+    subst (λ (s : NodeState). IfSome (next s.dispatcher) (λ t. after ≡ turn s.dispatcher t ended frames)) view
+    (subst (λ o. IfSome o (λ t. after ≡ turn d t ended frames)) (sym comes) is)
 
-pub returned_acts : (now : NodeState) (d : Dispatcher) (acts : List Act) (time : ℕ) (after : List Act) (ended : List Ended) (frames : List Frame) → record { dispatcher = d; acts = acts } ≡ now →
+pub returned_acts : (now : NodeState) (d : Dispatcher) (acts : List Act) (time : ℕ) (after : List Act)
+    (ended : List Ended) (frames : List Frame) →
+    record { dispatcher = d; acts = acts } ≡ now →
     next d ≡ Some time →
-    after ≡ acts_of_turn d time ended frames → IfSome (next now.dispatcher) (λ t. after ≡ acts_of_turn now.dispatcher t ended frames)
+    after ≡ acts_of_turn d time ended frames →
+    IfSome (next now.dispatcher) (λ t. after ≡ acts_of_turn now.dispatcher t ended frames)
 returned_acts now d acts time after ended frames view comes is =
     subst (λ (s : NodeState). IfSome (next s.dispatcher) (λ t. after ≡ acts_of_turn s.dispatcher t ended frames)) view
     (subst (λ o. IfSome o (λ t. after ≡ acts_of_turn d t ended frames)) (sym comes) is)
 
 -- Times stay small.
 
-ends_early : (os : List Own) (runs : List (Option Running)) → All AreShort os → AreTimed runs → (t : ℕ) → Contains (flat_map (λ ends. ends) (zip_with possible_ends os runs)) t → t < 2 ^ 61
+ends_early : (os : List Own) (runs : List (Option Running)) → All AreShort os → AreTimed runs → (t : ℕ) →
+    Contains (flat_map (λ ends. ends) (zip_with possible_ends os runs)) t → t < 2 ^ 61
 ends_early [] runs s h t c = absurd (Contains-nil t c)
 ends_early (o ∷ os) [] s h t c = absurd (Contains-nil t c)
-ends_early (o ∷ os) (r ∷ rs) s h t c = elim (Contains-append_cases (possible_ends o r) (flat_map (λ ends. ends) (zip_with possible_ends os rs)) t c) [
-  | inl k ↦ one r (All-head IsTimed r rs h) k
-  | inr k ↦ ends_early os rs (All-tail AreShort o os s) (All-tail IsTimed r rs h) t k
-]
+ends_early (o ∷ os) (r ∷ rs) s h t c =
+    elim (Contains-append_cases (possible_ends o r) (flat_map (λ ends. ends) (zip_with possible_ends os rs)) t c) [
+      | inl k ↦ one r (All-head IsTimed r rs h) k
+      | inr k ↦ ends_early os rs (All-tail AreShort o os s) (All-tail IsTimed r rs h) t k
+    ]
   where
     one : (run : Option Running) → IsTimed run → Contains (possible_ends o run) t → t < 2 ^ 61
     one None h k = absurd (Contains-nil t k)
@@ -242,15 +300,19 @@ ends_early (o ∷ os) (r ∷ rs) s h t c = elim (Contains-append_cases (possible
         omega (arith, h, d, q.2)
 
 -- the next instant is before 2 to the 61
-pub next_early : (table : OwnTable) (heard : List Range) (running : List (Option Running)) (last : Option ℕ) (t : ℕ) → IsTable table → AreTimed running →
+pub next_early : (table : OwnTable) (heard : List Range) (running : List (Option Running)) (last : Option ℕ) (t : ℕ) →
+    IsTable table →
+    AreTimed running →
     next (record { table = table; heard = heard; running = running; last = last }) ≡ Some t → t < 2 ^ 61
 next_early table heard running last t made h e =
-    elim (first last (Contains-filter_parts (is_after last) (cond (is_some last) all (0 ∷ all)) t (least_of_parts (filter (is_after last) (cond (is_some last) all (0 ∷ all))) t e).0).0) [
+    elim (first last (Contains-filter_parts (is_after last) (cond (is_some last) all (0 ∷ all)) t
+    (least_of_parts (filter (is_after last) (cond (is_some last) all (0 ∷ all))) t e).0).0) [
       | inl z ↦ omega (arith, z)
-      | inr c ↦ elim (Contains-append_cases (fixed_times table) (flat_map (λ ends. ends) (zip_with possible_ends table.own running)) t c) [
-        | inl k ↦ let f = fixed_early table made t k in omega (arith, f)
-        | inr k ↦ ends_early table.own running (times_short table made) h t k
-      ]
+      | inr c ↦ elim (Contains-append_cases (fixed_times table)
+          (flat_map (λ ends. ends) (zip_with possible_ends table.own running)) t c) [
+            | inl k ↦ let f = fixed_early table made t k in omega (arith, f)
+            | inr k ↦ ends_early table.own running (times_short table made) h t k
+          ]
     ]
   where
     all : List ℕ

@@ -1,5 +1,6 @@
 -- What a node may do, in order of time.
-use Rattle.std.specs.Prelude.{ℕ, ◌≡◌, ◌≤◌, ◌<◌, ◌+◌, Bool, true, false, ◌==◌, List, [], ◌∷◌, ◌++◌, Option, filter, length, get_or}
+use Rattle.std.specs.Prelude.{ℕ, ◌≡◌, ◌≤◌, ◌<◌, ◌+◌, Bool, true, false, ◌==◌, List, [], ◌∷◌, ◌++◌, Option, filter}
+use Rattle.std.specs.Prelude.{length, get_or}
 use Rattle.std.specs.List.{list_all}
 use Rattle.std.specs.List.Sorted.{IsNonDecreasingBy}
 use Rattle.cpg_cube.specs.declared.literal.Literal.{Literal}
@@ -11,7 +12,8 @@ pub use Rattle.cpg_node.specs.declared.plan.Planned.{Planned}
 -- the columns of an item's row; the first has the number i
 abbrev pub plan_of_columns : ℕ → ℕ → ℕ → List Column → List Planned
 plan_of_columns row x i [] = []
-plan_of_columns row x i (c ∷ cs) = record { time = c.time; row = row; item = x; column = i } ∷ plan_of_columns row x (i + 1) cs
+plan_of_columns row x i (c ∷ cs) =
+    record { time = c.time; row = row; item = x; column = i } ∷ plan_of_columns row x (i + 1) cs
 
 -- the columns of rows; the first row has this place
 abbrev pub plan_from : ℕ → List Row → List Planned
@@ -44,7 +46,8 @@ fixed_times table = times_in table.starts ++ times_in table.sends ++ times_in ta
 
 -- both lists have the same entries at each time, in the same order
 abbrev pub SameAtEachTime : List Planned → List Planned → Type 0
-SameAtEachTime ps qs = (time : ℕ) → filter (λ (p : Planned). p.time == time) ps ≡ filter (λ (p : Planned). p.time == time) qs
+SameAtEachTime ps qs =
+    (time : ℕ) → filter (λ (p : Planned). p.time == time) ps ≡ filter (λ (p : Planned). p.time == time) qs
 
 -- xs are in order of time; the last turn has reached those before the place, and the others are after it
 pub record IsLine {X : Type 0} (time : X → ℕ) (last : Option ℕ) (xs : List X) (place : ℕ) : Type 0 where

@@ -1,8 +1,10 @@
 -- Turns that a node may leave out, and the instants that are left.
-use Rattle.std.specs.Prelude.{ℕ, ◌≡◌, ◌≤◌, ◌+◌, List, [], ◌∷◌, ◌++◌, Option, Some, None, filter, get_or, length, All, IfSome, Contains}
+use Rattle.std.specs.Prelude.{ℕ, ◌≡◌, ◌≤◌, ◌+◌, List, [], ◌∷◌, ◌++◌, Option, Some, None, filter, get_or, length, All}
+use Rattle.std.specs.Prelude.{IfSome, Contains}
 use Rattle.std.specs.List.{flat_map}
 use Rattle.cpg_table.specs.Lawful.{IsTable}
-use Rattle.cpg_node.specs.Dispatcher.{Dispatcher, Own, Running, Ended, Range, times_in, zip_with, candidates, is_after, least_of, due_reports, acts_at, turn, acts_of_turn}
+use Rattle.cpg_node.specs.Dispatcher.{Dispatcher, Own, Running, Ended, Range, times_in, zip_with, candidates, is_after}
+use Rattle.cpg_node.specs.Dispatcher.{least_of, due_reports, acts_at, turn, acts_of_turn}
 
 -- at this instant no report is due, and no entry whose literals have been heard
 pub record IsQuiet (d : Dispatcher) (time : ℕ) : Type 0 where
@@ -24,7 +26,8 @@ abbrev pub awaited_end : ℕ → Own → Option Running → List ℕ
 awaited_end k own None = []
 awaited_end k own (Some run) = (run.start + get_or own.times (awaited_faults k run.report) 0) ∷ []
 
--- The instants of a node that takes no more turns than it must: the times of its columns, and one end for each execution.
+-- The instants of a node that takes no more turns than it must: the times of its columns, and one end for each
+-- execution.
 abbrev pub awaited : Dispatcher → List ℕ
 awaited d = times_in d.table.starts ++ times_in d.table.sends ++ times_in d.table.hears
     ++ flat_map (λ ends. ends) (zip_with (awaited_end d.table.faults) d.table.own d.running)
@@ -35,7 +38,8 @@ next_awaited d = least_of (filter (is_after d.last) (awaited d))
 
 -- At all other instants a turn is quiet, whatever was heard.
 abbrev pub TurnsLeftOutAreQuiet : Type 0
-TurnsLeftOutAreQuiet = (d : Dispatcher) (time : ℕ) → (Contains (awaited d) time → ⊥) → (heard : List Range) → IsQuiet (record d { heard = heard }) time
+TurnsLeftOutAreQuiet = (d : Dispatcher) (time : ℕ) → (Contains (awaited d) time → ⊥) → (heard : List Range) →
+    IsQuiet (record d { heard = heard }) time
 
 -- a report has no more faults than are allowed
 abbrev pub TellsFew : ℕ → Option Running → Type 0
@@ -43,4 +47,5 @@ TellsFew k run = IfSome run (λ (run : Running). IfSome run.report (λ (e : Ende
 
 -- Each of these instants is also one of a node that takes all turns.
 abbrev pub AwaitedAreCandidates : Type 0
-AwaitedAreCandidates = (d : Dispatcher) → IsTable d.table → All (TellsFew d.table.faults) d.running → (time : ℕ) → Contains (awaited d) time → Contains (candidates d) time
+AwaitedAreCandidates = (d : Dispatcher) → IsTable d.table → All (TellsFew d.table.faults) d.running → (time : ℕ) →
+    Contains (awaited d) time → Contains (candidates d) time

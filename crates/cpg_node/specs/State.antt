@@ -1,8 +1,11 @@
 -- The state of a node, and what its calls require.
-use Rattle.std.specs.Prelude.{ℕ, ◌≡◌, ◌<◌, ◌≤◌, ◌+◌, ◌^◌, min, nat_lt, ◌&&◌, Bool, true, false, ◌==◌, if◌then◌else◌, List, [], ◌∷◌, Option, Some, None, option_map, option_and_then, is_some, get_or, length, All, IfSome}
+use Rattle.std.specs.Prelude.{ℕ, ◌≡◌, ◌<◌, ◌≤◌, ◌+◌, ◌^◌, min, nat_lt, ◌&&◌, Bool, true, false, ◌==◌, if◌then◌else◌}
+use Rattle.std.specs.Prelude.{List, [], ◌∷◌, Option, Some, None, option_map, option_and_then, is_some, get_or, length}
+use Rattle.std.specs.Prelude.{All, IfSome}
 use Rattle.std.specs.List.{list_any}
 use Rattle.cpg_table.specs.Table.{Row, columns_in}
-use Rattle.cpg_node.specs.Dispatcher.{Dispatcher, Own, OwnTable, Ended, Frame, Act, Running, own_of, is_after, next, no_column}
+use Rattle.cpg_node.specs.Dispatcher.{Dispatcher, Own, OwnTable, Ended, Frame, Act, Running, own_of, is_after, next}
+use Rattle.cpg_node.specs.Dispatcher.{no_column}
 
 -- a dispatcher, and what it did in its last turn
 pub record NodeState : Type 0 where
@@ -55,8 +58,8 @@ pub record MayTurn (d : Dispatcher) (ended : List Ended) (frames : List Frame) :
   pub ends : All (EndsAt d time) ended
   pub arrive : All (ArrivesAt d time) frames
 
--- An execution that hasn't reported may have ended at this time: after its start and no later than planned, and after the last
--- turn and no later than the next instant.
+-- An execution that hasn't reported may have ended at this time: after its start and no later than planned, and after
+-- the last turn and no later than the next instant.
 pub record MayFinish (d : Dispatcher) (time : ℕ) (e : Ended) : Type 0 where
   pub run : Running
   pub runs : running_of d e.process ≡ Some run
@@ -70,7 +73,8 @@ pub record MayFinish (d : Dispatcher) (time : ℕ) (e : Ended) : Type 0 where
 
 -- whether a frame's item is in the hear rows, and its column there arrives at the time
 abbrev pub arrives : OwnTable → ℕ → Frame → Bool
-arrives table arrival f = list_any (λ (row : Row). row.item == f.item) table.hears && nat_lt f.column (length (columns_in table.hears f.item))
+arrives table arrival f =
+    list_any (λ (row : Row). row.item == f.item) table.hears && nat_lt f.column (length (columns_in table.hears f.item))
     && ((get_or (columns_in table.hears f.item) f.column no_column).time == arrival)
 
 -- the lesser of two times, if they are given

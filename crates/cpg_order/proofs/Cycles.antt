@@ -1,6 +1,9 @@
--- Cycles: found by a walk against the edges, turned into the direction of the edges, and not there under a topological order.
-use Rattle.std.proofs.Common.{ℕ, zero, suc, ◌+◌, ◌-◌, ◌<◌, ◌≤◌, ◌≡◌, ◌≢◌, ◌⊎◌, inl, inr, true, false, ◌&&◌, ◌==◌, nat_le, if◌then◌else◌, List, [], ◌∷◌, ◌++◌, length, get_or, drop, map, Contains}
-use Rattle.std.proofs.Common.{arith, refl, sym, ap, ap₂, ◌∙◌, subst, length-append, length-drop, eqb-true, eq-eqb, le-leb, subst₂}
+-- Cycles: found by a walk against the edges, turned into the direction of the edges, and not there under a topological
+-- order.
+use Rattle.std.proofs.Common.{ℕ, zero, suc, ◌+◌, ◌-◌, ◌<◌, ◌≤◌, ◌≡◌, ◌≢◌, ◌⊎◌, inl, inr, true, false, ◌&&◌, ◌==◌}
+use Rattle.std.proofs.Common.{nat_le, if◌then◌else◌, List, [], ◌∷◌, ◌++◌, length, get_or, drop, map, Contains}
+use Rattle.std.proofs.Common.{arith, refl, sym, ap, ap₂, ◌∙◌, subst, length-append, length-drop, eqb-true, eq-eqb}
+use Rattle.std.proofs.Common.{le-leb, subst₂}
 use Rattle.std.specs.List.{AllPairs}
 use Rattle.std.proofs.lemmas.Bool.{cases_lt, cases_order, and_parts, and_from, both_ways, lt-leb}
 use Rattle.std.proofs.lemmas.List.{get_or-drop, get_or_append_left, get_or_default}
@@ -24,11 +27,14 @@ use Rattle.cpg_order.proofs.Along.{is_in_from}
 
 -- an edge of the graph is one from its source to its target
 pub has_edge_from : (g : Graph) (e : ℕ) → e < edge_count g → has_edge g (source g e) (target g e) ≡ true
-has_edge_from g e h = list_any_true (λ f. (f.from == source g e) && (f.to == target g e)) g.edges (edge_at g e) (Contains-get_or g.edges e _ h)
-    (and_from (source g e == source g e) (target g e == target g e) (eq-eqb (source g e) (source g e) refl) (eq-eqb (target g e) (target g e) refl))
+has_edge_from g e h = list_any_true (λ f. (f.from == source g e) && (f.to == target g e)) g.edges (edge_at g e)
+    (Contains-get_or g.edges e _ h)
+    (and_from (source g e == source g e) (target g e == target g e) (eq-eqb (source g e) (source g e) refl)
+    (eq-eqb (target g e) (target g e) refl))
 
 pub has_edge_of_input : (g : Graph) (p e : ℕ) → Contains (inputs g p) e → has_edge g (source g e) p ≡ true
-has_edge_of_input g p e c = let r = inputs_parts g p e c in subst (λ q. has_edge g (source g e) q ≡ true) r.1 (has_edge_from g e r.0)
+has_edge_of_input g p e c = let r = inputs_parts g p e c in
+    subst (λ q. has_edge g (source g e) q ≡ true) r.1 (has_edge_from g e r.0)
 
 -- ---- a topological order leaves no cycle
 
@@ -41,13 +47,16 @@ module _ (g : Graph) (order : List ℕ) (topological : IsTopological g order) wh
       let same : edge_at g e ≡ r.0 = get_or_default g.edges e _ r.0 r.1.1 ∙ r.1.2 in
       let from : source g e ≡ p = ap (λ f. f.from) same ∙ eqb-true r.0.from p s.0 in
       let to : target g e ≡ q = ap (λ f. f.to) same ∙ eqb-true r.0.to q s.1 in
-      subst (λ x. place order x < place order q) from (subst (λ x. place order (source g e) < place order x) to (edge_goes_up g order topological e r.1.1))
+      subst (λ x. place order x < place order q) from
+      (subst (λ x. place order (source g e) < place order x) to (edge_goes_up g order topological e r.1.1))
 
-  places_grow : (walk : List ℕ) → IsCycle g walk → (k : ℕ) → k < length walk → place order (get_or walk 0 0) ≤ place order (get_or walk k 0)
+  places_grow : (walk : List ℕ) → IsCycle g walk → (k : ℕ) → k < length walk →
+      place order (get_or walk 0 0) ≤ place order (get_or walk k 0)
   places_grow walk is zero l = omega arith
   places_grow walk is (suc k) l =
       let up = has_edge_goes_up (get_or walk k 0) (get_or walk (k + 1) 0) (is.next k (omega arith)) in
-      let at : get_or walk (k + 1) 0 ≡ get_or walk (suc k) 0 = ap (λ i. get_or walk i 0) (let e : k + 1 ≡ suc k = omega arith in e) in
+      let at : get_or walk (k + 1) 0 ≡ get_or walk (suc k) 0 =
+      ap (λ i. get_or walk i 0) (let e : k + 1 ≡ suc k = omega arith in e) in
       omega (arith, places_grow walk is k (omega arith), ap (place order) at)
 
   pub no_cycle : HasCycle g → ⊥
@@ -58,7 +67,8 @@ module _ (g : Graph) (order : List ℕ) (topological : IsTopological g order) wh
 
 -- ---- a walk against the edges
 
--- different processes of the graph, each with an edge from the next, and the last with one from the process that comes next
+-- different processes of the graph, each with an edge from the next, and the last with one from the process that comes
+-- next
 pub record IsWalkBack (g : Graph) (walk : List ℕ) (process : ℕ) : Type 0 where
   pub apart : AllPairs (λ p q. p ≢ q) walk
   pub below : (p : ℕ) → Contains walk p → p < process_count g
@@ -84,29 +94,39 @@ module _ (g : Graph) where
     end_is : get_or (walk ++ process ∷ []) (length walk) 0 ≡ process
     end_is = get_or-append_seam walk process [] 0
 
-    next_more : (k : ℕ) → k + 1 < length walk + 1 → has_edge g (get_or (walk ++ process ∷ []) (k + 1) 0) (get_or (walk ++ process ∷ []) k 0) ≡ true
+    next_more : (k : ℕ) → k + 1 < length walk + 1 →
+        has_edge g (get_or (walk ++ process ∷ []) (k + 1) 0) (get_or (walk ++ process ∷ []) k 0) ≡ true
     next_more k l = elim (cases_lt (k + 1) (length walk)) [
       | inl m ↦ ap₂ (has_edge g) (grown (k + 1) m) (grown k (omega arith)) ∙ is.next k m
       | inr m ↦
           let e : k + 1 ≡ length walk = omega arith in
           let f : k ≡ length walk - 1 = omega arith in
-          ap₂ (has_edge g) (ap (λ i. get_or (walk ++ process ∷ []) i 0) e ∙ end_is) (grown k (omega arith) ∙ ap (λ i. get_or walk i 0) f) ∙ is.last (omega arith)
+          ap₂ (has_edge g) (ap (λ i. get_or (walk ++ process ∷ []) i 0) e ∙ end_is)
+          (grown k (omega arith) ∙ ap (λ i. get_or walk i 0) f) ∙ is.last (omega arith)
     ]
 
-    pub walk_more : (next : ℕ) → process < process_count g → is_in walk process ≡ false → has_edge g next process ≡ true → IsWalkBack g (walk ++ process ∷ []) next
+    pub walk_more : (next : ℕ) → process < process_count g → is_in walk process ≡ false →
+        has_edge g next process ≡ true →
+        IsWalkBack g (walk ++ process ∷ []) next
     walk_more next l fresh edge = record {
-      apart = AllPairs-append (λ p q. p ≢ q) walk (process ∷ []) is.apart (AllPairs-cons_by (λ p q. p ≢ q) process [] (λ y c. absurd (Contains-nil y c)) (AllPairs-nil (λ p q. p ≢ q)))
+      apart = AllPairs-append (λ p q. p ≢ q) walk (process ∷ []) is.apart
+          (AllPairs-cons_by (λ p q. p ≢ q) process [] (λ y c. absurd (Contains-nil y c)) (AllPairs-nil (λ p q. p ≢ q)))
           (λ p q c d e. elim (Contains-cases process [] q d) [
-            | inl s ↦ both_ways (is_in walk process) fresh (is_in_from walk process (subst (Contains walk) (e ∙ sym s) c))
+            | inl s ↦
+                both_ways (is_in walk process) fresh (is_in_from walk process (subst (Contains walk) (e ∙ sym s) c))
             | inr n ↦ Contains-nil q n
           ]);
       below = λ p c. elim (Contains-append_cases walk (process ∷ []) p c) [
         | inl d ↦ is.below p d
-        | inr d ↦ elim (Contains-cases process [] p d) [ inl e ↦ subst (λ q. q < process_count g) e l | inr n ↦ absurd (Contains-nil p n) ]
+        | inr d ↦ elim (Contains-cases process [] p d) [
+          | inl e ↦ subst (λ q. q < process_count g) e l
+          | inr n ↦ absurd (Contains-nil p n)
+        ]
       ];
       next = λ k m. next_more k (subst (λ n. k + 1 < n) longer m);
       last = λ m. subst (λ n. has_edge g next (get_or (walk ++ process ∷ []) (n - 1) 0) ≡ true) (sym longer)
-          (let e : length walk + 1 - 1 ≡ length walk = omega arith in ap (λ i. has_edge g next (get_or (walk ++ process ∷ []) i 0)) e ∙ ap (has_edge g next) end_is ∙ edge);
+          (let e : length walk + 1 - 1 ≡ length walk = omega arith in
+          ap (λ i. has_edge g next (get_or (walk ++ process ∷ []) i 0)) e ∙ ap (has_edge g next) end_is ∙ edge);
     }
 
     -- if it meets itself, there is a cycle
@@ -115,13 +135,17 @@ module _ (g : Graph) where
         let long = length-drop from walk in
         record {
           some = omega arith;
-          apart = λ i j d m n e. is.apart (from + i) (from + j) d (omega arith) (omega arith) (sym (get_or-drop from walk i d) ∙ e ∙ get_or-drop from walk j d);
+          apart = λ i j d m n e. is.apart (from + i) (from + j) d (omega arith) (omega arith)
+              (sym (get_or-drop from walk i d) ∙ e ∙ get_or-drop from walk j d);
           next = λ k m.
-              ap₂ (has_edge g) (get_or-drop from walk (k + 1) 0 ∙ ap (λ i. get_or walk i 0) (let e : from + (k + 1) ≡ from + k + 1 = omega arith in e)) (get_or-drop from walk k 0) ∙
+              ap₂ (has_edge g) (get_or-drop from walk (k + 1) 0 ∙ ap (λ i. get_or walk i 0)
+              (let e : from + (k + 1) ≡ from + k + 1 = omega arith in e)) (get_or-drop from walk k 0) ∙
               is.next (from + k) (omega arith);
           last =
-              ap₂ (has_edge g) (get_or-drop from walk 0 0 ∙ ap (λ i. get_or walk i 0) (let e : from + 0 ≡ from = omega arith in e) ∙ at)
-              (get_or-drop from walk (length (drop from walk) - 1) 0 ∙ ap (λ i. get_or walk i 0) (let e : from + (length (drop from walk) - 1) ≡ length walk - 1 = omega arith in e))
+              ap₂ (has_edge g) (get_or-drop from walk 0 0
+              ∙ ap (λ i. get_or walk i 0) (let e : from + 0 ≡ from = omega arith in e) ∙ at)
+              (get_or-drop from walk (length (drop from walk) - 1) 0 ∙ ap (λ i. get_or walk i 0)
+              (let e : from + (length (drop from walk) - 1) ≡ length walk - 1 = omega arith in e))
               ∙ is.last (omega arith);
         }
 
@@ -138,7 +162,8 @@ down_after : (m n k : ℕ) → m < k → place_down m n k ≡ m + n - k
 down_after m n k l = ap (λ b. if b then m - k else m + n - k) (lt-leb k m l)
 
 pub down_within : (m n k : ℕ) → m < n → k < n → place_down m n k < n
-down_within m n k h l = elim (cases_lt m k) [ inl a ↦ omega (arith, down_after m n k a) | inr b ↦ omega (arith, down_before m n k b) ]
+down_within m n k h l =
+    elim (cases_lt m k) [ inl a ↦ omega (arith, down_after m n k a) | inr b ↦ omega (arith, down_before m n k b) ]
 
 pub down_apart : (m n i j : ℕ) → m < n → i < j → j < n → place_down m n i ≢ place_down m n j
 down_apart m n i j h a b e = elim (cases_lt m i) [
@@ -150,11 +175,17 @@ down_apart m n i j h a b e = elim (cases_lt m i) [
 ]
 
 -- one further down, or from the lowest to the highest
-pub down_next : (m n k : ℕ) → m < n → k < n → ((place_down m n k ≡ 0) × (place_down m n (k + 1) ≡ n - 1)) ⊎ ((0 < place_down m n k) × (place_down m n (k + 1) + 1 ≡ place_down m n k))
+pub down_next : (m n k : ℕ) → m < n → k < n →
+    ((place_down m n k ≡ 0) × (place_down m n (k + 1) ≡ n - 1)) ⊎
+    ((0 < place_down m n k) × (place_down m n (k + 1) + 1 ≡ place_down m n k))
 down_next m n k h l = elim (cases_order k m) [
   | inl e ↦ inl (omega (arith, down_before m n k (omega arith)), omega (arith, down_after m n (k + 1) (omega arith)))
-  | inr (inl a) ↦ inr (omega (arith, down_before m n k (omega arith)), omega (arith, down_before m n k (omega arith), down_before m n (k + 1) (omega arith)))
-  | inr (inr b) ↦ inr (omega (arith, down_after m n k b), omega (arith, down_after m n k b, down_after m n (k + 1) (omega arith)))
+  | inr (inl a) ↦ inr (
+    omega (arith, down_before m n k (omega arith)),
+    omega (arith, down_before m n k (omega arith), down_before m n (k + 1) (omega arith)),
+  )
+  | inr (inr b) ↦
+      inr (omega (arith, down_after m n k b), omega (arith, down_after m n k b, down_after m n (k + 1) (omega arith)))
 ]
 
 pub down_first : (m n : ℕ) → place_down m n 0 ≡ m
@@ -164,14 +195,17 @@ pub down_around : (m n : ℕ) → m < n → place_down m n n ≡ m
 down_around m n h = omega (arith, down_after m n n h)
 
 module _ (g : Graph) (back : List ℕ) (is : IsCycleBack g back) (m : ℕ) (inside : m < length back) where
-  edge_down : (k : ℕ) → k < length back → has_edge g (get_or back (place_down m (length back) k) 0) (get_or back (place_down m (length back) (k + 1)) 0) ≡ true
+  edge_down : (k : ℕ) → k < length back →
+      has_edge g (get_or back (place_down m (length back) k) 0) (get_or back (place_down m (length back) (k + 1)) 0)
+      ≡ true
   edge_down k l = elim (down_next m (length back) k inside l) [
     | inl (a, b) ↦ ap₂ (has_edge g) (ap (λ i. get_or back i 0) a) (ap (λ i. get_or back i 0) b) ∙ is.last
     | inr (a, b) ↦ ap (λ i. has_edge g (get_or back i 0) (get_or back (place_down m (length back) (k + 1)) 0)) (sym b)
         ∙ is.next (place_down m (length back) (k + 1)) (omega (arith, down_within m (length back) k inside l))
   ]
 
-  down_elements_apart : (i j : ℕ) → i < j → j < length back → get_or back (place_down m (length back) i) 0 ≢ get_or back (place_down m (length back) j) 0
+  down_elements_apart : (i j : ℕ) → i < j → j < length back →
+      get_or back (place_down m (length back) i) 0 ≢ get_or back (place_down m (length back) j) 0
   down_elements_apart i j a b e =
       let p = down_within m (length back) i inside (omega arith) in
       let q = down_within m (length back) j inside b in
@@ -181,21 +215,27 @@ module _ (g : Graph) (back : List ℕ) (is : IsCycleBack g back) (m : ℕ) (insi
         | inr (inr l) ↦ is.apart (place_down m (length back) j) (place_down m (length back) i) 0 l p (sym e)
       ]
 
-  pub cycle_from_back : (walk : List ℕ) → walk ≡ map (λ k. get_or back (place_down m (length back) k) 0) (numbers_below (length back))
+  pub cycle_from_back : (walk : List ℕ) →
+      walk ≡ map (λ k. get_or back (place_down m (length back) k) 0) (numbers_below (length back))
       → ((k : ℕ) → k < length back → get_or back m 0 ≤ get_or back k 0) → IsCycle g walk
   cycle_from_back walk same lowest =
       let down : ℕ → ℕ = λ k. get_or back (place_down m (length back) k) 0 in
       let long : length walk ≡ length back = ap length same ∙ length-map-range_with_len down 0 (length back) in
-      let at : (k d : ℕ) → k < length back → get_or walk k d ≡ down k = λ k d l. ap (λ w. get_or w k d) same ∙ get_or-map-below down (length back) k d l in
-      let first : get_or walk 0 0 ≡ get_or back m 0 = at 0 0 is.some ∙ ap (λ i. get_or back i 0) (down_first m (length back)) in
+      let at : (k d : ℕ) → k < length back → get_or walk k d ≡ down k =
+      λ k d l. ap (λ w. get_or w k d) same ∙ get_or-map-below down (length back) k d l in
+      let first : get_or walk 0 0 ≡ get_or back m 0 =
+      at 0 0 is.some ∙ ap (λ i. get_or back i 0) (down_first m (length back)) in
       let end : length back - 1 + 1 ≡ length back = (let some = is.some in omega arith) in
       record {
         some = subst (λ n. 0 < n) (sym long) is.some;
-        apart = λ i j d l n e. down_elements_apart i j l (omega arith) (sym (at i d (omega arith)) ∙ e ∙ at j d (omega arith));
-        least = λ k l. subst₂ (λ x y. x ≤ y) (sym first) (sym (at k 0 (omega arith))) (lowest (place_down m (length back) k) (down_within m (length back) k inside (omega arith)));
+        apart = λ i j d l n e.
+            down_elements_apart i j l (omega arith) (sym (at i d (omega arith)) ∙ e ∙ at j d (omega arith));
+        least = λ k l. subst₂ (λ x y. x ≤ y) (sym first) (sym (at k 0 (omega arith)))
+            (lowest (place_down m (length back) k) (down_within m (length back) k inside (omega arith)));
         next = λ k l. ap₂ (has_edge g) (at k 0 (omega arith)) (at (k + 1) 0 (omega arith)) ∙ edge_down k (omega arith);
         back =
             ap₂ (has_edge g) (ap (λ n. get_or walk (n - 1) 0) long ∙ at (length back - 1) 0 (omega (arith, is.some)))
-            (first ∙ ap (λ i. get_or back i 0) (sym (ap (place_down m (length back)) end ∙ down_around m (length back) inside)))
+            (first ∙ ap (λ i. get_or back i 0)
+            (sym (ap (place_down m (length back)) end ∙ down_around m (length back) inside)))
             ∙ edge_down (length back - 1) (omega (arith, is.some));
       }

@@ -1,5 +1,6 @@
 -- What tests of lists come to: that each number is there once, and that each edge leads to a later place.
-use Rattle.std.proofs.Common.{ℕ, ◌+◌, ◌<◌, ◌≤◌, ◌≡◌, ◌≢◌, inl, inr, Bool, true, false, ◌||◌, ◌==◌, List, [], ◌∷◌, length, get_or, set, take, replicate, Contains, IsPermutation, arith, refl, sym, ap}
+use Rattle.std.proofs.Common.{ℕ, ◌+◌, ◌<◌, ◌≤◌, ◌≡◌, ◌≢◌, inl, inr, Bool, true, false, ◌||◌, ◌==◌, List, [], ◌∷◌}
+use Rattle.std.proofs.Common.{length, get_or, set, take, replicate, Contains, IsPermutation, arith, refl, sym, ap}
 use Rattle.std.proofs.Common.{◌∙◌, subst, length-set, get_or-set_other, get_or-set_same, eq-eqb}
 use Rattle.std.specs.List.{AllPairs}
 use Rattle.std.proofs.lemmas.Bool.{cases_eq, both_ways, or_right, ne_eqb}
@@ -36,29 +37,39 @@ module _ (list : List ℕ) where
   }
 
   module _ (seen : List Bool) (i : ℕ) (are : AreSeen list seen i) (l : i < length list) where
-    pub seen_more : get_or list i 0 < length list → get_or seen (get_or list i 0) false ≡ false → AreSeen list (set seen (get_or list i 0) true) (i + 1)
+    pub seen_more : get_or list i 0 < length list → get_or seen (get_or list i 0) false ≡ false →
+        AreSeen list (set seen (get_or list i 0) true) (i + 1)
     seen_more small fresh =
         let new : is_in (take i list) (get_or list i 0) ≡ false = sym (are.marks (get_or list i 0) small) ∙ fresh in
         record {
           long = length-set seen (get_or list i 0) true ∙ are.long;
           apart = subst (AllPairs (λ x y. x ≢ y)) (sym (take_more list i 0 l))
               (AllPairs-append (λ x y. x ≢ y) (take i list) (get_or list i 0 ∷ []) are.apart
-              (AllPairs-cons_by (λ x y. x ≢ y) (get_or list i 0) [] (λ y c. absurd (Contains-nil y c)) (AllPairs-nil (λ x y. x ≢ y)))
+              (AllPairs-cons_by (λ x y. x ≢ y) (get_or list i 0) [] (λ y c. absurd (Contains-nil y c))
+              (AllPairs-nil (λ x y. x ≢ y)))
               (λ x y c d e. elim (Contains-cases (get_or list i 0) [] y d) [
-                | inl s ↦ both_ways (is_in (take i list) (get_or list i 0)) new (is_in_from (take i list) (get_or list i 0) (subst (Contains (take i list)) (e ∙ sym s) c))
+                | inl s ↦ both_ways (is_in (take i list) (get_or list i 0)) new
+                    (is_in_from (take i list) (get_or list i 0) (subst (Contains (take i list)) (e ∙ sym s) c))
                 | inr n ↦ Contains-nil y n
               ]));
-          below = λ x c. elim (Contains-append_cases (take i list) (get_or list i 0 ∷ []) x (subst (λ xs. Contains xs x) (take_more list i 0 l) c)) [
-            | inl d ↦ are.below x d
-            | inr d ↦ elim (Contains-cases (get_or list i 0) [] x d) [ inl e ↦ subst (λ y. y < length list) e small | inr n ↦ absurd (Contains-nil x n) ]
-          ];
+          below = λ x c. elim (Contains-append_cases (take i list) (get_or list i 0 ∷ []) x
+              (subst (λ xs. Contains xs x) (take_more list i 0 l) c)) [
+                | inl d ↦ are.below x d
+                | inr d ↦ elim (Contains-cases (get_or list i 0) [] x d) [
+                  | inl e ↦ subst (λ y. y < length list) e small
+                  | inr n ↦ absurd (Contains-nil x n)
+                ]
+              ];
           marks = λ x m.
               let more = list_any_more (λ y. y == x) list i 0 l in
               elim (cases_eq x (get_or list i 0)) [
-                | inl e ↦ ap (λ y. get_or (set seen (get_or list i 0) true) y false) e ∙ get_or-set_same seen (get_or list i 0) true false (omega (arith, are.long))
-                    ∙ sym (more ∙ or_right (is_in (take i list) x) (get_or list i 0 == x) (eq-eqb (get_or list i 0) x (sym e)))
+                | inl e ↦ ap (λ y. get_or (set seen (get_or list i 0) true) y false) e
+                    ∙ get_or-set_same seen (get_or list i 0) true false (omega (arith, are.long))
+                    ∙ sym (more
+                    ∙ or_right (is_in (take i list) x) (get_or list i 0 == x) (eq-eqb (get_or list i 0) x (sym e)))
                 | inr n ↦ get_or-set_other seen (get_or list i 0) x true false n ∙ are.marks x m
-                    ∙ sym (more ∙ or_nothing (is_in (take i list) x) (get_or list i 0 == x) (ne_eqb (get_or list i 0) x (λ e. n (sym e))))
+                    ∙ sym (more ∙ or_nothing (is_in (take i list) x) (get_or list i 0 == x)
+                    (ne_eqb (get_or list i 0) x (λ e. n (sym e))))
               ];
         }
 
@@ -66,17 +77,24 @@ module _ (list : List ℕ) where
     pub not_great : length list ≤ get_or list i 0 → IsPermutation (numbers_below (length list)) list → ⊥
     not_great h all = omega (arith, from_order (length list) list all (get_or list i 0) (Contains-get_or list i 0 l))
 
-    pub not_twice : get_or list i 0 < length list → get_or seen (get_or list i 0) false ≡ true → IsPermutation (numbers_below (length list)) list → ⊥
-    not_twice small old all = both_ways (is_in (take i list) (get_or list i 0)) (apart_before list i (order_apart (length list) list all) l) (sym (are.marks (get_or list i 0) small) ∙ old)
+    pub not_twice : get_or list i 0 < length list → get_or seen (get_or list i 0) false ≡ true →
+        IsPermutation (numbers_below (length list)) list → ⊥
+    not_twice small old all = both_ways (is_in (take i list) (get_or list i 0))
+        (apart_before list i (order_apart (length list) list all) l) (sym (are.marks (get_or list i 0) small) ∙ old)
 
   pub all_seen : (seen : List Bool) → AreSeen list seen (length list) → IsPermutation (numbers_below (length list)) list
   all_seen seen are =
       let whole = take_all (length list) list (omega arith) in
-      permutation_of_all (length list) list (subst (AllPairs (λ x y. x ≢ y)) whole are.apart) (λ x c. are.below x (subst (λ xs. Contains xs x) (sym whole) c)) (omega arith)
+      permutation_of_all (length list) list (subst (AllPairs (λ x y. x ≢ y)) whole are.apart)
+      (λ x c. are.below x (subst (λ xs. Contains xs x) (sym whole) c)) (omega arith)
 
 -- an edge that leads to a later place
-pub comes_before_at : (order : List ℕ) → IsOrder order → (p q a b : ℕ) → p < length order → a ≡ place order p → b ≡ place order q → a < b → comes_before order p q ≡ true
-comes_before_at order lawful p q a b l x y h = comes_before_from_places order p q (Contains-order (length order) order lawful.all p l) (omega arith)
+pub comes_before_at : (order : List ℕ) → IsOrder order → (p q a b : ℕ) → p < length order → a ≡ place order p →
+    b ≡ place order q → a < b →
+    comes_before order p q ≡ true
+comes_before_at order lawful p q a b l x y h =
+    comes_before_from_places order p q (Contains-order (length order) order lawful.all p l) (omega arith)
 
-pub not_before_at : (order : List ℕ) (p q a b : ℕ) → a ≡ place order p → b ≡ place order q → b ≤ a → comes_before order p q ≡ true → ⊥
+pub not_before_at : (order : List ℕ) (p q a b : ℕ) → a ≡ place order p → b ≡ place order q → b ≤ a →
+    comes_before order p q ≡ true → ⊥
 not_before_at order p q a b x y h t = omega (arith, places_from_comes_before order p q t)

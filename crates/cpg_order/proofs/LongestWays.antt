@@ -1,5 +1,6 @@
 -- The lengths of the longest ways, found from the last process of a topological order to the first.
-use Rattle.std.proofs.Common.{ℕ, ◌+◌, ◌*◌, ◌<◌, ◌≤◌, ◌≡◌, inl, inr, Bool, true, false, if◌then◌else◌, List, length, get_or, set, map, arith, sym, ap, ◌∙◌, subst, length-set, get_or-set_other}
+use Rattle.std.proofs.Common.{ℕ, ◌+◌, ◌*◌, ◌<◌, ◌≤◌, ◌≡◌, inl, inr, Bool, true, false, if◌then◌else◌, List, length}
+use Rattle.std.proofs.Common.{get_or, set, map, arith, sym, ap, ◌∙◌, subst, length-set, get_or-set_other}
 use Rattle.std.proofs.Common.{get_or-set_same}
 use Rattle.std.proofs.lemmas.Bool.{cases_eq, cases_lt}
 use Rattle.std.proofs.lemmas.List.{ext_get_or, get_or_past}
@@ -19,7 +20,8 @@ use Rattle.cpg_order.proofs.Acyclic.{output_goes_up, tail_is}
 
 -- the longest way over an edge from a process, given how long the ways from other processes are
 abbrev pub longest_from : Graph → List ℕ → ℕ → ℕ
-longest_from g tails p = greatest (map (λ e. (if is_message g e then round g else 0) + get_or tails (target g e) 0) (outputs g p))
+longest_from g tails p =
+    greatest (map (λ e. (if is_message g e then round g else 0) + get_or tails (target g e) 0) (outputs g p))
 
 turn-le : (b : Bool) (n : ℕ) → (if b then n else 0) ≤ n
 turn-le true n = omega arith
@@ -35,32 +37,39 @@ module _ (g : Graph) (within : IsWithinLimits g) (order : List ℕ) (topological
   order_long : length order ≡ process_count g
   order_long = length_order (process_count g) order topological.all
 
-  pub none_found : (tails : List ℕ) → length tails ≡ process_count g → ((p : ℕ) → p < process_count g → get_or tails p 0 ≡ 0) → AreFound g order tails 0
+  pub none_found : (tails : List ℕ) → length tails ≡ process_count g →
+      ((p : ℕ) → p < process_count g → get_or tails p 0 ≡ 0) →
+      AreFound g order tails 0
   none_found tails long zeros = record {
     long = long;
-    found = λ p l m. absurd (let k = place-lt order p (Contains-order (process_count g) order topological.all p l) in omega (arith, order_long));
+    found = λ p l m. absurd (let k = place-lt order p (Contains-order (process_count g) order topological.all p l) in
+        omega (arith, order_long));
     low = λ p. elim (cases_lt p (length tails)) [
       | inl l ↦ omega (arith, zeros p (omega arith))
       | inr l ↦ omega (arith, get_or_past tails p 0 l)
     ];
   }
 
-  module _ (tails : List ℕ) (done p : ℕ) (are : AreFound g order tails done) (inside : p < process_count g) (at : place order p + done + 1 ≡ process_count g) where
+  module _ (tails : List ℕ) (done p : ℕ) (are : AreFound g order tails done) (inside : p < process_count g)
+      (at : place order p + done + 1 ≡ process_count g) where
     pub longest_from-le : longest_from g tails p ≤ 16000000000 + done * 700000000000
     longest_from-le = greatest-le _ _ (λ x c.
-        let r = Contains-map_parts (λ e. (if is_message g e then round g else 0) + get_or tails (target g e) 0) (outputs g p) x c in
+        let r = Contains-map_parts (λ e. (if is_message g e then round g else 0) + get_or tails (target g e) 0)
+        (outputs g p) x c in
         omega (arith, r.2, turn-le (is_message g r.0) (round g), round-le g within, are.low (target g r.0)))
 
     -- the next tail
     pub next_tail : duration g p 0 + longest_from g tails p ≡ tail g p
     next_tail = ap (λ xs. duration g p 0 + greatest xs) (same_map _ _ (outputs g p)
         (λ e c. ap (λ x. (if is_message g e then round g else 0) + x)
-        (are.found (target g e) (within.edges e _ (outputs_parts g p e c).0).to (omega (arith, output_goes_up g order topological p e c)))))
+        (are.found (target g e) (within.edges e _ (outputs_parts g p e c).0).to
+        (omega (arith, output_goes_up g order topological p e c)))))
         ∙ sym (tail_is g order topological p inside)
 
     at_place_of : (q : ℕ) → q < process_count g → place order q ≡ place order p → q ≡ p
     at_place_of q l e =
-        sym (get_or-place order q 0 (Contains-order (process_count g) order topological.all q l)) ∙ ap (λ k. get_or order k 0) e
+        sym (get_or-place order q 0 (Contains-order (process_count g) order topological.all q l))
+        ∙ ap (λ k. get_or order k 0) e
         ∙ get_or-place order p 0 (Contains-order (process_count g) order topological.all p inside)
 
     pub found_more : AreFound g order (set tails p (duration g p 0 + longest_from g tails p)) (done + 1)
@@ -70,24 +79,33 @@ module _ (g : Graph) (within : IsWithinLimits g) (order : List ℕ) (topological
         | inl e ↦ subst (λ x. get_or (set tails p (duration g p 0 + longest_from g tails p)) x 0 ≡ tail g x) (sym e)
             (get_or-set_same tails p (duration g p 0 + longest_from g tails p) 0 (omega (arith, are.long)) ∙ next_tail)
         | inr n ↦ get_or-set_other tails p q (duration g p 0 + longest_from g tails p) 0 n
-            ∙ are.found q l (elim (cases_eq (place order q) (place order p)) [ inl e ↦ absurd (n (at_place_of q l e)) | inr k ↦ omega arith ])
+            ∙ are.found q l (elim (cases_eq (place order q) (place order p)) [
+              | inl e ↦ absurd (n (at_place_of q l e))
+              | inr k ↦ omega arith
+            ])
       ];
       low = λ q. elim (cases_eq q p) [
         | inl e ↦
-            let same : get_or (set tails p (duration g p 0 + longest_from g tails p)) q 0 ≡ duration g p 0 + longest_from g tails p =
-            ap (λ x. get_or (set tails p (duration g p 0 + longest_from g tails p)) x 0) e ∙ get_or-set_same tails p (duration g p 0 + longest_from g tails p) 0 (omega (arith, are.long)) in
+            let same : get_or (set tails p (duration g p 0 + longest_from g tails p)) q 0
+            ≡ duration g p 0 + longest_from g tails p =
+            ap (λ x. get_or (set tails p (duration g p 0 + longest_from g tails p)) x 0) e
+            ∙ get_or-set_same tails p (duration g p 0 + longest_from g tails p) 0 (omega (arith, are.long)) in
             omega (arith, longest_from-le, duration-le g p 0 within inside (omega arith))
         | inr n ↦ omega (arith, get_or-set_other tails p q (duration g p 0 + longest_from g tails p) 0 n, are.low q)
       ];
     }
 
-  pub all_found : (tails : List ℕ) → AreFound g order tails (process_count g) → tails ≡ map (tail g) (numbers_below (process_count g))
-  all_found tails are = ext_get_or 0 tails (map (tail g) (numbers_below (process_count g))) (are.long ∙ sym (length-map-range_with_len (tail g) 0 (process_count g)))
-      (λ p l. let h : p < process_count g = omega (arith, are.long) in are.found p h (omega arith) ∙ sym (get_or-map-below (tail g) (process_count g) p 0 h))
+  pub all_found : (tails : List ℕ) → AreFound g order tails (process_count g) →
+      tails ≡ map (tail g) (numbers_below (process_count g))
+  all_found tails are = ext_get_or 0 tails (map (tail g) (numbers_below (process_count g)))
+      (are.long ∙ sym (length-map-range_with_len (tail g) 0 (process_count g)))
+      (λ p l. let h : p < process_count g = omega (arith, are.long) in
+      are.found p h (omega arith) ∙ sym (get_or-map-below (tail g) (process_count g) p 0 h))
 
 -- the next tail, as code finds it
 pub way_is : (g : Graph) (turn p : ℕ) (outs found tails : List ℕ) → turn ≡ round g → found ≡ tails → outs ≡ outputs g p
-    → greatest (map (λ e. (if is_message g e then turn else 0) + get_or found (target g e) 0) outs) ≡ longest_from g tails p
+    → greatest (map (λ e. (if is_message g e then turn else 0) + get_or found (target g e) 0) outs)
+    ≡ longest_from g tails p
 way_is g turn p outs found tails a b c =
     ap (λ n. greatest (map (λ e. (if is_message g e then n else 0) + get_or found (target g e) 0) outs)) a
     ∙ ap (λ ts. greatest (map (λ e. (if is_message g e then round g else 0) + get_or ts (target g e) 0) outs)) b

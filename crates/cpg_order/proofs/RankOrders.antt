@@ -1,5 +1,6 @@
 -- Ranks that are sorted, and the urgency order that they give.
-use Rattle.std.proofs.Common.{ℕ, zero, suc, ◌+◌, ◌-◌, ◌<◌, ◌≤◌, ◌≡◌, ◌≢◌, ◌⊎◌, inl, inr, true, false, List, [], ◌∷◌, length, get_or, map, All, Contains, IsPermutation, arith, refl, sym, ap, ◌∙◌}
+use Rattle.std.proofs.Common.{ℕ, zero, suc, ◌+◌, ◌-◌, ◌<◌, ◌≤◌, ◌≡◌, ◌≢◌, ◌⊎◌, inl, inr, true, false, List, [], ◌∷◌}
+use Rattle.std.proofs.Common.{length, get_or, map, All, Contains, IsPermutation, arith, refl, sym, ap, ◌∙◌}
 use Rattle.std.proofs.Common.{subst, subst₂, nat_cmp, is_lt, ltb, ◌||◌, ◌&&◌, ◌==◌}
 use Rattle.std.specs.List.{AllPairs}
 use Rattle.std.specs.Ordering.{ordering_then}
@@ -20,15 +21,20 @@ use Rattle.cpg_base.proofs.Places.{from_order}
 use Rattle.cpg_order.proofs.Urgent.{first_from_more, first_from_place, first_chain}
 
 -- a relation between neighbours holds of all pairs if it goes on
-module _ (R : ℕ → ℕ → Type 0) (chain : (p q r : ℕ) → R p q → R q r → R p r) (xs : List ℕ) (next : (k : ℕ) → k + 1 < length xs → R (get_or xs k 0) (get_or xs (k + 1) 0)) where
+module _ (R : ℕ → ℕ → Type 0) (chain : (p q r : ℕ) → R p q → R q r → R p r) (xs : List ℕ)
+    (next : (k : ℕ) → k + 1 < length xs → R (get_or xs k 0) (get_or xs (k + 1) 0)) where
   ahead : (gap i : ℕ) → i + gap + 1 < length xs → R (get_or xs i 0) (get_or xs (i + gap + 1) 0)
-  ahead zero i l = subst (λ k. R (get_or xs i 0) (get_or xs k 0)) (let e : i + 1 ≡ i + zero + 1 = omega arith in e) (next i (omega arith))
-  ahead (suc gap) i l = chain (get_or xs i 0) (get_or xs (i + gap + 1) 0) (get_or xs (i + suc gap + 1) 0) (ahead gap i (omega arith))
-      (subst (λ k. R (get_or xs (i + gap + 1) 0) (get_or xs k 0)) (let e : i + gap + 1 + 1 ≡ i + suc gap + 1 = omega arith in e) (next (i + gap + 1) (omega arith)))
+  ahead zero i l = subst (λ k. R (get_or xs i 0) (get_or xs k 0)) (let e : i + 1 ≡ i + zero + 1 = omega arith in
+      e) (next i (omega arith))
+  ahead (suc gap) i l =
+      chain (get_or xs i 0) (get_or xs (i + gap + 1) 0) (get_or xs (i + suc gap + 1) 0) (ahead gap i (omega arith))
+      (subst (λ k. R (get_or xs (i + gap + 1) 0) (get_or xs k 0))
+      (let e : i + gap + 1 + 1 ≡ i + suc gap + 1 = omega arith in e) (next (i + gap + 1) (omega arith)))
 
   pub all_pairs_from_next : AllPairs R xs
   all_pairs_from_next i j d h l = subst₂ R (get_or_default xs i 0 d (omega arith)) (get_or_default xs j 0 d l)
-      (subst (λ k. R (get_or xs i 0) (get_or xs k 0)) (let e : i + (j - i - 1) + 1 ≡ j = omega arith in e) (ahead (j - i - 1) i (omega arith)))
+      (subst (λ k. R (get_or xs i 0) (get_or xs k 0)) (let e : i + (j - i - 1) + 1 ≡ j = omega arith in
+      e) (ahead (j - i - 1) i (omega arith)))
 
 -- what two ranks say that are not in the wrong order
 pub in_order : (a b p q : ℕ) → is_lt (ordering_then (nat_cmp a b) (nat_cmp q p)) ≡ false → (b < a) ⊎ ((a ≡ b) × (p ≤ q))
@@ -38,49 +44,71 @@ processes_of_ranks : (tails xs : List ℕ) → map (λ r. r.process) (map (rank_
 processes_of_ranks tails [] = refl
 processes_of_ranks tails (x ∷ xs) = ap (λ ys. x ∷ ys) (processes_of_ranks tails xs)
 
-module _ (tails : List ℕ) (sorted : List UrgencyRank) (permutes : IsPermutation (map (rank_of tails) (numbers_below (length tails))) sorted) where
+module _ (tails : List ℕ) (sorted : List UrgencyRank)
+    (permutes : IsPermutation (map (rank_of tails) (numbers_below (length tails))) sorted) where
   all : IsPermutation (numbers_below (length tails)) (map (λ r. r.process) sorted)
-  all = subst (λ xs. IsPermutation xs (map (λ r. r.process) sorted)) (processes_of_ranks tails (numbers_below (length tails))) (IsPermutation-map (λ r. r.process) _ sorted permutes)
+  all = subst (λ xs. IsPermutation xs (map (λ r. r.process) sorted))
+      (processes_of_ranks tails (numbers_below (length tails))) (IsPermutation-map (λ r. r.process) _ sorted permutes)
 
   tail_of_rank : All (λ (r : UrgencyRank). r.tail.0 ≡ get_or tails r.process 0) sorted
-  tail_of_rank = All-permutation (λ (r : UrgencyRank). r.tail.0 ≡ get_or tails r.process 0) (map (rank_of tails) (numbers_below (length tails))) sorted permutes
+  tail_of_rank = All-permutation (λ (r : UrgencyRank). r.tail.0 ≡ get_or tails r.process 0)
+      (map (rank_of tails) (numbers_below (length tails))) sorted permutes
       (λ k d l. subst (λ (r : UrgencyRank). r.tail.0 ≡ get_or tails r.process 0)
-      (sym (get_or-map (rank_of tails) (numbers_below (length tails)) k 0 d (omega (arith, length-map (numbers_below (length tails)) (rank_of tails))))) refl)
+      (sym (get_or-map (rank_of tails) (numbers_below (length tails)) k 0 d
+      (omega (arith, length-map (numbers_below (length tails)) (rank_of tails))))) refl)
 
-  one_after : (k : ℕ) (r s : UrgencyRank) → k + 1 < length sorted → r ≡ get_or sorted k r → s ≡ get_or sorted (k + 1) r → (s.tail.0 < r.tail.0) ⊎ ((r.tail.0 ≡ s.tail.0) × (r.process ≤ s.process)) →
+  one_after : (k : ℕ) (r s : UrgencyRank) → k + 1 < length sorted → r ≡ get_or sorted k r →
+      s ≡ get_or sorted (k + 1) r →
+      (s.tail.0 < r.tail.0) ⊎ ((r.tail.0 ≡ s.tail.0) × (r.process ≤ s.process)) →
       goes_first tails r.process s.process ≡ true
   one_after k r s l is next order =
-      let t : r.tail.0 ≡ get_or tails r.process 0 = subst (λ (x : UrgencyRank). x.tail.0 ≡ get_or tails x.process 0) (sym is) (tail_of_rank k r (omega arith)) in
-      let u : s.tail.0 ≡ get_or tails s.process 0 = subst (λ (x : UrgencyRank). x.tail.0 ≡ get_or tails x.process 0) (sym next) (tail_of_rank (k + 1) r l) in
-      let at : (i : ℕ) → i < length sorted → get_or (map (λ (x : UrgencyRank). x.process) sorted) i 0 ≡ (get_or sorted i r).process =
+      let t : r.tail.0 ≡ get_or tails r.process 0 =
+      subst (λ (x : UrgencyRank). x.tail.0 ≡ get_or tails x.process 0) (sym is) (tail_of_rank k r (omega arith)) in
+      let u : s.tail.0 ≡ get_or tails s.process 0 =
+      subst (λ (x : UrgencyRank). x.tail.0 ≡ get_or tails x.process 0) (sym next) (tail_of_rank (k + 1) r l) in
+      let at : (i : ℕ) → i < length sorted →
+      get_or (map (λ (x : UrgencyRank). x.process) sorted) i 0 ≡ (get_or sorted i r).process =
       λ i m. get_or-map (λ (x : UrgencyRank). x.process) sorted i r 0 m in
-      let apart : r.process ≢ s.process = λ e. order_apart (length tails) (map (λ (x : UrgencyRank). x.process) sorted) all k (k + 1) 0 (omega arith)
+      let apart : r.process ≢ s.process =
+      λ e. order_apart (length tails) (map (λ (x : UrgencyRank). x.process) sorted) all k (k + 1) 0 (omega arith)
       (omega (arith, length-map sorted (λ (x : UrgencyRank). x.process)))
-      (at k (omega arith) ∙ ap (λ (x : UrgencyRank). x.process) (sym is) ∙ e ∙ ap (λ (x : UrgencyRank). x.process) next ∙ sym (at (k + 1) l)) in
+      (at k (omega arith) ∙ ap (λ (x : UrgencyRank). x.process) (sym is) ∙ e ∙ ap (λ (x : UrgencyRank). x.process) next
+      ∙ sym (at (k + 1) l)) in
       elim order [
-        | inl a ↦ first_from_more (get_or tails r.process 0) (get_or tails s.process 0) r.process s.process (omega arith)
-        | inr (a, b) ↦ first_from_place (get_or tails r.process 0) (get_or tails s.process 0) r.process s.process (omega arith) (omega arith)
+        | inl a ↦
+            first_from_more (get_or tails r.process 0) (get_or tails s.process 0) r.process s.process (omega arith)
+        | inr (a, b) ↦ first_from_place (get_or tails r.process 0) (get_or tails s.process 0) r.process s.process
+            (omega arith) (omega arith)
       ]
 
-  pub ranked_from_sorted : ((k : ℕ) (d : UrgencyRank) → k + 1 < length sorted → ((get_or sorted (k + 1) d).tail.0 < (get_or sorted k d).tail.0) ⊎
-      (((get_or sorted k d).tail.0 ≡ (get_or sorted (k + 1) d).tail.0) × ((get_or sorted k d).process ≤ (get_or sorted (k + 1) d).process)))
+  pub ranked_from_sorted : ((k : ℕ) (d : UrgencyRank) → k + 1 < length sorted →
+      ((get_or sorted (k + 1) d).tail.0 < (get_or sorted k d).tail.0) ⊎
+      (((get_or sorted k d).tail.0 ≡ (get_or sorted (k + 1) d).tail.0) ×
+      ((get_or sorted k d).process ≤ (get_or sorted (k + 1) d).process)))
       → AreRanked tails (map (λ r. r.process) sorted)
   ranked_from_sorted next = record {
     all = all;
-    falling = all_pairs_from_next (λ p q. goes_first tails p q ≡ true) (λ p q r. first_chain (get_or tails p 0) (get_or tails q 0) (get_or tails r 0) p q r) (map (λ r. r.process) sorted)
+    falling = all_pairs_from_next (λ p q. goes_first tails p q ≡ true)
+        (λ p q r. first_chain (get_or tails p 0) (get_or tails q 0) (get_or tails r 0) p q r)
+        (map (λ r. r.process) sorted)
         (λ k l.
         let m : k + 1 < length sorted = omega (arith, length-map sorted (λ (x : UrgencyRank). x.process)) in
         let r : UrgencyRank = get_or sorted k (rank_of tails 0) in
         let s : UrgencyRank = get_or sorted (k + 1) r in
         let is : r ≡ get_or sorted k r = get_or_default sorted k (rank_of tails 0) r (omega arith) in
-        subst₂ (λ p q. goes_first tails p q ≡ true) (sym (get_or-map (λ (x : UrgencyRank). x.process) sorted k (rank_of tails 0) 0 (omega arith)))
+        subst₂ (λ p q. goes_first tails p q ≡ true)
+        (sym (get_or-map (λ (x : UrgencyRank). x.process) sorted k (rank_of tails 0) 0 (omega arith)))
         (sym (get_or-map (λ (x : UrgencyRank). x.process) sorted (k + 1) r 0 m))
-        (one_after k r s m is refl (subst (λ (x : UrgencyRank). (s.tail.0 < x.tail.0) ⊎ ((x.tail.0 ≡ s.tail.0) × (x.process ≤ s.process))) (sym is) (next k r m))));
+        (one_after k r s m is refl
+        (subst (λ (x : UrgencyRank). (s.tail.0 < x.tail.0) ⊎ ((x.tail.0 ≡ s.tail.0) × (x.process ≤ s.process)))
+        (sym is) (next k r m))));
   }
 
 -- ---- the urgency order
 
-pub urgency_from_ranks : (g : Graph) (tails order : List ℕ) → tails ≡ map (tail g) (numbers_below (process_count g)) → AreRanked tails order → IsUrgencyOrder g order
+pub urgency_from_ranks : (g : Graph) (tails order : List ℕ) → tails ≡ map (tail g) (numbers_below (process_count g)) →
+    AreRanked tails order →
+    IsUrgencyOrder g order
 urgency_from_ranks g tails order is ranked =
     let long : length tails ≡ process_count g = ap length is ∙ length-map-range_with_len (tail g) 0 (process_count g) in
     let all = subst (λ n. IsPermutation (numbers_below n) order) long ranked.all in
@@ -91,5 +119,7 @@ urgency_from_ranks g tails order is ranked =
       falling = λ i j d h l.
           let p = get_or order i d in
           let q = get_or order j d in
-          subst₂ (λ x y. (ltb y x || ((x == y) && ltb p q)) ≡ true) (tail_at p (Contains-get_or order i d (omega arith))) (tail_at q (Contains-get_or order j d l)) (ranked.falling i j d h l);
+          subst₂ (λ x y. (ltb y x || ((x == y) && ltb p q)) ≡ true)
+          (tail_at p (Contains-get_or order i d (omega arith))) (tail_at q (Contains-get_or order j d l))
+          (ranked.falling i j d h l);
     }

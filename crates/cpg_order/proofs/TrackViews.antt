@@ -1,5 +1,7 @@
--- Each quiet outcome is a track, so the tracks that are quiet give all views; and the views of any reach, of 16,384 tracks at most, are below 2 ^ 64.
-use Rattle.std.proofs.Common.{ℕ, ◌^◌, ◌<◌, ◌≤◌, ◌≡◌, Bool, true, false, cond, not, ◌||◌, List, [], length, get_or, filter, sum_by, arith, sym, ap, ◌∙◌, ⊎_elim, refl}
+-- Each quiet outcome is a track, so the tracks that are quiet give all views; and the views of any reach, of 16,384
+-- tracks at most, are below 2 ^ 64.
+use Rattle.std.proofs.Common.{ℕ, ◌^◌, ◌<◌, ◌≤◌, ◌≡◌, Bool, true, false, cond, not, ◌||◌, List, [], length, get_or}
+use Rattle.std.proofs.Common.{filter, sum_by, arith, sym, ap, ◌∙◌, ⊎_elim, refl}
 use Rattle.std.proofs.lemmas.Nat.{mul-le}
 use Rattle.std.proofs.lemmas.List.FromFn.{length-range_with_len}
 use Rattle.std.proofs.lemmas.List.Elements.{All-from_get_or}
@@ -20,11 +22,15 @@ use Rattle.cpg_order.specs.Track.{is_track, AreTracks}
 
 module _ (g : Graph) where
   pub track_of_quiet : (reached : List ℕ) (o : List Bool) → is_quiet g reached o ≡ true → is_track g o ≡ true
-  track_of_quiet reached o t = all_from (λ (c : ℕ). not (get_or o c false) || active g o (process_of g c)) (numbers_below (condition_count g))
+  track_of_quiet reached o t =
+      all_from (λ (c : ℕ). not (get_or o c false) || active g o (process_of g c)) (numbers_below (condition_count g))
       (λ c d. ⊎_elim
       (λ (e : not (get_or o c false) ≡ true). or_left (not (get_or o c false)) (active g o (process_of g c)) e)
-      (λ (e : is_value_free g reached o c ≡ true). or_right (not (get_or o c false)) (active g o (process_of g c)) (and_parts (is_in reached (value_variable c)) (active g o (process_of g c)) e).1)
-      (or_cases (not (get_or o c false)) (is_value_free g reached o c) (from_all (λ (c : ℕ). not (get_or o c false) || is_value_free g reached o c) (numbers_below (condition_count g)) c t d)))
+      (λ (e : is_value_free g reached o c ≡ true). or_right (not (get_or o c false)) (active g o (process_of g c))
+      (and_parts (is_in reached (value_variable c)) (active g o (process_of g c)) e).1)
+      (or_cases (not (get_or o c false)) (is_value_free g reached o c)
+      (from_all (λ (c : ℕ). not (get_or o c false) || is_value_free g reached o c)
+      (numbers_below (condition_count g)) c t d)))
 
   -- the views of an outcome if it is quiet
   abbrev if_quiet : List ℕ → List Bool → ℕ
@@ -33,7 +39,9 @@ module _ (g : Graph) where
   none_but_tracks : (reached : List ℕ) (o : List Bool) → if_quiet reached o ≡ cond (is_track g o) (if_quiet reached o) 0
   none_but_tracks reached o = ⊎_elim
       (λ (t : is_quiet g reached o ≡ true). ap (λ b. cond b (if_quiet reached o) 0) (sym (track_of_quiet reached o t)))
-      (λ (t : is_quiet g reached o ≡ false). let e : if_quiet reached o ≡ 0 = ap (λ b. cond b (views_of_outcome g reached o) 0) t in e ∙ sym (stays (is_track g o) 0) ∙
+      (λ (t : is_quiet g reached o ≡ false).
+      let e : if_quiet reached o ≡ 0 = ap (λ b. cond b (views_of_outcome g reached o) 0) t in
+      e ∙ sym (stays (is_track g o) 0) ∙
       ap (λ n. cond (is_track g o) n 0) (sym e))
       (cases_Bool (is_quiet g reached o))
     where
@@ -47,31 +55,40 @@ module _ (g : Graph) where
   views_of_tracks reached tracks few are =
       views-sum g reached few
       ∙ sum_by-filter (views_of_outcome g reached) (is_quiet g reached) (outcomes (condition_count g))
-      ∙ same_sum_by (if_quiet reached) (λ o. cond (is_track g o) (if_quiet reached o) 0) (outcomes (condition_count g)) (λ o c. none_but_tracks reached o)
+      ∙ same_sum_by (if_quiet reached) (λ o. cond (is_track g o) (if_quiet reached o) 0) (outcomes (condition_count g))
+      (λ o c. none_but_tracks reached o)
       ∙ sym (sum_by-filter (if_quiet reached) (is_track g) (outcomes (condition_count g)))
-      ∙ sym (sum_by-IsPermutation (if_quiet reached) (filter (is_track g) (outcomes (condition_count g))) tracks are.all)
+      ∙ sym
+      (sum_by-IsPermutation (if_quiet reached) (filter (is_track g) (outcomes (condition_count g))) tracks are.all)
       ∙ sym (sum_by-filter (views_of_outcome g reached) (is_quiet g reached) tracks)
 
   -- ---- a bound
 
-  views_of_outcome_small : process_count g ≤ 128 → g.faults ≤ 8 → (reached : List ℕ) (o : List Bool) → views_of_outcome g reached o < 2 ^ 42
+  views_of_outcome_small : process_count g ≤ 128 → g.faults ≤ 8 → (reached : List ℕ) (o : List Bool) →
+      views_of_outcome g reached o < 2 ^ 42
   views_of_outcome_small few faults reached o = ways_small (free_counts g reached o)
       (let a = count_by-le-length (is_count_free g reached o) (numbers_below (process_count g)) in
       let b = length-range_with_len 0 (process_count g) in omega arith)
       g.faults faults
 
   -- with 16,384 tracks at most
-  pub views_small : process_count g ≤ 128 → g.faults ≤ 8 → (reached : List ℕ) (tracks : List (List Bool)) → AreTracks g tracks → length tracks ≤ 16384 → views g reached ≤ 2 ^ 56
+  pub views_small : process_count g ≤ 128 → g.faults ≤ 8 → (reached : List ℕ) (tracks : List (List Bool)) →
+      AreTracks g tracks → length tracks ≤ 16384 →
+      views g reached ≤ 2 ^ 56
   views_small few faults reached tracks are short =
       let e = views_of_tracks reached tracks few are in
       let a = length-filter (is_quiet g reached) tracks in
       let b = count_by-le-length (is_quiet g reached) tracks in
       let s = sum_by-le (views_of_outcome g reached) (2 ^ 42) (filter (is_quiet g reached) tracks)
       (All-from_get_or (λ o. views_of_outcome g reached o ≤ 2 ^ 42) (filter (is_quiet g reached) tracks) []
-      (λ i l. let v = views_of_outcome_small few faults reached (get_or (filter (is_quiet g reached) tracks) i []) in omega arith)) in
-      let m = mul-le (length (filter (is_quiet g reached) tracks)) (2 ^ 42) 16384 (2 ^ 42) (omega arith) (omega arith) in
+      (λ i l. let v = views_of_outcome_small few faults reached (get_or (filter (is_quiet g reached) tracks) i []) in
+      omega arith)) in
+      let m =
+      mul-le (length (filter (is_quiet g reached) tracks)) (2 ^ 42) 16384 (2 ^ 42) (omega arith) (omega arith) in
       omega arith
 
   -- a number of 64 bits holds the views with 16,384 tracks at most
-  pub views_fit : process_count g ≤ 128 → g.faults ≤ 8 → (reached : List ℕ) (tracks : List (List Bool)) → AreTracks g tracks → length tracks ≤ 16384 → views g reached < 2 ^ 64
+  pub views_fit : process_count g ≤ 128 → g.faults ≤ 8 → (reached : List ℕ) (tracks : List (List Bool)) →
+      AreTracks g tracks → length tracks ≤ 16384 →
+      views g reached < 2 ^ 64
   views_fit few faults reached tracks are short = let v = views_small few faults reached tracks are short in omega arith

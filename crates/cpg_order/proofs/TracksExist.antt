@@ -1,5 +1,6 @@
 -- Choosing the conditions in the urgency order lists the tracks in order.
-use Rattle.std.proofs.Common.{ℕ, ◌<◌, ◌≡◌, ◌≢◌, Bool, true, false, not, cond, ◌&&◌, IsTrue, List, [], ◌∷◌, length, get_or, set, filter, Contains, arith, sym, ap, ◌∙◌, subst, ⊎_elim}
+use Rattle.std.proofs.Common.{ℕ, ◌<◌, ◌≡◌, ◌≢◌, Bool, true, false, not, cond, ◌&&◌, IsTrue, List, [], ◌∷◌, length}
+use Rattle.std.proofs.Common.{get_or, set, filter, Contains, arith, sym, ap, ◌∙◌, subst, ⊎_elim}
 use Rattle.std.specs.List.{AllPairs}
 use Rattle.std.proofs.lemmas.Bool.{and_parts, and_from, both_ways, not-true, not_from_false}
 use Rattle.std.proofs.lemmas.List.{length-replicate, get_or-replicate, length-set, get_or-set_same, get_or-set_other}
@@ -7,10 +8,12 @@ use Rattle.std.proofs.lemmas.List.Elements.{Contains-append_cases}
 use Rattle.std.proofs.lemmas.List.Kept.{AllPairs-filter}
 use Rattle.cpg_base.specs.Numbers.{numbers_below}
 use Rattle.cpg_base.specs.Graph.{Graph, condition_count, process_of}
-use Rattle.cpg_base.proofs.Lists.{Contains-first, Contains-rest, Contains-cases, Contains-nil, Contains-numbers, numbers-Contains, list_any_parts, list_any_true, Contains-filter_parts}
+use Rattle.cpg_base.proofs.Lists.{Contains-first, Contains-rest, Contains-cases, Contains-nil, Contains-numbers}
+use Rattle.cpg_base.proofs.Lists.{numbers-Contains, list_any_parts, list_any_true, Contains-filter_parts}
 use Rattle.cpg_base.proofs.Lists.{Contains-filter}
 use Rattle.cpg_base.proofs.Items.{process_of_below}
-use Rattle.cpg_base.proofs.Pairs.{AllPairs-nil, AllPairs-first, AllPairs-rest, AllPairs-cons_by, AllPairs-append, permutation_of_same}
+use Rattle.cpg_base.proofs.Pairs.{AllPairs-nil, AllPairs-first, AllPairs-rest, AllPairs-cons_by, AllPairs-append}
+use Rattle.cpg_base.proofs.Pairs.{permutation_of_same}
 use Rattle.cpg_order.specs.Urgency.{is_more_urgent, IsUrgencyOrder, IsTopological}
 use Rattle.cpg_base.specs.Order.{place}
 use Rattle.cpg_order.specs.Deciding.{outcomes, agree_on, earlier_conditions}
@@ -23,17 +26,25 @@ use Rattle.cpg_order.proofs.QuietOutcomes.{from_quiet_outcomes, Contains-quiet_o
 use Rattle.cpg_order.specs.Track.{is_track, is_outcome_before, AreTracks}
 
 module _ (g : Graph) where
-  agree_chosen : (reached cs : List ℕ) (o q : List Bool) → Contains (chosen g reached cs o) q → (d : ℕ) → (Contains cs d → ⊥) → get_or o d false ≡ get_or q d false
-  agree_chosen reached [] o q k d n = ⊎_elim (λ (e : o ≡ q). ap (λ r. get_or r d false) e) (λ (c : Contains [] q). absurd (Contains-nil q c)) (Contains-cases o [] q k)
+  agree_chosen : (reached cs : List ℕ) (o q : List Bool) → Contains (chosen g reached cs o) q → (d : ℕ) →
+      (Contains cs d → ⊥) →
+      get_or o d false ≡ get_or q d false
+  agree_chosen reached [] o q k d n = ⊎_elim (λ (e : o ≡ q). ap (λ r. get_or r d false) e)
+      (λ (c : Contains [] q). absurd (Contains-nil q c)) (Contains-cases o [] q k)
   agree_chosen reached (c ∷ cs) o q k d n = ⊎_elim
       (λ (h : Contains (chosen g reached cs o) q). agree_chosen reached cs o q h d (λ i. n (Contains-rest c cs d i)))
-      (λ (h : Contains (cond (is_value_free g reached o c) (chosen g reached cs (set o c true)) []) q). second (is_value_free g reached o c) h
+      (λ (h : Contains (cond (is_value_free g reached o c) (chosen g reached cs (set o c true)) []) q).
+      second (is_value_free g reached o c) h
       (λ i. agree_chosen reached cs (set o c true) q i d (λ j. n (Contains-rest c cs d j))))
-      (Contains-append_cases (chosen g reached cs o) (cond (is_value_free g reached o c) (chosen g reached cs (set o c true)) []) q k)
+      (Contains-append_cases (chosen g reached cs o)
+      (cond (is_value_free g reached o c) (chosen g reached cs (set o c true)) []) q k)
     where
-      second : (b : Bool) → Contains (cond b (chosen g reached cs (set o c true)) []) q → (Contains (chosen g reached cs (set o c true)) q → get_or (set o c true) d false ≡ get_or q d false) →
+      second : (b : Bool) → Contains (cond b (chosen g reached cs (set o c true)) []) q →
+          (Contains (chosen g reached cs (set o c true)) q → get_or (set o c true) d false ≡ get_or q d false) →
           get_or o d false ≡ get_or q d false
-      second true i f = sym (get_or-set_other o c d true false (λ e. n (subst (Contains (c ∷ cs)) (sym e) (Contains-first c cs)))) ∙ f i
+      second true i f =
+          sym (get_or-set_other o c d true false (λ e. n (subst (Contains (c ∷ cs)) (sym e) (Contains-first c cs))))
+          ∙ f i
       second false i f = absurd (Contains-nil q i)
 
   -- the first outcome comes before the second
@@ -42,8 +53,10 @@ module _ (g : Graph) where
 
   before_itself : (o : List Bool) → Before o o → ⊥
   before_itself o t =
-      let r = list_any_parts (λ c. not (get_or o c false) && get_or o c false && agree_on (earlier_conditions g c) o o) (numbers_below (condition_count g)) t in
-      let s = and_parts (not (get_or o r.0 false) && get_or o r.0 false) (agree_on (earlier_conditions g r.0) o o) r.2 in
+      let r = list_any_parts (λ c. not (get_or o c false) && get_or o c false && agree_on (earlier_conditions g c) o o)
+      (numbers_below (condition_count g)) t in
+      let s =
+      and_parts (not (get_or o r.0 false) && get_or o r.0 false) (agree_on (earlier_conditions g r.0) o o) r.2 in
       let q = and_parts (not (get_or o r.0 false)) (get_or o r.0 false) s.0 in
       both_ways (get_or o r.0 false) (not-true (get_or o r.0 false) q.0) q.1
 
@@ -53,55 +66,79 @@ module _ (g : Graph) where
     at c = place order (process_of g c)
 
     -- false at c comes before true at c, if they agree on what is earlier
-    false_first : (c : ℕ) (q r : List Bool) → c < condition_count g → get_or q c false ≡ false → get_or r c false ≡ true → ((e : ℕ) → at e < at c → get_or q e false ≡ get_or r e false) → Before q r
-    false_first c q r h x y agree = list_any_true (λ c. not (get_or q c false) && get_or r c false && agree_on (earlier_conditions g c) q r) (numbers_below (condition_count g)) c
+    false_first : (c : ℕ) (q r : List Bool) → c < condition_count g → get_or q c false ≡ false →
+        get_or r c false ≡ true → ((e : ℕ) → at e < at c → get_or q e false ≡ get_or r e false) → Before q r
+    false_first c q r h x y agree =
+        list_any_true (λ c. not (get_or q c false) && get_or r c false && agree_on (earlier_conditions g c) q r)
+        (numbers_below (condition_count g)) c
         (Contains-numbers (condition_count g) c h)
         (and_from _ _ (and_from _ _ (not_from_false (get_or q c false) x) y)
         (agree_from (earlier_conditions g c) q r (λ e k.
-        let i = Contains-filter_parts (λ (d : ℕ). is_more_urgent g (process_of g d) (process_of g c)) (numbers_below (condition_count g)) e k in
+        let i = Contains-filter_parts (λ (d : ℕ). is_more_urgent g (process_of g d) (process_of g c))
+        (numbers_below (condition_count g)) e k in
         let l = numbers-Contains (condition_count g) e i.0 in
-        agree e (urgent_first g order urgency (process_of g e) (process_of g c) (process_of_below g e l) (process_of_below g c h) i.1))))
+        agree e (urgent_first g order urgency (process_of g e) (process_of g c) (process_of_below g e l)
+        (process_of_below g c h) i.1))))
 
-    chosen_in_order : (cs : List ℕ) (o : List Bool) → length o ≡ condition_count g → ((c : ℕ) → Contains cs c → c < condition_count g) → ((c : ℕ) → Contains cs c → get_or o c false ≡ false) →
+    chosen_in_order : (cs : List ℕ) (o : List Bool) → length o ≡ condition_count g →
+        ((c : ℕ) → Contains cs c → c < condition_count g) →
+        ((c : ℕ) → Contains cs c → get_or o c false ≡ false) →
         AllPairs (λ c d. at c < at d) cs → AllPairs Before (chosen g reached cs o)
-    chosen_in_order [] o size inside unset rise = AllPairs-cons_by Before o [] (λ q c. absurd (Contains-nil q c)) (AllPairs-nil Before)
+    chosen_in_order [] o size inside unset rise =
+        AllPairs-cons_by Before o [] (λ q c. absurd (Contains-nil q c)) (AllPairs-nil Before)
     chosen_in_order (c ∷ cs) o size inside unset rise =
         let h = inside c (Contains-first c cs) in
         let after = λ (d : ℕ) (k : Contains cs d). AllPairs-first (λ x y. at x < at y) c cs rise d k in
         let apart = λ (k : Contains cs c). let l = after c k in let z : ⊥ = omega arith in z in
-        let earlier = λ (e : ℕ) (l : at e < at c) (k : Contains cs e). let m = after e k in let z : ⊥ = omega arith in z in
-        let second = chosen_in_order cs (set o c true) (length-set o c true ∙ size) (λ d k. inside d (Contains-rest c cs d k))
-        (λ d k. get_or-set_other o c d true false (λ e. apart (subst (Contains cs) e k)) ∙ unset d (Contains-rest c cs d k)) (AllPairs-rest (λ x y. at x < at y) c cs rise) in
-        AllPairs-append Before (chosen g reached cs o) (cond (is_value_free g reached o c) (chosen g reached cs (set o c true)) [])
-        (chosen_in_order cs o size (λ d k. inside d (Contains-rest c cs d k)) (λ d k. unset d (Contains-rest c cs d k)) (AllPairs-rest (λ x y. at x < at y) c cs rise))
+        let earlier =
+        λ (e : ℕ) (l : at e < at c) (k : Contains cs e). let m = after e k in let z : ⊥ = omega arith in z in
+        let second =
+        chosen_in_order cs (set o c true) (length-set o c true ∙ size) (λ d k. inside d (Contains-rest c cs d k))
+        (λ d k. get_or-set_other o c d true false (λ e. apart (subst (Contains cs) e k))
+        ∙ unset d (Contains-rest c cs d k)) (AllPairs-rest (λ x y. at x < at y) c cs rise) in
+        AllPairs-append Before (chosen g reached cs o)
+        (cond (is_value_free g reached o c) (chosen g reached cs (set o c true)) [])
+        (chosen_in_order cs o size (λ d k. inside d (Contains-rest c cs d k)) (λ d k. unset d (Contains-rest c cs d k))
+        (AllPairs-rest (λ x y. at x < at y) c cs rise))
         (if_free (is_value_free g reached o c) second)
         (λ q r i j. in_free (is_value_free g reached o c) r j (λ k. false_first c q r h
         (sym (agree_chosen reached cs o q i c apart) ∙ unset c (Contains-first c cs))
         (sym (agree_chosen reached cs (set o c true) r k c apart) ∙ get_or-set_same o c true false (omega arith))
-        (λ e l. sym (agree_chosen reached cs o q i e (earlier e l)) ∙ sym (get_or-set_other o c e true false (λ m. let x = ap at m in omega arith)) ∙
+        (λ e l. sym (agree_chosen reached cs o q i e (earlier e l))
+        ∙ sym (get_or-set_other o c e true false (λ m. let x = ap at m in omega arith)) ∙
         agree_chosen reached cs (set o c true) r k e (earlier e l))))
       where
-        if_free : (b : Bool) → AllPairs Before (chosen g reached cs (set o c true)) → AllPairs Before (cond b (chosen g reached cs (set o c true)) [])
+        if_free : (b : Bool) → AllPairs Before (chosen g reached cs (set o c true)) →
+            AllPairs Before (cond b (chosen g reached cs (set o c true)) [])
         if_free true p = p
         if_free false p = AllPairs-nil Before
 
-        in_free : {P : Type 0} (b : Bool) (r : List Bool) → Contains (cond b (chosen g reached cs (set o c true)) []) r → (Contains (chosen g reached cs (set o c true)) r → P) → P
+        in_free : {P : Type 0} (b : Bool) (r : List Bool) →
+            Contains (cond b (chosen g reached cs (set o c true)) []) r →
+            (Contains (chosen g reached cs (set o c true)) r → P) → P
         in_free true r k f = f k
         in_free false r k f = absurd (Contains-nil r k)
 
   -- ---- the tracks
 
-  pub tracks_are : (order : List ℕ) → IsUrgencyOrder g order → IsTopological g order → AreTracks g (tracks_along g order)
+  pub tracks_are : (order : List ℕ) → IsUrgencyOrder g order → IsTopological g order →
+      AreTracks g (tracks_along g order)
   tracks_are order urgency topological =
-      let in_order = chosen_in_order order urgency (all_values g) (conditions_along g order) (all_false g) (length-replicate (condition_count g) false) (λ c k. (from_along g order c k).0)
-      (λ c k. get_or-replicate (condition_count g) c false false (from_along g order c k).0) (conditions_rise g order topological) in
+      let in_order = chosen_in_order order urgency (all_values g) (conditions_along g order) (all_false g)
+      (length-replicate (condition_count g) false) (λ c k. (from_along g order c k).0)
+      (λ c k. get_or-replicate (condition_count g) c false false (from_along g order c k).0)
+      (conditions_rise g order topological) in
       record {
         all = permutation_of_same (filter (is_track g) (outcomes (condition_count g))) (tracks_along g order)
-            (AllPairs-filter (λ a b. a ≢ b) (is_track g) (outcomes (condition_count g)) (outcomes_apart (condition_count g)))
-            (λ i j d h l e. before_itself (get_or (tracks_along g order) i d) (subst (λ q. Before (get_or (tracks_along g order) i d) q) (sym e) (in_order i j d h l)))
+            (AllPairs-filter (λ a b. a ≢ b) (is_track g) (outcomes (condition_count g))
+            (outcomes_apart (condition_count g)))
+            (λ i j d h l e. before_itself (get_or (tracks_along g order) i d)
+            (subst (λ q. Before (get_or (tracks_along g order) i d) q) (sym e) (in_order i j d h l)))
             (λ o c. let r = Contains-filter_parts (is_track g) (outcomes (condition_count g)) o c in
-            Contains-quiet_outcomes g order topological (all_values g) o (length_of_outcome (condition_count g) o r.0) (quiet_is_track g o ∙ r.1))
+            Contains-quiet_outcomes g order topological (all_values g) o (length_of_outcome (condition_count g) o r.0)
+            (quiet_is_track g o ∙ r.1))
             (λ o c. let r = from_quiet_outcomes g order topological (all_values g) o c in
-            Contains-filter (is_track g) (outcomes (condition_count g)) o (sym (quiet_is_track g o) ∙ r.1) (Contains-outcomes (condition_count g) o r.0));
+            Contains-filter (is_track g) (outcomes (condition_count g)) o (sym (quiet_is_track g o) ∙ r.1)
+            (Contains-outcomes (condition_count g) o r.0));
         in_order = in_order;
       }

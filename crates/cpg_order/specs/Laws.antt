@@ -1,7 +1,8 @@
 -- The laws on orders, activations, tails and deciding conditions.
 use Rattle.std.specs.Prelude.{ℕ, ◌+◌, ◌≡◌, ◌<◌, true, if◌then◌else◌, Bool, List, length, map}
 use Rattle.cpg_base.specs.Numbers.{greatest}
-use Rattle.cpg_base.specs.Graph.{Graph, process_count, condition_count, process_of, process_at, target, inputs, outputs, is_message}
+use Rattle.cpg_base.specs.Graph.{Graph, process_count, condition_count, process_of, process_at, target, inputs, outputs}
+use Rattle.cpg_base.specs.Graph.{is_message}
 use Rattle.cpg_base.specs.Activity.{activation, activation_by, active, live}
 use Rattle.cpg_base.specs.Duration.{duration}
 use Rattle.cpg_base.specs.Bus.{round}
@@ -12,11 +13,13 @@ use Rattle.cpg_order.specs.Deciding.{decides, deciding, agree_on}
 
 -- each graph has one urgency order
 abbrev pub HasOneUrgencyOrder : Type 0
-HasOneUrgencyOrder = (g : Graph) → ((order : List ℕ) × IsUrgencyOrder g order) × ((a b : List ℕ) → IsUrgencyOrder g a → IsUrgencyOrder g b → a ≡ b)
+HasOneUrgencyOrder = (g : Graph) →
+    ((order : List ℕ) × IsUrgencyOrder g order) × ((a b : List ℕ) → IsUrgencyOrder g a → IsUrgencyOrder g b → a ≡ b)
 
 -- if a graph has a topological order, its urgency order is one
 abbrev pub UrgencyOrderIsTopological : Type 0
-UrgencyOrderIsTopological = (g : Graph) (some order : List ℕ) → IsWithinLimits g → IsTopological g some → IsUrgencyOrder g order → IsTopological g order
+UrgencyOrderIsTopological = (g : Graph) (some order : List ℕ) → IsWithinLimits g → IsTopological g some →
+    IsUrgencyOrder g order → IsTopological g order
 
 -- a graph that has a topological order has no cycle
 abbrev pub OrderLeavesNoCycle : Type 0
@@ -24,17 +27,20 @@ OrderLeavesNoCycle = (g : Graph) (order : List ℕ) → IsTopological g order �
 
 -- under a topological order a process is active by its inputs, an input being live by its source
 abbrev pub ActivationFollowsInputs : Type 0
-ActivationFollowsInputs = (g : Graph) (order : List ℕ) → IsTopological g order → (values : List Bool) (p : ℕ) → p < process_count g →
+ActivationFollowsInputs =
+    (g : Graph) (order : List ℕ) → IsTopological g order → (values : List Bool) (p : ℕ) → p < process_count g →
     activation g values p ≡ activation_by (process_at g p).join (inputs g p) (live g values)
 
 -- under a topological order a way goes on over the output with the longest way
 abbrev pub TailFollowsOutputs : Type 0
 TailFollowsOutputs = (g : Graph) (order : List ℕ) → IsTopological g order → (p : ℕ) → p < process_count g →
-    tail g p ≡ duration g p 0 + greatest (map (λ e. (if is_message g e then round g else 0) + tail g (target g e)) (outputs g p))
+    tail g p ≡ duration g p 0
+    + greatest (map (λ e. (if is_message g e then round g else 0) + tail g (target g e)) (outputs g p))
 
 -- the process of a condition that decides another process is active
 abbrev pub DecidingIsActive : Type 0
-DecidingIsActive = (g : Graph) (order : List ℕ) → IsUrgencyOrder g order → IsTopological g order → (values : List Bool) (p c : ℕ) → c < condition_count g →
+DecidingIsActive = (g : Graph) (order : List ℕ) → IsUrgencyOrder g order → IsTopological g order →
+    (values : List Bool) (p c : ℕ) → c < condition_count g →
     decides g values p c ≡ true → active g values (process_of g c) ≡ true
 
 -- two outcomes that agree on each condition that decides a process in the first give it the same activation

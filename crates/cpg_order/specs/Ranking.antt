@@ -4,7 +4,8 @@ use Rattle.cpg_base.specs.Numbers.{numbers_below}
 
 -- a longer way goes first, and of equal ones the lower number
 abbrev pub goes_first : List ℕ → ℕ → ℕ → Bool
-goes_first tails p q = nat_lt (get_or tails q 0) (get_or tails p 0) || ((get_or tails p 0 == get_or tails q 0) && nat_lt p q)
+goes_first tails p q =
+    nat_lt (get_or tails q 0) (get_or tails p 0) || ((get_or tails p 0 == get_or tails q 0) && nat_lt p q)
 
 -- every number once, the longer ways first
 pub record AreRanked (tails order : List ℕ) : Type 0 where

@@ -1,5 +1,6 @@
 -- How processes are put in order one after another: each when the sources of all its inputs stand in it.
-use Rattle.std.specs.Prelude.{ℕ, ◌≡◌, ◌≢◌, ◌<◌, ◌≤◌, ◌+◌, ◌-◌, not, List, length, filter, get_or, take, AllPairs, Contains, IsTrue}
+use Rattle.std.specs.Prelude.{ℕ, ◌≡◌, ◌≢◌, ◌<◌, ◌≤◌, ◌+◌, ◌-◌, not, List, length, filter, get_or, take, AllPairs}
+use Rattle.std.specs.Prelude.{Contains, IsTrue}
 use Rattle.cpg_base.specs.Graph.{Graph, process_count, source, inputs}
 use Rattle.cpg_order.specs.Reach.{is_in}
 use Rattle.cpg_order.specs.Cycle.{has_edge}
@@ -16,7 +17,8 @@ pub record AreReady (waiting ready : List ℕ) : Type 0 where
 
 -- the sources of a listed process's inputs are listed before it
 abbrev pub StandAfterSources : Graph → List ℕ → Type 0
-StandAfterSources g ready = (k : ℕ) → k < length ready → (e : ℕ) → Contains (inputs g (get_or ready k 0)) e → Contains (take k ready) (source g e)
+StandAfterSources g ready = (k : ℕ) → k < length ready → (e : ℕ) → Contains (inputs g (get_or ready k 0)) e →
+    Contains (take k ready) (source g e)
 
 -- the first of those that are listed are settled, and the others wait for as many inputs as are written down
 pub record AreSettled (g : Graph) (settled : ℕ) (waiting ready : List ℕ) : Type 0 where
@@ -30,7 +32,8 @@ pub record AreSettled (g : Graph) (settled : ℕ) (waiting ready : List ℕ) : T
 pub record AreStuck (g : Graph) (waiting : List ℕ) : Type 0 where
   pub long : length waiting ≡ process_count g
   pub some : (p : ℕ) × (p < process_count g) × (0 < get_or waiting p 0)
-  pub each : (p : ℕ) → p < process_count g → 0 < get_or waiting p 0 → (e : ℕ) × Contains (inputs g p) e × (0 < get_or waiting (source g e) 0)
+  pub each : (p : ℕ) → p < process_count g → 0 < get_or waiting p 0 →
+      (e : ℕ) × Contains (inputs g p) e × (0 < get_or waiting (source g e) 0)
 
 -- different processes, each with an edge from the next, and the last with one from the first
 pub record IsCycleBack (g : Graph) (back : List ℕ) : Type 0 where

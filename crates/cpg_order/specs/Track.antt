@@ -1,5 +1,6 @@
 -- Tracks: the ways through the conditions. Each is represented by one outcome.
-use Rattle.std.specs.Prelude.{ℕ, Bool, false, not, ◌||◌, ◌&&◌, List, filter, get_or, length, IsTrue, IsPermutation, AllPairs}
+use Rattle.std.specs.Prelude.{ℕ, Bool, false, not, ◌||◌, ◌&&◌, List, filter, get_or, length, IsTrue, IsPermutation}
+use Rattle.std.specs.Prelude.{AllPairs}
 use Rattle.std.specs.List.{list_all, list_any}
 use Rattle.cpg_base.specs.Numbers.{numbers_below}
 use Rattle.cpg_base.specs.Graph.{Graph, condition_count, process_of}
@@ -22,7 +23,8 @@ most_tracks = MOST_TRACKS
 -- at the first condition in urgency order at which they differ, the first outcome is false
 abbrev pub is_outcome_before : Graph → List Bool → List Bool → Bool
 is_outcome_before g o p = list_any
-    (λ c. not (get_or o c false) && get_or p c false && agree_on (earlier_conditions g c) o p) (numbers_below (condition_count g))
+    (λ c. not (get_or o c false) && get_or p c false && agree_on (earlier_conditions g c) o p)
+    (numbers_below (condition_count g))
 
 -- each track once, in order
 pub record AreTracks (g : Graph) (tracks : List (List Bool)) : Type 0 where

@@ -17,17 +17,23 @@ unfolding head_or
 same_head f e fs es is = ap (head_or f) is
 
 -- no call of a stream failed that was followed to its close
-pub closed_sound : (h : Head) (table : NodeTable) (name : List ℕ) (past now : List Fetch) (start : List ℕ) (old new : SinkState) → IsStreamed (Completes h table) name past now start old new →
+pub closed_sound : (h : Head) (table : NodeTable) (name : List ℕ) (past now : List Fetch) (start : List ℕ)
+    (old new : SinkState) →
+    IsStreamed (Completes h table) name past now start old new →
     (fetch : Fetch) (before : List Fetch) → now ≡ fetch ∷ before → fetch.failed ≡ true → ⊥
 closed_sound h table name past now start old new s fetch before is failed =
-    true≢false (sym failed ∙ (ap (λ (f : Fetch). f.failed) (same_head fetch s.fetch before past (sym is ∙ s.history_is)) ∙ s.is.1.sound))
+    true≢false (sym failed
+    ∙ (ap (λ (f : Fetch). f.failed) (same_head fetch s.fetch before past (sym is ∙ s.history_is)) ∙ s.is.1.sound))
 
 -- a call of a stream failed only if the shelf met a fault
-pub failed_rose : (P : Type 0) (h : Head) (table : NodeTable) (name : List ℕ) (past now : List Fetch) (start : List ℕ) (old new : SinkState) (broken : Broken) →
+pub failed_rose : (P : Type 0) (h : Head) (table : NodeTable) (name : List ℕ) (past now : List Fetch) (start : List ℕ)
+    (old new : SinkState) (broken : Broken) →
     IsStreamed (λ s. Breaks h table s broken) name past now start old new →
     (broken ≡ Shelf → P) → (fetch : Fetch) (before : List Fetch) → now ≡ fetch ∷ before → fetch.failed ≡ true → P
 failed_rose P h table name past now start old new Shelf s rose fetch before is failed = rose refl
 failed_rose P h table name past now start old new Sink s rose fetch before is failed =
-    absurd (true≢false (sym failed ∙ (ap (λ (f : Fetch). f.failed) (same_head fetch s.fetch before past (sym is ∙ s.history_is)) ∙ s.is.1.sound)))
+    absurd (true≢false (sym failed
+    ∙ (ap (λ (f : Fetch). f.failed) (same_head fetch s.fetch before past (sym is ∙ s.history_is)) ∙ s.is.1.sound)))
 failed_rose P h table name past now start old new (Refused fault) s rose fetch before is failed =
-    absurd (true≢false (sym failed ∙ (ap (λ (f : Fetch). f.failed) (same_head fetch s.fetch before past (sym is ∙ s.history_is)) ∙ s.is.1.sound)))
+    absurd (true≢false (sym failed
+    ∙ (ap (λ (f : Fetch). f.failed) (same_head fetch s.fetch before past (sym is ∙ s.history_is)) ∙ s.is.1.sound)))

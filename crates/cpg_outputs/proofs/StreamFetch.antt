@@ -7,7 +7,9 @@ use Rattle.cpg_live.specs.Following.{IsStreamed, Stream}
 use Rattle.cpg_live.specs.declared.following.Broken.{Broken}
 
 -- a stream that was followed, to its close or not, is one fetch more
-pub fetch_of : (Is : Stream → Type 0) (Breaks : Broken → Stream → Type 0) (name : List ℕ) (past now : List Fetch) (start : List ℕ) (old new : SinkState) (result : Result Unit Broken) →
-    MatchResult result (λ _. IsStreamed Is name past now start old new) (λ broken. IsStreamed (Breaks broken) name past now start old new) → (fetch : Fetch) × (now ≡ fetch ∷ past)
+pub fetch_of : (Is : Stream → Type 0) (Breaks : Broken → Stream → Type 0) (name : List ℕ) (past now : List Fetch)
+    (start : List ℕ) (old new : SinkState) (result : Result Unit Broken) →
+    MatchResult result (λ _. IsStreamed Is name past now start old new)
+    (λ broken. IsStreamed (Breaks broken) name past now start old new) → (fetch : Fetch) × (now ≡ fetch ∷ past)
 fetch_of Is Breaks name past now start old new (Ok done) s = (s.fetch, s.history_is)
 fetch_of Is Breaks name past now start old new (Err broken) s = (s.fetch, s.history_is)

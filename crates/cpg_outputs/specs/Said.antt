@@ -19,13 +19,14 @@ IsEnded (Ok done) err status = (status ≡ 0) × Untouched err
 IsEnded (Err WriteFault.Failed) err status = (status ≡ 3) × (Whole err write_fault_line ⊎ Part err write_fault_line)
 IsEnded (Err WriteFault.OutOfMemory) err status = Sent err status (status_of Memory) (line_of Memory)
 
--- what `err` and the status say of a run that stops: its line, or that of out of memory if there is none for it. The lines of words
--- without a form, of a read fault and of out of memory need none.
+-- what `err` and the status say of a run that stops: its line, or that of out of memory if there is none for it. The
+-- lines of words without a form, of a read fault and of out of memory need none.
 abbrev pub IsStopped : Halt → SinkSeen → ℕ → Type 0
 IsStopped Words err status = Sent err status (status_of Words) (line_of Words)
 IsStopped Read err status = Sent err status (status_of Read) (line_of Read)
 IsStopped Memory err status = Sent err status (status_of Memory) (line_of Memory)
-IsStopped halt err status = Sent err status (status_of halt) (line_of halt) ⊎ Sent err status (status_of Memory) (line_of Memory)
+IsStopped halt err status =
+    Sent err status (status_of halt) (line_of halt) ⊎ Sent err status (status_of Memory) (line_of Memory)
 
 -- what a run sees of a stream and of `out`
 abbrev pub streamed : Fetch → SinkSeen → Stream
@@ -39,10 +40,12 @@ IsSaid err status (Broken.Refused fault) = Sent err status 4 (fault_line fault)
 
 -- the stream is followed to its close and nothing is reported, or it isn't and the cause is reported
 abbrev pub IsToldTo : Head → NodeTable → Stream → SinkSeen → ℕ → Type 0
-IsToldTo h table s err status = (Completes h table s × (status ≡ 0) × Untouched err) ⊎ ((broken : Broken) × Breaks h table s broken × IsSaid err status broken)
+IsToldTo h table s err status = (Completes h table s × (status ≡ 0) × Untouched err) ⊎
+    ((broken : Broken) × Breaks h table s broken × IsSaid err status broken)
 
 -- how a run ends whose node follows a stream, which is fetched once
-pub record IsFollowedAt (h : Head) (table : NodeTable) (name : Text) (past now : List Fetch) (out err : SinkSeen) (status : ℕ) : Type 0 where
+pub record IsFollowedAt (h : Head) (table : NodeTable) (name : Text) (past now : List Fetch) (out err : SinkSeen)
+    (status : ℕ) : Type 0 where
   pub fetch : Fetch
   pub named : fetch.name ≡ name
   pub history : now ≡ fetch ∷ past

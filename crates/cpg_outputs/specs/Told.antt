@@ -31,13 +31,14 @@ pub record Part (sink : SinkSeen) (bytes : List ℕ) : Type 0 where
   pub rose : Rose sink.before sink.now
   pub prefix : TookPrefix sink.old sink.new bytes
 
--- Bytes were sent to a sink under a status. Status 3 means that the sink met a fault; under any other they were taken whole.
+-- Bytes were sent to a sink under a status. Status 3 means that the sink met a fault; under any other they were taken
+-- whole.
 pub record Sent (sink : SinkSeen) (status wanted : ℕ) (bytes : List ℕ) : Type 0 where
   pub whole : status ≢ 3 → (status ≡ wanted) × Whole sink bytes
   pub part : status ≡ 3 → Part sink bytes
 
--- The result of writing an output. At Ok it was taken whole. After a fault only a part was taken, and if memory ran out,
--- nothing was.
+-- The result of writing an output. At Ok it was taken whole. After a fault only a part was taken, and if memory ran
+-- out, nothing was.
 abbrev pub IsWritten : SinkSeen → Result Unit WriteFault → List ℕ → Type 0
 IsWritten sink (Ok done) bytes = Whole sink bytes
 IsWritten sink (Err WriteFault.Failed) bytes = Part sink bytes

@@ -8,7 +8,8 @@ use Rattle.cpg_outputs.specs.declared.figures.Trial.{Trial}
 
 -- the size of the graph
 abbrev pub sizes_text : Trial → Text
-sizes_text t = codes "processes " ++ decimal t.processes ++ codes "\nedges " ++ decimal t.edges ++ codes "\nconditions " ++ decimal t.conditions ++ codes "\n"
+sizes_text t = codes "processes " ++ decimal t.processes ++ codes "\nedges " ++ decimal t.edges ++ codes "\nconditions "
+    ++ decimal t.conditions ++ codes "\n"
 
 -- the size of its tables, and their greatest finish
 abbrev pub tables_text : Trial → Text
@@ -23,4 +24,5 @@ endings_text e = ending_line e.fault_free ++ ending_line e.worst_case ++ ending_
 
 -- all lines
 abbrev pub trial_text : ℕ → Trial → Text
-trial_text number t = codes "trial " ++ decimal number ++ codes "\n" ++ sizes_text t ++ tables_text t ++ endings_text t.endings
+trial_text number t =
+    codes "trial " ++ decimal number ++ codes "\n" ++ sizes_text t ++ tables_text t ++ endings_text t.endings

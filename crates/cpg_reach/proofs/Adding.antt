@@ -1,5 +1,6 @@
 -- What sets of variables have after others are added to them.
-use Rattle.std.proofs.Common.{ℕ, ◌+◌, ◌<◌, ◌≡◌, ◌==◌, Bool, true, false, cond, ◌||◌, List, [], ◌∷◌, ◌++◌, length, get_or, map, filter, flat_map, is_some, Some, option_to_list, refl, sym, ap, ◌∙◌}
+use Rattle.std.proofs.Common.{ℕ, ◌+◌, ◌<◌, ◌≡◌, ◌==◌, Bool, true, false, cond, ◌||◌, List, [], ◌∷◌, ◌++◌, length}
+use Rattle.std.proofs.Common.{get_or, map, filter, flat_map, is_some, Some, option_to_list, refl, sym, ap, ◌∙◌}
 use Rattle.std.proofs.Common.{subst, arith}
 use Rattle.std.proofs.lemmas.List.Folds.{list_any-append}
 use Rattle.std.proofs.lemmas.Grind.{flat_map-append}
@@ -7,7 +8,8 @@ use Rattle.std.proofs.lemmas.List.{append-nil, get_or_default}
 use Rattle.std.specs.List.{list_any}
 use Rattle.cpg_base.specs.Numbers.{numbers_below}
 use Rattle.cpg_base.specs.Graph.{Graph, process_count, condition_count, edge_at, source, condition_of, value_variable}
-use Rattle.cpg_base.proofs.Lists.{filter_below_push, same_filter, same_truth, numbers-Contains, Contains-numbers, Contains-map, Contains-map_parts, Contains-filter, Contains-filter_parts}
+use Rattle.cpg_base.proofs.Lists.{filter_below_push, same_filter, same_truth, numbers-Contains, Contains-numbers}
+use Rattle.cpg_base.proofs.Lists.{Contains-map, Contains-map_parts, Contains-filter, Contains-filter_parts}
 use Rattle.cpg_order.specs.Deciding.{outcomes, decides, conditions_of}
 use Rattle.cpg_order.specs.Reach.{is_in, source_value}
 use Rattle.cpg_order.proofs.Along.{is_in_from, from_is_in}
@@ -36,7 +38,8 @@ pub adds_nothing : (a : List ℕ) → Adds a [] a
 adds_nothing a v = or_none (is_in a v)
 
 pub adds_two : (a xs b ys c : List ℕ) → Adds a xs b → Adds b ys c → Adds a (xs ++ ys) c
-adds_two a xs b ys c h k v = k v ∙ ap (λ t. t || is_in ys v) (h v) ∙ or_assoc (is_in a v) (is_in xs v) (is_in ys v) ∙ ap (λ t. is_in a v || t) (sym (in_append xs ys v))
+adds_two a xs b ys c h k v = k v ∙ ap (λ t. t || is_in ys v) (h v) ∙ or_assoc (is_in a v) (is_in xs v) (is_in ys v)
+    ∙ ap (λ t. is_in a v || t) (sym (in_append xs ys v))
 
 pub adds_same : (a xs ys b : List ℕ) → SameElements xs ys → Adds a xs b → Adds a ys b
 adds_same a xs ys b s h v = h v ∙ ap (λ t. is_in a v || t) (s v)
@@ -46,41 +49,62 @@ pub same_after : (a b xs c : List ℕ) → SameElements a b → Adds a xs c → 
 same_after a b xs c s h v = h v ∙ ap (λ t. t || is_in xs v) (s v) ∙ sym (in_append b xs v)
 
 pub same_before : (a b xs c : List ℕ) → SameElements a b → Adds a xs c → SameElements c (xs ++ b)
-same_before a b xs c s h v = h v ∙ ap (λ t. t || is_in xs v) (s v) ∙ or_commutes (is_in b v) (is_in xs v) ∙ sym (in_append xs b v)
+same_before a b xs c s h v =
+    h v ∙ ap (λ t. t || is_in xs v) (s v) ∙ or_commutes (is_in b v) (is_in xs v) ∙ sym (in_append xs b v)
 
 -- ---- a loop over the numbers that pass a test
 
-module _ (F : ℕ → List ℕ) (T : ℕ → Bool) (n : ℕ) (a b : List ℕ) (so_far : Adds a (flat_map F (filter T (numbers_below n))) b) where
-  next_is : (t : Bool) → T n ≡ t → flat_map F (filter T (numbers_below (n + 1))) ≡ flat_map F (filter T (numbers_below n)) ++ flat_map F (cond t (n ∷ []) [])
-  next_is t e = ap (flat_map F) (filter_below_push T n ∙ ap (λ s. filter T (numbers_below n) ++ cond s (n ∷ []) []) e) ∙ flat_map-append F (filter T (numbers_below n)) (cond t (n ∷ []) [])
+module _ (F : ℕ → List ℕ) (T : ℕ → Bool) (n : ℕ) (a b : List ℕ)
+    (so_far : Adds a (flat_map F (filter T (numbers_below n))) b) where
+  next_is : (t : Bool) → T n ≡ t →
+      flat_map F (filter T (numbers_below (n + 1))) ≡ flat_map F (filter T (numbers_below n))
+      ++ flat_map F (cond t (n ∷ []) [])
+  next_is t e = ap (flat_map F) (filter_below_push T n ∙ ap (λ s. filter T (numbers_below n) ++ cond s (n ∷ []) []) e)
+      ∙ flat_map-append F (filter T (numbers_below n)) (cond t (n ∷ []) [])
 
   pub loop_takes : (c : List ℕ) → T n ≡ true → Adds b (F n) c → Adds a (flat_map F (filter T (numbers_below (n + 1)))) c
-  loop_takes c e h = subst (λ xs. Adds a xs c) (ap (λ ys. flat_map F (filter T (numbers_below n)) ++ ys) (sym (append-nil (F n))) ∙ sym (next_is true e))
+  loop_takes c e h = subst (λ xs. Adds a xs c)
+      (ap (λ ys. flat_map F (filter T (numbers_below n)) ++ ys) (sym (append-nil (F n))) ∙ sym (next_is true e))
       (adds_two a (flat_map F (filter T (numbers_below n))) b (F n) c so_far h)
 
   pub loop_skips : T n ≡ false → Adds a (flat_map F (filter T (numbers_below (n + 1)))) b
-  loop_skips e = subst (λ xs. Adds a xs b) (sym (append-nil (flat_map F (filter T (numbers_below n)))) ∙ sym (next_is false e)) so_far
+  loop_skips e = subst (λ xs. Adds a xs b)
+      (sym (append-nil (flat_map F (filter T (numbers_below n)))) ∙ sym (next_is false e)) so_far
 
 -- ---- the values that decide a process
 
-module _ (g : Graph) (deciding : List (List ℕ)) (are : AreDecidingValues g deciding) (p : ℕ) (l : p < process_count g) where
-  value_decides : (c : ℕ) → c < condition_count g → is_in (get_or deciding p []) (value_variable c) ≡ list_any (λ o. decides g o p c) (outcomes (condition_count g))
-  value_decides c h = are.each p l (value_variable c) ∙ same_truth (is_in (map value_variable (conditions_of g p)) (value_variable c)) (list_any (λ o. decides g o p c) (outcomes (condition_count g)))
-      (λ t. let r = Contains-map_parts value_variable (conditions_of g p) (value_variable c) (from_is_in (map value_variable (conditions_of g p)) (value_variable c) t) in
+module _ (g : Graph) (deciding : List (List ℕ)) (are : AreDecidingValues g deciding) (p : ℕ)
+    (l : p < process_count g) where
+  value_decides : (c : ℕ) → c < condition_count g →
+      is_in (get_or deciding p []) (value_variable c) ≡ list_any (λ o. decides g o p c) (outcomes (condition_count g))
+  value_decides c h =
+      are.each p l (value_variable c) ∙ same_truth (is_in (map value_variable (conditions_of g p)) (value_variable c))
+      (list_any (λ o. decides g o p c) (outcomes (condition_count g)))
+      (λ t. let r = Contains-map_parts value_variable (conditions_of g p) (value_variable c)
+      (from_is_in (map value_variable (conditions_of g p)) (value_variable c) t) in
       let e : r.0 ≡ c = omega (arith, r.2) in
       subst (λ d. list_any (λ o. decides g o p d) (outcomes (condition_count g)) ≡ true) e
-      (Contains-filter_parts (λ d. list_any (λ o. decides g o p d) (outcomes (condition_count g))) (numbers_below (condition_count g)) r.0 r.1).1)
-      (λ t. is_in_from (map value_variable (conditions_of g p)) (value_variable c) (Contains-map value_variable (conditions_of g p) c
-      (Contains-filter (λ d. list_any (λ o. decides g o p d) (outcomes (condition_count g))) (numbers_below (condition_count g)) c t (Contains-numbers (condition_count g) c h))))
+      (Contains-filter_parts (λ d. list_any (λ o. decides g o p d) (outcomes (condition_count g)))
+      (numbers_below (condition_count g)) r.0 r.1).1)
+      (λ t. is_in_from (map value_variable (conditions_of g p)) (value_variable c)
+      (Contains-map value_variable (conditions_of g p) c
+      (Contains-filter (λ d. list_any (λ o. decides g o p d) (outcomes (condition_count g)))
+      (numbers_below (condition_count g)) c t (Contains-numbers (condition_count g) c h))))
 
-  pub deciding_filter : filter (λ c. is_in (get_or deciding p []) (value_variable c)) (numbers_below (condition_count g)) ≡ conditions_of g p
-  deciding_filter = same_filter (λ c. is_in (get_or deciding p []) (value_variable c)) (λ c. list_any (λ o. decides g o p c) (outcomes (condition_count g))) (numbers_below (condition_count g))
+  pub deciding_filter : filter (λ c. is_in (get_or deciding p []) (value_variable c))
+      (numbers_below (condition_count g)) ≡ conditions_of g p
+  deciding_filter = same_filter (λ c. is_in (get_or deciding p []) (value_variable c))
+      (λ c. list_any (λ o. decides g o p c) (outcomes (condition_count g))) (numbers_below (condition_count g))
       (λ c k. value_decides c (numbers-Contains (condition_count g) c k))
 
 -- ---- the value of an edge's source
 
-pub source_value_there : (g : Graph) (e c : ℕ) → is_some (edge_at g e).when ≡ true → condition_of g (source g e) ≡ Some c → source_value g e ≡ value_variable c ∷ []
-source_value_there g e c t is = ap (λ b. cond b (map value_variable (option_to_list (condition_of g (source g e)))) []) t ∙ ap (λ o. map value_variable (option_to_list o)) is
+pub source_value_there : (g : Graph) (e c : ℕ) → is_some (edge_at g e).when ≡ true →
+    condition_of g (source g e) ≡ Some c →
+    source_value g e ≡ value_variable c ∷ []
+source_value_there g e c t is =
+    ap (λ b. cond b (map value_variable (option_to_list (condition_of g (source g e)))) []) t
+    ∙ ap (λ o. map value_variable (option_to_list o)) is
 
 -- ---- an element of a list of sets, whatever stands past the end
 

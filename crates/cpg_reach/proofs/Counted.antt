@@ -1,5 +1,6 @@
 -- Counting views: free counts, the conditions along an order, and one condition after another.
-use Rattle.std.proofs.Common.{ℕ, suc, ◌+◌, ◌<◌, ◌≤◌, ◌≡◌, Bool, false, cond, List, [], ◌∷◌, ◌++◌, length, get_or, set, take, sum_by, count_by, All, option_to_list, Option, Some, None, refl, sym, ap}
+use Rattle.std.proofs.Common.{ℕ, suc, ◌+◌, ◌<◌, ◌≤◌, ◌≡◌, Bool, false, cond, List, [], ◌∷◌, ◌++◌, length, get_or, set}
+use Rattle.std.proofs.Common.{take, sum_by, count_by, All, option_to_list, Option, Some, None, refl, sym, ap}
 use Rattle.std.proofs.Common.{ap₂, ◌∙◌, subst, arith}
 use Rattle.std.proofs.lemmas.List.{take_more, append-nil, set-set, set-get_or}
 use Rattle.std.proofs.lemmas.List.Sums.{sum_by-append, sum_by-cons, count_by-le-length}
@@ -18,27 +19,38 @@ use Rattle.cpg_order.proofs.Chosen.{views_chosen}
 
 -- ---- how many numbers below n pass a test
 
-pub count_next : (p : ℕ → Bool) (n : ℕ) (b : Bool) → p n ≡ b → count_by p (numbers_below (n + 1)) ≡ count_by p (numbers_below n) + cond b 1 0
+pub count_next : (p : ℕ → Bool) (n : ℕ) (b : Bool) → p n ≡ b →
+    count_by p (numbers_below (n + 1)) ≡ count_by p (numbers_below n) + cond b 1 0
 count_next p n b e = ap (count_by p) (below_push n) ∙ sum_by-append (λ x. cond (p x) 1 0) (numbers_below n) (n ∷ [])
-    ∙ ap (λ m. count_by p (numbers_below n) + m) (sum_by-cons (λ x. cond (p x) 1 0) n [] ∙ ap (λ c. cond c 1 0 + 0) e ∙ (let z : cond b 1 0 + 0 ≡ cond b 1 0 = omega arith in z))
+    ∙ ap (λ m. count_by p (numbers_below n) + m) (sum_by-cons (λ x. cond (p x) 1 0) n [] ∙ ap (λ c. cond c 1 0 + 0) e
+    ∙ (let z : cond b 1 0 + 0 ≡ cond b 1 0 = omega arith in z))
 
 pub count-le : (p : ℕ → Bool) (n : ℕ) → count_by p (numbers_below n) ≤ n
 count-le p n = let a = count_by-le-length p (numbers_below n) in let b = length-range_with_len 0 n in omega arith
 
 -- ---- the conditions along an order
 
-pub along_next : (g : Graph) (order : List ℕ) (i : ℕ) → i < length order → conditions_along g (take (i + 1) order) ≡ conditions_along g (take i order) ++ option_to_list
+pub along_next : (g : Graph) (order : List ℕ) (i : ℕ) → i < length order →
+    conditions_along g (take (i + 1) order) ≡ conditions_along g (take i order) ++ option_to_list
     (condition_of g (get_or order i 0))
-along_next g order i l = ap (conditions_along g) (take_more order i 0 l) ∙ flat_map-append (λ p. option_to_list (condition_of g p)) (take i order) (get_or order i 0 ∷ [])
-    ∙ ap (λ xs. conditions_along g (take i order) ++ xs) (append-nil (option_to_list (condition_of g (get_or order i 0))))
+along_next g order i l = ap (conditions_along g) (take_more order i 0 l)
+    ∙ flat_map-append (λ p. option_to_list (condition_of g p)) (take i order) (get_or order i 0 ∷ [])
+    ∙ ap (λ xs. conditions_along g (take i order) ++ xs)
+    (append-nil (option_to_list (condition_of g (get_or order i 0))))
 
-pub along_takes : (g : Graph) (order : List ℕ) (i c : ℕ) (xs ys : List ℕ) → i < length order → xs ≡ conditions_along g (take i order) → condition_of g (get_or order i 0) ≡ Some c →
+pub along_takes : (g : Graph) (order : List ℕ) (i c : ℕ) (xs ys : List ℕ) → i < length order →
+    xs ≡ conditions_along g (take i order) →
+    condition_of g (get_or order i 0) ≡ Some c →
     ys ≡ xs ++ c ∷ [] → ys ≡ conditions_along g (take (i + 1) order)
-along_takes g order i c xs ys l h e k = k ∙ ap (λ zs. zs ++ c ∷ []) h ∙ ap (λ o. conditions_along g (take i order) ++ option_to_list o) (sym e) ∙ sym (along_next g order i l)
+along_takes g order i c xs ys l h e k = k ∙ ap (λ zs. zs ++ c ∷ []) h
+    ∙ ap (λ o. conditions_along g (take i order) ++ option_to_list o) (sym e) ∙ sym (along_next g order i l)
 
-pub along_skips : (g : Graph) (order : List ℕ) (i : ℕ) (xs : List ℕ) → i < length order → xs ≡ conditions_along g (take i order) → condition_of g (get_or order i 0) ≡ None →
+pub along_skips : (g : Graph) (order : List ℕ) (i : ℕ) (xs : List ℕ) → i < length order →
+    xs ≡ conditions_along g (take i order) →
+    condition_of g (get_or order i 0) ≡ None →
     xs ≡ conditions_along g (take (i + 1) order)
-along_skips g order i xs l h e = h ∙ sym (append-nil (conditions_along g (take i order))) ∙ ap (λ o. conditions_along g (take i order) ++ option_to_list o) (sym e) ∙ sym (along_next g order i l)
+along_skips g order i xs l h e = h ∙ sym (append-nil (conditions_along g (take i order)))
+    ∙ ap (λ o. conditions_along g (take i order) ++ option_to_list o) (sym e) ∙ sym (along_next g order i l)
 
 -- ---- choosing the conditions
 
@@ -52,7 +64,9 @@ pub set_back : (o : List Bool) (c : ℕ) (a b : Bool) → b ≡ get_or o c false
 set_back o c a b e = set-set o c a b ∙ ap (set o c) e ∙ set-get_or o c false
 
 -- a scenario whose value is set, and then as it was
-pub scenario_back : (s a b d e : Scenario) (c : ℕ) (on was : Bool) → a ≡ s → b ≡ record a { values = set a.values c on } → d ≡ b → was ≡ get_or a.values c false →
+pub scenario_back : (s a b d e : Scenario) (c : ℕ) (on was : Bool) → a ≡ s →
+    b ≡ record a { values = set a.values c on } → d ≡ b →
+    was ≡ get_or a.values c false →
     e ≡ record d { values = set d.values c was } → e ≡ s
 scenario_back s a b d e c on was first set_on stays old last = last
     ∙ ap (λ (x : Scenario). record x { values = set x.values c was }) (stays ∙ set_on)
@@ -61,13 +75,18 @@ scenario_back s a b d e c on was first set_on stays old last = last
 
 -- ---- all conditions
 
-pub along_within : (g : Graph) (order : List ℕ) (cs : List ℕ) → cs ≡ conditions_along g order → All (λ c. c < condition_count g) cs
+pub along_within : (g : Graph) (order : List ℕ) (cs : List ℕ) → cs ≡ conditions_along g order →
+    All (λ c. c < condition_count g) cs
 along_within g order cs is = subst (All (λ c. c < condition_count g)) (sym is)
-    (λ i d l. (from_along g order (get_or (conditions_along g order) i d) (Contains-get_or (conditions_along g order) i d l)).0)
+    (λ i d l. (from_along g order (get_or (conditions_along g order) i d)
+    (Contains-get_or (conditions_along g order) i d l)).0)
 
-pub all_views : (g : Graph) (order : List ℕ) → IsTopological g order → process_count g ≤ 128 → (reached cs : List ℕ) (o : List Bool) → cs ≡ conditions_along g order → o ≡ all_false g →
+pub all_views : (g : Graph) (order : List ℕ) → IsTopological g order → process_count g ≤ 128 →
+    (reached cs : List ℕ) (o : List Bool) → cs ≡ conditions_along g order →
+    o ≡ all_false g →
     views_with g reached cs o ≡ views g reached
-all_views g order top few reached cs o is none = ap₂ (views_with g reached) is none ∙ sym (views_chosen g order top reached few)
+all_views g order top few reached cs o is none =
+    ap₂ (views_with g reached) is none ∙ sym (views_chosen g order top reached few)
 
 pub none_if : (o : Option ℕ) → ((x : ℕ) → o ≡ Some x → ⊥) → o ≡ None
 none_if None h = refl

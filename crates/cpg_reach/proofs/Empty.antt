@@ -1,19 +1,24 @@
 -- Lists of sets with nothing in them.
-use Rattle.std.proofs.Common.{ℕ, ◌+◌, ◌<◌, ◌≤◌, ◌≡◌, false, List, [], ◌∷◌, ◌++◌, length, get_or, length-append, ap, ◌∙◌, ⊎_elim, arith}
+use Rattle.std.proofs.Common.{ℕ, ◌+◌, ◌<◌, ◌≤◌, ◌≡◌, false, List, [], ◌∷◌, ◌++◌, length, get_or, length-append, ap, ◌∙◌}
+use Rattle.std.proofs.Common.{⊎_elim, arith}
 use Rattle.std.proofs.lemmas.Bool.{cases_lt}
 use Rattle.std.proofs.lemmas.List.{get_or_append_left, get_or_past}
 use Rattle.std.proofs.Math.Seq.{get_or-append_seam}
 use Rattle.cpg_order.specs.Reach.{is_in}
 use Rattle.cpg_reach.specs.Walked.{AreEmpty}
 
-pub empty_next : (n : ℕ) (sets : List (List ℕ)) (x : List ℕ) → AreEmpty n sets → ((v : ℕ) → is_in x v ≡ false) → AreEmpty (n + 1) (sets ++ x ∷ [])
+pub empty_next : (n : ℕ) (sets : List (List ℕ)) (x : List ℕ) → AreEmpty n sets → ((v : ℕ) → is_in x v ≡ false) →
+    AreEmpty (n + 1) (sets ++ x ∷ [])
 empty_next n sets x h none = record {
   count = let e = length-append sets (x ∷ []) in let c = h.count in omega arith;
   each = λ i v. ⊎_elim
       (λ (l : i < length sets). ap (λ xs. is_in xs v) (get_or_append_left sets (x ∷ []) [] i l) ∙ h.each i v)
       (λ (l : length sets ≤ i). ⊎_elim
-      (λ (k : length sets < i). let e = length-append sets (x ∷ []) in ap (λ xs. is_in xs v) (get_or_past (sets ++ x ∷ []) i [] (omega arith)))
-      (λ (k : i ≤ length sets). let e : i ≡ length sets = omega arith in ap (λ j. is_in (get_or (sets ++ x ∷ []) j []) v) e ∙ ap (λ xs. is_in xs v) (get_or-append_seam sets x [] []) ∙ none v)
+      (λ (k : length sets < i). let e = length-append sets (x ∷ []) in
+      ap (λ xs. is_in xs v) (get_or_past (sets ++ x ∷ []) i [] (omega arith)))
+      (λ (k : i ≤ length sets). let e : i ≡ length sets = omega arith in
+      ap (λ j. is_in (get_or (sets ++ x ∷ []) j []) v) e
+      ∙ ap (λ xs. is_in xs v) (get_or-append_seam sets x [] []) ∙ none v)
       (cases_lt (length sets) i))
       (cases_lt i (length sets));
 }

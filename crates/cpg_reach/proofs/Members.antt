@@ -1,5 +1,6 @@
 -- Sets of variables by their marks.
-use Rattle.std.proofs.Common.{ℕ, ◌+◌, ◌<◌, ◌≤◌, ◌≡◌, ◌⊎◌, ◌==◌, Bool, true, false, ◌||◌, List, [], ◌∷◌, length, get_or, set, refl, sym, ap, ap₂, ◌∙◌, ⊎_elim, inl, inr, arith}
+use Rattle.std.proofs.Common.{ℕ, ◌+◌, ◌<◌, ◌≤◌, ◌≡◌, ◌⊎◌, ◌==◌, Bool, true, false, ◌||◌, List, [], ◌∷◌, length, get_or}
+use Rattle.std.proofs.Common.{set, refl, sym, ap, ap₂, ◌∙◌, ⊎_elim, inl, inr, arith}
 use Rattle.std.proofs.lemmas.Bool.{cases_lt, both_ways}
 use Rattle.std.proofs.lemmas.Bool.Decides.{eqb_tells}
 use Rattle.std.proofs.lemmas.List.{get_or-set_same, get_or-set_other, get_or_past}
@@ -18,8 +19,10 @@ marked_within marks v t = ⊎_elim
 
 pub is_in_members : (marks : List Bool) (v : ℕ) → is_in (members marks) v ≡ get_or marks v false
 is_in_members marks v = same_truth (is_in (members marks) v) (get_or marks v false)
-    (λ t. (Contains-filter_parts (λ u. get_or marks u false) (numbers_below (length marks)) v (from_is_in (members marks) v t)).1)
-    (λ t. is_in_from (members marks) v (Contains-filter (λ u. get_or marks u false) (numbers_below (length marks)) v t (Contains-numbers (length marks) v (marked_within marks v t))))
+    (λ t. (Contains-filter_parts (λ u. get_or marks u false) (numbers_below (length marks)) v
+    (from_is_in (members marks) v t)).1)
+    (λ t. is_in_from (members marks) v (Contains-filter (λ u. get_or marks u false) (numbers_below (length marks)) v t
+    (Contains-numbers (length marks) v (marked_within marks v t))))
 
 or_of_false : (a : Bool) → a ≡ (a || (false || false))
 or_of_false true = refl
@@ -29,7 +32,8 @@ or_of_true : (a : Bool) → true ≡ (a || (true || false))
 or_of_true true = refl
 or_of_true false = refl
 
-set_marks : (marks : List Bool) (v u : ℕ) → v < length marks → get_or (set marks v true) u false ≡ (get_or marks u false || ((v == u) || false))
+set_marks : (marks : List Bool) (v u : ℕ) → v < length marks →
+    get_or (set marks v true) u false ≡ (get_or marks u false || ((v == u) || false))
 set_marks marks v u l = elim (eqb_tells v u) [
   | inl same ↦ ap (λ w. get_or (set marks v true) w false) (sym same.1) ∙ get_or-set_same marks v true false l
       ∙ or_of_true (get_or marks u false) ∙ ap (λ b. get_or marks u false || (b || false)) (sym same.0)
@@ -37,11 +41,16 @@ set_marks marks v u l = elim (eqb_tells v u) [
       ∙ or_of_false (get_or marks u false) ∙ ap (λ b. get_or marks u false || (b || false)) (sym other.0)
 ]
 
-pub set_adds : (marks : List Bool) (v : ℕ) → v < length marks → Adds (members marks) (v ∷ []) (members (set marks v true))
-set_adds marks v l u = is_in_members (set marks v true) u ∙ set_marks marks v u l ∙ ap (λ b. b || ((v == u) || false)) (sym (is_in_members marks u))
+pub set_adds : (marks : List Bool) (v : ℕ) → v < length marks →
+    Adds (members marks) (v ∷ []) (members (set marks v true))
+set_adds marks v l u = is_in_members (set marks v true) u ∙ set_marks marks v u l
+    ∙ ap (λ b. b || ((v == u) || false)) (sym (is_in_members marks u))
 
-pub unite_adds : (old others new : List Bool) → ((v : ℕ) → get_or new v false ≡ (get_or old v false || get_or others v false)) → Adds (members old) (members others) (members new)
-unite_adds old others new h v = is_in_members new v ∙ h v ∙ ap₂ ◌||◌ (sym (is_in_members old v)) (sym (is_in_members others v))
+pub unite_adds : (old others new : List Bool) →
+    ((v : ℕ) → get_or new v false ≡ (get_or old v false || get_or others v false)) →
+    Adds (members old) (members others) (members new)
+unite_adds old others new h v =
+    is_in_members new v ∙ h v ∙ ap₂ ◌||◌ (sym (is_in_members old v)) (sym (is_in_members others v))
 
 -- ---- the loop that unites
 
@@ -56,13 +65,15 @@ united_first old others = record { done = λ u l. absurd (omega arith); left = �
 below_next : (v u : ℕ) → u < v + 1 → (u < v) ⊎ (u ≡ v)
 below_next v u l = ⊎_elim (λ (k : u < v). inl k) (λ (k : v ≤ u). inr (omega arith)) (cases_lt u v)
 
-pub united_next : (old others marks : List Bool) (v : ℕ) (mark : Bool) → v < length marks → mark ≡ (get_or marks v false || get_or others v false) →
+pub united_next : (old others marks : List Bool) (v : ℕ) (mark : Bool) → v < length marks →
+    mark ≡ (get_or marks v false || get_or others v false) →
     United old others marks v → United old others (set marks v mark) (v + 1)
 united_next old others marks v mark l is h = record {
   done = λ u k. ⊎_elim
       (λ (m : u < v). get_or-set_other marks v u mark false (λ e. omega arith) ∙ h.done u m)
       (λ (e : u ≡ v). ap (λ w. get_or (set marks v mark) w false) e ∙ get_or-set_same marks v mark false l ∙ is
-      ∙ ap (λ b. b || get_or others v false) (h.left v (omega arith)) ∙ ap (λ w. get_or old w false || get_or others w false) (sym e))
+      ∙ ap (λ b. b || get_or others v false) (h.left v (omega arith))
+      ∙ ap (λ w. get_or old w false || get_or others w false) (sym e))
       (below_next v u k);
   left = λ u k. get_or-set_other marks v u mark false (λ e. omega arith) ∙ h.left u (omega arith);
 }
@@ -71,8 +82,10 @@ or_nothing : (a b : Bool) → b ≡ false → (a || b) ≡ a
 or_nothing true b e = refl
 or_nothing false b e = e
 
-pub united_all : (old others marks : List Bool) (v : ℕ) → length others ≤ v → United old others marks v → (u : ℕ) → get_or marks u false ≡ (get_or old u false || get_or others u false)
+pub united_all : (old others marks : List Bool) (v : ℕ) → length others ≤ v → United old others marks v → (u : ℕ) →
+    get_or marks u false ≡ (get_or old u false || get_or others u false)
 united_all old others marks v l h u = ⊎_elim
     (λ (k : u < v). h.done u k)
-    (λ (k : v ≤ u). h.left u k ∙ sym (or_nothing (get_or old u false) (get_or others u false) (get_or_past others u false (omega arith))))
+    (λ (k : v ≤ u). h.left u k
+    ∙ sym (or_nothing (get_or old u false) (get_or others u false) (get_or_past others u false (omega arith))))
     (cases_lt u v)

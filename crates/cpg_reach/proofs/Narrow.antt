@@ -5,7 +5,9 @@ use Rattle.cpg_base.specs.Graph.{Graph, item_count}
 use Rattle.cpg_order.specs.Reach.{Reach, IsReach, is_too_wide}
 use Rattle.cpg_reach.specs.Wide.{IsNarrow}
 
-pub none_too_wide : (g : Graph) (order : List ℕ) → IsNarrow g order → (r : Reach) → IsReach g order r → (x : ℕ) → x < item_count g → is_too_wide g r x ≡ false
+pub none_too_wide : (g : Graph) (order : List ℕ) → IsNarrow g order → (r : Reach) → IsReach g order r → (x : ℕ) →
+    x < item_count g →
+    is_too_wide g r x ≡ false
 none_too_wide g order narrow r is x l = elim (cases_Bool (is_too_wide g r x)) [
   | inl wide ↦ absurd (narrow x (record { reach = r; reached = is; within = l; wide = wide }))
   | inr fits ↦ fits

@@ -1,5 +1,6 @@
 -- What sends depend on, by what the node has sent before.
-use Rattle.std.proofs.Common.{ℕ, ◌<◌, ◌≤◌, ◌≡◌, Bool, true, false, not, cond, ◌&&◌, List, [], ◌++◌, length, get_or, map, None, sym, ap, ◌∙◌, lt-ltb, le-ltb, eq-eqb}
+use Rattle.std.proofs.Common.{ℕ, ◌<◌, ◌≤◌, ◌≡◌, Bool, true, false, not, cond, ◌&&◌, List, [], ◌++◌, length, get_or, map}
+use Rattle.std.proofs.Common.{None, sym, ap, ◌∙◌, lt-ltb, le-ltb, eq-eqb}
 use Rattle.std.proofs.lemmas.List.{append-nil}
 use Rattle.std.proofs.lemmas.Bool.{ne_eqb}
 use Rattle.cpg_base.specs.Graph.{Graph, edge_at, source, target, node_of, process_of, value_variable}
@@ -21,28 +22,38 @@ module _ (g : Graph) (r : Reach) (sent : List (List ℕ)) where
   nothing_sent xs ys h e v = h v ∙ ap (λ zs. is_in zs v) (sym e)
 
   pub one_node : (c : ℕ) → length g.nodes ≤ 1 → send_by g r sent (Broadcast c) ≡ []
-  one_node c l = ap (λ b. cond b ((end_reach r (process_of g c) ++ get_or sent (node_of g (process_of g c)) []) ++ []) []) (le-ltb 1 (length g.nodes) l)
+  one_node c l =
+      ap (λ b. cond b ((end_reach r (process_of g c) ++ get_or sent (node_of g (process_of g c)) []) ++ []) [])
+      (le-ltb 1 (length g.nodes) l)
 
-  pub broadcast_sent : (c p node : ℕ) (xs : List ℕ) → 1 < length g.nodes → p ≡ process_of g c → node ≡ node_of g p → SameElements xs (end_reach r p ++ get_or sent node []) →
+  pub broadcast_sent : (c p node : ℕ) (xs : List ℕ) → 1 < length g.nodes → p ≡ process_of g c → node ≡ node_of g p →
+      SameElements xs (end_reach r p ++ get_or sent node []) →
       SameElements xs (send_by g r sent (Broadcast c))
   broadcast_sent c p node xs l e f h v = h v
       ∙ ap (λ n. is_in (end_reach r p ++ get_or sent n []) v) f
       ∙ ap (λ q. is_in (end_reach r q ++ get_or sent (node_of g q) []) v) e
-      ∙ ap (λ zs. is_in zs v) (sym (append-nil (end_reach r (process_of g c) ++ get_or sent (node_of g (process_of g c)) []))
-      ∙ ap (λ b. cond b ((end_reach r (process_of g c) ++ get_or sent (node_of g (process_of g c)) []) ++ []) []) (sym (lt-ltb 1 (length g.nodes) l)))
+      ∙ ap (λ zs. is_in zs v)
+      (sym (append-nil (end_reach r (process_of g c) ++ get_or sent (node_of g (process_of g c)) []))
+      ∙ ap (λ b. cond b ((end_reach r (process_of g c) ++ get_or sent (node_of g (process_of g c)) []) ++ []) [])
+      (sym (lt-ltb 1 (length g.nodes) l)))
 
   -- what a message depends on but for its source's value
   abbrev pub before_value : ℕ → Bool → List ℕ
-  before_value e frozen = cond frozen (map value_variable (conditions_of g (source g e))) (end_reach r (source g e) ++ get_or sent (node_of g (source g e)) [])
+  before_value e frozen = cond frozen (map value_variable (conditions_of g (source g e)))
+      (end_reach r (source g e) ++ get_or sent (node_of g (source g e)) [])
 
   abbrev by_tests : ℕ → Bool → Bool → List ℕ
   by_tests e message frozen = cond message (before_value e (message && frozen) ++ source_value g e) []
 
   pub within_node : (e : ℕ) → node_of g (source g e) ≡ node_of g (target g e) → send_by g r sent (Message e) ≡ []
-  within_node e h = ap (λ b. by_tests e (not b) (edge_at g e).frozen) (eq-eqb (node_of g (source g e)) (node_of g (target g e)) h)
+  within_node e h =
+      ap (λ b. by_tests e (not b) (edge_at g e).frozen) (eq-eqb (node_of g (source g e)) (node_of g (target g e)) h)
 
-  pub message_sent : (e : ℕ) (frozen : Bool) (mid xs : List ℕ) → (node_of g (source g e) ≡ node_of g (target g e) → ⊥) → (edge_at g e).frozen ≡ frozen → SameElements mid (before_value e frozen) →
+  pub message_sent : (e : ℕ) (frozen : Bool) (mid xs : List ℕ) → (node_of g (source g e) ≡ node_of g (target g e) → ⊥) →
+      (edge_at g e).frozen ≡ frozen →
+      SameElements mid (before_value e frozen) →
       Adds mid (source_value g e) xs
       → SameElements xs (send_by g r sent (Message e))
   message_sent e frozen mid xs h f m a v = same_after mid (before_value e frozen) (source_value g e) xs m a v
-      ∙ ap (λ zs. is_in zs v) (ap (λ b. by_tests e true b) (sym f) ∙ ap (λ b. by_tests e (not b) (edge_at g e).frozen) (sym (ne_eqb (node_of g (source g e)) (node_of g (target g e)) h)))
+      ∙ ap (λ zs. is_in zs v) (ap (λ b. by_tests e true b) (sym f) ∙ ap (λ b. by_tests e (not b) (edge_at g e).frozen)
+      (sym (ne_eqb (node_of g (source g e)) (node_of g (target g e)) h)))

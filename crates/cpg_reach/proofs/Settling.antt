@@ -1,12 +1,17 @@
 -- The walk along an order: at each moment the reach of at most one item is found, and it is right.
-use Rattle.std.proofs.Common.{ℕ, ◌+◌, ◌*◌, ◌<◌, ◌≤◌, ◌≡◌, ◌==◌, Bool, true, false, cond, ◌&&◌, ◌||◌, List, [], ◌∷◌, ◌++◌, length, get_or, set, flat_map, Contains, refl, sym, ap, ap₂, ◌∙◌, subst}
+use Rattle.std.proofs.Common.{ℕ, ◌+◌, ◌*◌, ◌<◌, ◌≤◌, ◌≡◌, ◌==◌, Bool, true, false, cond, ◌&&◌, ◌||◌, List, [], ◌∷◌}
+use Rattle.std.proofs.Common.{◌++◌, length, get_or, set, flat_map, Contains, refl, sym, ap, ap₂, ◌∙◌, subst}
 use Rattle.std.proofs.Common.{⊎_elim, inl, inr, arith, lt-ltb, le-ltb, eq-eqb, eqb-true, ltb-true}
 use Rattle.std.specs.Prelude.{nat_lt}
-use Rattle.std.proofs.lemmas.Bool.{cases_Bool, cases_lt, cases_eq, cases_order, and_parts, and_from, both_ways, or_left, or_right}
+use Rattle.std.proofs.lemmas.Bool.{cases_Bool, cases_lt, cases_eq, cases_order, and_parts, and_from, both_ways, or_left}
+use Rattle.std.proofs.lemmas.Bool.{or_right}
 use Rattle.std.proofs.lemmas.List.{length-set, get_or-set_same, get_or-set_other}
 use Rattle.cpg_base.specs.Numbers.{numbers_below}
-use Rattle.cpg_base.specs.Graph.{Graph, process_count, edge_count, condition_count, item_count, item_at, broadcast_item, source, is_sent, producer, producer_of_item, home, process_of}
-use Rattle.cpg_base.proofs.Lists.{Contains-first, Contains-rest, Contains-filter, Contains-filter_parts, Contains-flat_map, Contains-flat_map_parts, Contains-numbers, numbers-Contains, same_truth}
+use Rattle.cpg_base.specs.Graph.{Graph, process_count, edge_count, condition_count, item_count, item_at, broadcast_item}
+use Rattle.cpg_base.specs.Graph.{source, is_sent, producer, producer_of_item, home, process_of}
+use Rattle.cpg_base.proofs.Lists.{Contains-first, Contains-rest, Contains-filter, Contains-filter_parts}
+use Rattle.cpg_base.proofs.Lists.{Contains-flat_map, Contains-flat_map_parts, Contains-numbers, numbers-Contains}
+use Rattle.cpg_base.proofs.Lists.{same_truth}
 use Rattle.cpg_base.proofs.Lists.{same_filter}
 use Rattle.cpg_base.proofs.Items.{item_cases, same_condition}
 use Rattle.cpg_order.specs.Urgency.{IsTopological}
@@ -25,11 +30,14 @@ use Rattle.cpg_reach.proofs.Adding.{in_append}
 pub same_append : (xs ys zs ws : List ℕ) → SameElements xs zs → SameElements ys ws → SameElements (xs ++ ys) (zs ++ ws)
 same_append xs ys zs ws h k v = in_append xs ys v ∙ ap₂ ◌||◌ (h v) (k v) ∙ sym (in_append zs ws v)
 
-pub same_flat_map : (f h : ℕ → List ℕ) (xs : List ℕ) → ((x : ℕ) → Contains xs x → SameElements (f x) (h x)) → SameElements (flat_map f xs) (flat_map h xs)
+pub same_flat_map : (f h : ℕ → List ℕ) (xs : List ℕ) → ((x : ℕ) → Contains xs x → SameElements (f x) (h x)) →
+    SameElements (flat_map f xs) (flat_map h xs)
 same_flat_map f h [] e = λ v. refl
-same_flat_map f h (x ∷ xs) e = same_append (f x) (flat_map f xs) (h x) (flat_map h xs) (e x (Contains-first x xs)) (same_flat_map f h xs (λ y k. e y (Contains-rest x xs y k)))
+same_flat_map f h (x ∷ xs) e = same_append (f x) (flat_map f xs) (h x) (flat_map h xs) (e x (Contains-first x xs))
+    (same_flat_map f h xs (λ y k. e y (Contains-rest x xs y k)))
 
-pub same_cond : (b : Bool) (xs ys zs ws : List ℕ) → (b ≡ true → SameElements xs zs) → (b ≡ false → SameElements ys ws) → SameElements (cond b xs ys) (cond b zs ws)
+pub same_cond : (b : Bool) (xs ys zs ws : List ℕ) → (b ≡ true → SameElements xs zs) → (b ≡ false → SameElements ys ws) →
+    SameElements (cond b xs ys) (cond b zs ws)
 same_cond true xs ys zs ws h k = h refl
 same_cond false xs ys zs ws h k = k refl
 
@@ -46,8 +54,10 @@ module _ (g : Graph) (order : List ℕ) (top : IsTopological g order) where
   -- one moment has one item
   pub same_moment : (x y : ℕ) → x < item_count g → y < item_count g → moment g order x ≡ moment g order y → x ≡ y
   same_moment x y l m e =
-      let r = apart_products (place order (producer g x)) (place order (producer g y)) (phase (item_at g x)) (phase (item_at g y)) (phases g) (phase_below g x l) (phase_below g y m) e in
-      let p = same_place order (producer g x) (producer g y) (Contains-order (process_count g) order top.all (producer g x) (producer_in_range g order top x l))
+      let r = apart_products (place order (producer g x)) (place order (producer g y)) (phase (item_at g x))
+      (phase (item_at g y)) (phases g) (phase_below g x l) (phase_below g y m) e in
+      let p = same_place order (producer g x) (producer g y)
+      (Contains-order (process_count g) order top.all (producer g x) (producer_in_range g order top x l))
       (Contains-order (process_count g) order top.all (producer g y) (producer_in_range g order top y m)) r.0 in
       elim (item_cases g x l) [
         | inl c ↦ elim (item_cases g y m) [
@@ -63,20 +73,27 @@ module _ (g : Graph) (order : List ℕ) (top : IsTopological g order) where
         | inr (inr c) ↦ elim (item_cases g y m) [
           | inl d ↦ absurd (omega (arith, r.1, ap phase c.3, ap phase d.1))
           | inr (inl d) ↦ absurd (omega (arith, r.1, ap phase c.3, ap phase d.3))
-          | inr (inr d) ↦ c.2 ∙ ap (broadcast_item g) (same_condition g c.0 d.0 c.1 d.1 (sym (ap (producer_of_item g) c.3) ∙ p ∙ ap (producer_of_item g) d.3)) ∙ sym d.2
+          | inr (inr d) ↦ c.2 ∙ ap (broadcast_item g)
+              (same_condition g c.0 d.0 c.1 d.1 (sym (ap (producer_of_item g) c.3) ∙ p ∙ ap (producer_of_item g) d.3))
+              ∙ sym d.2
         ]
       ]
 
   -- whose phase is that of the moment, and whose producer stands at its place
-  pub moment_parts : (x p f : ℕ) → x < item_count g → p < process_count g → f < phases g → moment g order x ≡ place order p * phases g + f → (producer g x ≡ p) × (phase (item_at g x) ≡ f)
+  pub moment_parts : (x p f : ℕ) → x < item_count g → p < process_count g → f < phases g →
+      moment g order x ≡ place order p * phases g + f →
+      (producer g x ≡ p) × (phase (item_at g x) ≡ f)
   moment_parts x p f l n h e =
-      let r = apart_products (place order (producer g x)) (place order p) (phase (item_at g x)) f (phases g) (phase_below g x l) h e in (
-        same_place order (producer g x) p (Contains-order (process_count g) order top.all (producer g x) (producer_in_range g order top x l)) (Contains-order (process_count g) order top.all p n) r.0,
+      let r = apart_products (place order (producer g x)) (place order p) (phase (item_at g x)) f (phases g)
+      (phase_below g x l) h e in (
+        same_place order (producer g x) p (Contains-order (process_count g) order top.all (producer g x)
+            (producer_in_range g order top x l)) (Contains-order (process_count g) order top.all p n) r.0,
         r.1,
       )
 
   -- nothing happens between a start and the broadcast
-  pub nothing_at_end : (p x : ℕ) → p < process_count g → x < item_count g → moment g order x ≡ place order p * phases g + 1 → ⊥
+  pub nothing_at_end : (p x : ℕ) → p < process_count g → x < item_count g →
+      moment g order x ≡ place order p * phases g + 1 → ⊥
   nothing_at_end p x n l e =
       let r = moment_parts x p 1 l n (omega arith) e in
       elim (item_cases g x l) [
@@ -86,7 +103,9 @@ module _ (g : Graph) (order : List ℕ) (top : IsTopological g order) where
       ]
 
   -- only a process with a condition has a broadcast
-  pub broadcast_at : (p x : ℕ) → p < process_count g → x < item_count g → moment g order x ≡ place order p * phases g + 2 → (c : ℕ) × (c < condition_count g) × (process_of g c ≡ p)
+  pub broadcast_at : (p x : ℕ) → p < process_count g → x < item_count g →
+      moment g order x ≡ place order p * phases g + 2 →
+      (c : ℕ) × (c < condition_count g) × (process_of g c ≡ p)
   broadcast_at p x n l e =
       let r = moment_parts x p 2 l n (omega arith) e in
       elim (item_cases g x l) [
@@ -96,103 +115,141 @@ module _ (g : Graph) (order : List ℕ) (top : IsTopological g order) where
       ]
 
   -- a message comes of its edge
-  pub message_at : (p e x : ℕ) → p < process_count g → e < edge_count g → x < item_count g → moment g order x ≡ place order p * phases g + (e + 3) → source g e ≡ p
+  pub message_at : (p e x : ℕ) → p < process_count g → e < edge_count g → x < item_count g →
+      moment g order x ≡ place order p * phases g + (e + 3) → source g e ≡ p
   message_at p e x n h l is =
       let r = moment_parts x p (e + 3) l n (omega arith) is in
       elim (item_cases g x l) [
         | inl c ↦ absurd (omega (arith, r.1, ap phase c.1))
-        | inr (inl c) ↦ let same : c.0 ≡ e = omega (arith, r.1, ap phase c.3) in ap (source g) (sym same) ∙ sym (ap (producer_of_item g) c.3) ∙ r.0
+        | inr (inl c) ↦ let same : c.0 ≡ e = omega (arith, r.1, ap phase c.3) in
+            ap (source g) (sym same) ∙ sym (ap (producer_of_item g) c.3) ∙ r.0
         | inr (inr c) ↦ absurd (omega (arith, r.1, ap phase c.3))
       ]
 
   -- ---- what has been sent before a moment
 
   -- if nothing is sent at the moment, as much before the next
-  pub sent_kept : (m node : ℕ) → ((y : ℕ) → y < item_count g → is_sent g y ≡ true → moment g order y ≡ m → ⊥) → sent_before g order (m + 1) node ≡ sent_before g order m node
-  sent_kept m node none = same_filter _ _ (numbers_below (item_count g)) (λ y k. by_sent y (numbers-Contains (item_count g) y k) (is_sent g y) refl)
+  pub sent_kept : (m node : ℕ) → ((y : ℕ) → y < item_count g → is_sent g y ≡ true → moment g order y ≡ m → ⊥) →
+      sent_before g order (m + 1) node ≡ sent_before g order m node
+  sent_kept m node none = same_filter _ _ (numbers_below (item_count g))
+      (λ y k. by_sent y (numbers-Contains (item_count g) y k) (is_sent g y) refl)
     where
-      by_sent : (y : ℕ) → y < item_count g → (b : Bool) → is_sent g y ≡ b → (is_sent g y && (home g y == node) && nat_lt (moment g order y) (m + 1)) ≡
+      by_sent : (y : ℕ) → y < item_count g → (b : Bool) → is_sent g y ≡ b →
+          (is_sent g y && (home g y == node) && nat_lt (moment g order y) (m + 1)) ≡
           (is_sent g y && (home g y == node) && nat_lt (moment g order y) m)
       by_sent y l true e = ap (λ t. is_sent g y && (home g y == node) && t) (elim (cases_order (moment g order y) m) [
         | inl is ↦ absurd (none y l e is)
         | inr (inl less) ↦ lt-ltb (moment g order y) (m + 1) (omega arith) ∙ sym (lt-ltb (moment g order y) m less)
-        | inr (inr more) ↦ le-ltb (moment g order y) (m + 1) (omega arith) ∙ sym (le-ltb (moment g order y) m (omega arith))
+        | inr (inr more) ↦ le-ltb (moment g order y) (m + 1) (omega arith)
+            ∙ sym (le-ltb (moment g order y) m (omega arith))
       ])
-      by_sent y l false e = ap (λ s. s && (home g y == node) && nat_lt (moment g order y) (m + 1)) e ∙ sym (ap (λ s. s && (home g y == node) && nat_lt (moment g order y) m) e)
+      by_sent y l false e = ap (λ s. s && (home g y == node) && nat_lt (moment g order y) (m + 1)) e
+          ∙ sym (ap (λ s. s && (home g y == node) && nat_lt (moment g order y) m) e)
 
   module _ (r : Reach) where
     abbrev sent_reach : ℕ → ℕ → List ℕ
     sent_reach m node = flat_map (reach_of r) (sent_before g order m node)
 
-    sent_by : (m node y : ℕ) → y < item_count g → is_sent g y ≡ true → home g y ≡ node → moment g order y < m → Contains (sent_before g order m node) y
-    sent_by m node y l e h k = Contains-filter (λ y. is_sent g y && (home g y == node) && nat_lt (moment g order y) m) (numbers_below (item_count g)) y
+    sent_by : (m node y : ℕ) → y < item_count g → is_sent g y ≡ true → home g y ≡ node → moment g order y < m →
+        Contains (sent_before g order m node) y
+    sent_by m node y l e h k = Contains-filter (λ y. is_sent g y && (home g y == node) && nat_lt (moment g order y) m)
+        (numbers_below (item_count g)) y
         (and_from _ _ (and_from _ _ e (eq-eqb _ _ h)) (lt-ltb _ _ k)) (Contains-numbers (item_count g) y l)
 
-    sent_parts : (m node y : ℕ) → Contains (sent_before g order m node) y → (y < item_count g) × (is_sent g y ≡ true) × (home g y ≡ node) × (moment g order y < m)
+    sent_parts : (m node y : ℕ) → Contains (sent_before g order m node) y →
+        (y < item_count g) × (is_sent g y ≡ true) × (home g y ≡ node) × (moment g order y < m)
     sent_parts m node y k =
-        let a = Contains-filter_parts (λ y. is_sent g y && (home g y == node) && nat_lt (moment g order y) m) (numbers_below (item_count g)) y k in
+        let a = Contains-filter_parts (λ y. is_sent g y && (home g y == node) && nat_lt (moment g order y) m)
+        (numbers_below (item_count g)) y k in
         let b = and_parts _ _ a.1 in
         let c = and_parts _ _ b.0 in
         (numbers-Contains (item_count g) y a.0, c.0, eqb-true _ _ c.1, ltb-true _ _ b.1)
 
-    in_sent : (m node y v : ℕ) → Contains (sent_before g order m node) y → is_in (reach_of r y) v ≡ true → is_in (sent_reach m node) v ≡ true
-    in_sent m node y v k t = is_in_from (sent_reach m node) v (Contains-flat_map (reach_of r) (sent_before g order m node) y v k (from_is_in (reach_of r y) v t))
+    in_sent : (m node y v : ℕ) → Contains (sent_before g order m node) y → is_in (reach_of r y) v ≡ true →
+        is_in (sent_reach m node) v ≡ true
+    in_sent m node y v k t = is_in_from (sent_reach m node) v
+        (Contains-flat_map (reach_of r) (sent_before g order m node) y v k (from_is_in (reach_of r y) v t))
 
-    from_sent : (m node v : ℕ) → is_in (sent_reach m node) v ≡ true → (y : ℕ) × Contains (sent_before g order m node) y × (is_in (reach_of r y) v ≡ true)
-    from_sent m node v t = let a = Contains-flat_map_parts (reach_of r) (sent_before g order m node) v (from_is_in (sent_reach m node) v t) in (a.0, a.1, is_in_from (reach_of r a.0) v a.2)
+    from_sent : (m node v : ℕ) → is_in (sent_reach m node) v ≡ true →
+        (y : ℕ) × Contains (sent_before g order m node) y × (is_in (reach_of r y) v ≡ true)
+    from_sent m node v t = let a =
+        Contains-flat_map_parts (reach_of r) (sent_before g order m node) v (from_is_in (sent_reach m node) v t) in
+        (a.0, a.1, is_in_from (reach_of r a.0) v a.2)
 
     -- with the item that is sent at the moment
-    sent_next : (x m node : ℕ) → x < item_count g → is_sent g x ≡ true → moment g order x ≡ m → home g x ≡ node → (v : ℕ) →
+    sent_next : (x m node : ℕ) → x < item_count g → is_sent g x ≡ true → moment g order x ≡ m → home g x ≡ node →
+        (v : ℕ) →
         is_in (sent_reach (m + 1) node) v ≡ (is_in (sent_reach m node) v || is_in (reach_of r x) v)
-    sent_next x m node l e is h v = same_truth (is_in (sent_reach (m + 1) node) v) (is_in (sent_reach m node) v || is_in (reach_of r x) v)
+    sent_next x m node l e is h v =
+        same_truth (is_in (sent_reach (m + 1) node) v) (is_in (sent_reach m node) v || is_in (reach_of r x) v)
         (λ t. let a = from_sent (m + 1) node v t in let b = sent_parts (m + 1) node a.0 a.1 in ⊎_elim
         (λ (k : moment g order a.0 < m). or_left _ _ (in_sent m node a.0 v (sent_by m node a.0 b.0 b.1 b.2 k) a.2))
-        (λ (k : m ≤ moment g order a.0). or_right _ _ (subst (λ y. is_in (reach_of r y) v ≡ true) (same_moment a.0 x b.0 l (let n = b.3 in omega arith)) a.2))
+        (λ (k : m ≤ moment g order a.0). or_right _ _
+        (subst (λ y. is_in (reach_of r y) v ≡ true) (same_moment a.0 x b.0 l (let n = b.3 in omega arith)) a.2))
         (cases_lt (moment g order a.0) m))
         (λ t. ⊎_elim
-        (λ (s : is_in (sent_reach m node) v ≡ true). let a = from_sent m node v s in let b = sent_parts m node a.0 a.1 in
+        (λ (s : is_in (sent_reach m node) v ≡ true). let a = from_sent m node v s in
+        let b = sent_parts m node a.0 a.1 in
         in_sent (m + 1) node a.0 v (sent_by (m + 1) node a.0 b.0 b.1 b.2 (let n = b.3 in omega arith)) a.2)
-        (λ (s : is_in (sent_reach m node) v ≡ false). in_sent (m + 1) node x v (sent_by (m + 1) node x l e h (omega arith)) (sym (ap (λ b. b || is_in (reach_of r x) v) s) ∙ t))
+        (λ (s : is_in (sent_reach m node) v ≡ false). in_sent (m + 1) node x v
+        (sent_by (m + 1) node x l e h (omega arith)) (sym (ap (λ b. b || is_in (reach_of r x) v) s) ∙ t))
         (cases_Bool (is_in (sent_reach m node) v)))
 
-    other_node : (x m node : ℕ) → x < item_count g → moment g order x ≡ m → (home g x ≡ node → ⊥) → SameElements (sent_reach (m + 1) node) (sent_reach m node)
+    other_node : (x m node : ℕ) → x < item_count g → moment g order x ≡ m → (home g x ≡ node → ⊥) →
+        SameElements (sent_reach (m + 1) node) (sent_reach m node)
     other_node x m node l is h v = same_truth (is_in (sent_reach (m + 1) node) v) (is_in (sent_reach m node) v)
         (λ t. let a = from_sent (m + 1) node v t in let b = sent_parts (m + 1) node a.0 a.1 in ⊎_elim
         (λ (k : moment g order a.0 < m). in_sent m node a.0 v (sent_by m node a.0 b.0 b.1 b.2 k) a.2)
-        (λ (k : m ≤ moment g order a.0). absurd (h (ap (home g) (sym (same_moment a.0 x b.0 l (let n = b.3 in omega arith))) ∙ b.2)))
+        (λ (k : m ≤ moment g order a.0).
+        absurd (h (ap (home g) (sym (same_moment a.0 x b.0 l (let n = b.3 in omega arith))) ∙ b.2)))
         (cases_lt (moment g order a.0) m))
-        (λ s. let a = from_sent m node v s in let b = sent_parts m node a.0 a.1 in in_sent (m + 1) node a.0 v (sent_by (m + 1) node a.0 b.0 b.1 b.2 (let n = b.3 in omega arith)) a.2)
+        (λ s. let a = from_sent m node v s in
+        let b = sent_parts m node a.0 a.1 in
+        in_sent (m + 1) node a.0 v (sent_by (m + 1) node a.0 b.0 b.1 b.2 (let n = b.3 in omega arith)) a.2)
 
     -- ---- one moment after another
 
     module _ (k m : ℕ) (rs known sent : List (List ℕ)) (agrees : AgreesUntil g order r k m rs known sent) where
       -- a moment without an item
-      pub skipped : ((y : ℕ) → y < item_count g → moment g order y ≡ m → ⊥) → AgreesUntil g order r k (m + 1) rs known sent
+      pub skipped : ((y : ℕ) → y < item_count g → moment g order y ≡ m → ⊥) →
+          AgreesUntil g order r k (m + 1) rs known sent
       skipped none = record {
         items = agrees.items;
         known_nodes = agrees.known_nodes;
         sent_nodes = agrees.sent_nodes;
-        reached = λ y l h. ⊎_elim (λ (d : moment g order y < m). agrees.reached y l d) (λ (d : m ≤ moment g order y). absurd (none y l (omega arith))) (cases_lt (moment g order y) m);
+        reached = λ y l h. ⊎_elim (λ (d : moment g order y < m). agrees.reached y l d)
+            (λ (d : m ≤ moment g order y). absurd (none y l (omega arith))) (cases_lt (moment g order y) m);
         knows = agrees.knows;
-        sends = λ node l v. agrees.sends node l v ∙ ap (λ ys. is_in (flat_map (reach_of r) ys) v) (sym (sent_kept m node (λ y i e d. none y i d)));
+        sends = λ node l v. agrees.sends node l v
+            ∙ ap (λ ys. is_in (flat_map (reach_of r) ys) v) (sym (sent_kept m node (λ y i e d. none y i d)));
       }
 
-      module _ (x : ℕ) (within : x < item_count g) (at : moment g order x ≡ m) (reach : List ℕ) (right : SameElements reach (reach_of r x)) where
-        reached_next : (y : ℕ) → y < item_count g → moment g order y < m + 1 → SameElements (reach_of (set rs x reach) y) (reach_of r y)
+      module _ (x : ℕ) (within : x < item_count g) (at : moment g order x ≡ m) (reach : List ℕ)
+          (right : SameElements reach (reach_of r x)) where
+        reached_next : (y : ℕ) → y < item_count g → moment g order y < m + 1 →
+            SameElements (reach_of (set rs x reach) y) (reach_of r y)
         reached_next y l h v = ⊎_elim
-            (λ (e : y ≡ x). ap (λ z. is_in (reach_of (set rs x reach) z) v) e ∙ ap (λ zs. is_in zs v) (get_or-set_same rs x reach [] (let i = agrees.items in omega arith)) ∙ right v ∙
+            (λ (e : y ≡ x). ap (λ z. is_in (reach_of (set rs x reach) z) v) e ∙ ap (λ zs. is_in zs v)
+            (get_or-set_same rs x reach [] (let i = agrees.items in omega arith)) ∙ right v ∙
             ap (λ z. is_in (reach_of r z) v) (sym e))
-            (λ (e : y ≡ x → ⊥). ap (λ zs. is_in zs v) (get_or-set_other rs x y reach [] e) ∙ agrees.reached y l (before_it e) v)
+            (λ (e : y ≡ x → ⊥). ap (λ zs. is_in zs v) (get_or-set_other rs x y reach [] e)
+            ∙ agrees.reached y l (before_it e) v)
             (cases_eq y x)
           where
             before_it : (y ≡ x → ⊥) → moment g order y < m
-            before_it e = ⊎_elim (λ (d : moment g order y < m). d) (λ (d : m ≤ moment g order y). absurd (e (same_moment y x l within (omega arith)))) (cases_lt (moment g order y) m)
+            before_it e = ⊎_elim (λ (d : moment g order y < m). d)
+                (λ (d : m ≤ moment g order y). absurd (e (same_moment y x l within (omega arith))))
+                (cases_lt (moment g order y) m)
 
-        module _ (unsent_none : is_sent g x ≡ false → (v : ℕ) → is_in (reach_of r x) v ≡ false) (b : List ℕ) (adds : Adds (get_or sent (home g x) []) reach b) (there : home g x < length g.nodes) where
+        module _ (unsent_none : is_sent g x ≡ false → (v : ℕ) → is_in (reach_of r x) v ≡ false) (b : List ℕ)
+            (adds : Adds (get_or sent (home g x) []) reach b) (there : home g x < length g.nodes) where
           here_next : (s : Bool) → is_sent g x ≡ s → (v : ℕ) → is_in b v ≡ is_in (sent_reach (m + 1) (home g x)) v
-          here_next true e v = adds v ∙ ap₂ ◌||◌ (agrees.sends (home g x) there v) (right v) ∙ sym (sent_next x m (home g x) within e at refl v)
-          here_next false e v = adds v ∙ ap₂ ◌||◌ (agrees.sends (home g x) there v) (right v ∙ unsent_none e v) ∙ or_nothing (is_in (sent_reach m (home g x)) v)
-              ∙ ap (λ ys. is_in (flat_map (reach_of r) ys) v) (sym (sent_kept m (home g x) (λ y i t d. both_ways _ e (subst (λ z. is_sent g z ≡ true) (same_moment y x i within (d ∙ sym at)) t))))
+          here_next true e v = adds v ∙ ap₂ ◌||◌ (agrees.sends (home g x) there v) (right v)
+              ∙ sym (sent_next x m (home g x) within e at refl v)
+          here_next false e v = adds v ∙ ap₂ ◌||◌ (agrees.sends (home g x) there v) (right v ∙ unsent_none e v)
+              ∙ or_nothing (is_in (sent_reach m (home g x)) v)
+              ∙ ap (λ ys. is_in (flat_map (reach_of r) ys) v) (sym (sent_kept m (home g x) (λ y i t d.
+              both_ways _ e (subst (λ z. is_sent g z ≡ true) (same_moment y x i within (d ∙ sym at)) t))))
             where
               or_nothing : (a : Bool) → (a || false) ≡ a
               or_nothing true = refl
@@ -210,7 +267,8 @@ module _ (g : Graph) (order : List ℕ) (top : IsTopological g order) where
                 (λ (e : node ≡ home g x). ap (λ n. is_in (get_or (set sent (home g x) b) n []) v) e ∙
                 ap (λ zs. is_in zs v) (get_or-set_same sent (home g x) b [] (let i = agrees.sent_nodes in omega arith))
                 ∙ here_next (is_sent g x) refl v ∙ ap (λ n. is_in (sent_reach (m + 1) n) v) (sym e))
-                (λ (e : node ≡ home g x → ⊥). ap (λ zs. is_in zs v) (get_or-set_other sent (home g x) node b [] e) ∙ agrees.sends node l v
+                (λ (e : node ≡ home g x → ⊥). ap (λ zs. is_in zs v) (get_or-set_other sent (home g x) node b [] e)
+                ∙ agrees.sends node l v
                 ∙ sym (other_node x m node within at (λ d. e (sym d)) v))
                 (cases_eq node (home g x));
           }

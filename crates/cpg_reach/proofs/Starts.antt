@@ -11,20 +11,31 @@ use Rattle.cpg_reach.specs.Variables.{Adds}
 use Rattle.cpg_reach.specs.Walked.{heard_by, start_by}
 use Rattle.cpg_reach.proofs.Adding.{same_after}
 
-pub frozen_at : (g : Graph) (p : ℕ) (ps : List Process) (q : Process) (b : Bool) → ps ≡ g.processes → p < process_count g → (get_or ps p q).frozen ≡ b → (process_at g p).frozen ≡ b
-frozen_at g p ps q b is l e = ap (λ (x : Process). x.frozen) (get_or_default g.processes p _ q l) ∙ ap (λ xs. (get_or xs p q).frozen) (sym is) ∙ e
+pub frozen_at : (g : Graph) (p : ℕ) (ps : List Process) (q : Process) (b : Bool) → ps ≡ g.processes →
+    p < process_count g → (get_or ps p q).frozen ≡ b →
+    (process_at g p).frozen ≡ b
+frozen_at g p ps q b is l e =
+    ap (λ (x : Process). x.frozen) (get_or_default g.processes p _ q l) ∙ ap (λ xs. (get_or xs p q).frozen) (sym is) ∙ e
 
 module _ (g : Graph) (r : Reach) (known : List (List ℕ)) (p : ℕ) where
   abbrev by_test : Bool → List ℕ
-  by_test b = cond b (map value_variable (conditions_of g p)) (get_or known (node_of g p) [] ++ heard_by g r (node_of g p) (conditions_of g p) ++ flat_map (input_reach g r) (inputs g p))
+  by_test b = cond b (map value_variable (conditions_of g p)) (get_or known (node_of g p) []
+      ++ heard_by g r (node_of g p) (conditions_of g p) ++ flat_map (input_reach g r) (inputs g p))
 
-  pub start_frozen : (xs : List ℕ) → (process_at g p).frozen ≡ true → SameElements xs (map value_variable (conditions_of g p)) → SameElements xs (start_by g r known p)
+  pub start_frozen : (xs : List ℕ) → (process_at g p).frozen ≡ true →
+      SameElements xs (map value_variable (conditions_of g p)) →
+      SameElements xs (start_by g r known p)
   start_frozen xs e h v = h v ∙ ap (λ b. is_in (by_test b) v) (sym e)
 
-  pub start_plain : (a b c : List ℕ) (node : ℕ) → (process_at g p).frozen ≡ false → node ≡ node_of g p → a ≡ get_or known node [] → Adds a (heard_by g r node (conditions_of g p)) b →
+  pub start_plain : (a b c : List ℕ) (node : ℕ) → (process_at g p).frozen ≡ false → node ≡ node_of g p →
+      a ≡ get_or known node [] →
+      Adds a (heard_by g r node (conditions_of g p)) b →
       Adds b (flat_map (input_reach g r) (inputs g p)) c → SameElements c (start_by g r known p)
   start_plain a b c node e n is heard ins v =
-      same_after b (get_or known node [] ++ heard_by g r node (conditions_of g p)) (flat_map (input_reach g r) (inputs g p)) c
-      (same_after a (get_or known node []) (heard_by g r node (conditions_of g p)) b (λ u. ap (λ xs. is_in xs u) is) heard) ins v
-      ∙ ap (λ m. is_in (get_or known m [] ++ heard_by g r m (conditions_of g p) ++ flat_map (input_reach g r) (inputs g p)) v) n
+      same_after b (get_or known node [] ++ heard_by g r node (conditions_of g p))
+      (flat_map (input_reach g r) (inputs g p)) c
+      (same_after a (get_or known node []) (heard_by g r node (conditions_of g p)) b
+      (λ u. ap (λ xs. is_in xs u) is) heard) ins v
+      ∙ ap (λ m. is_in (get_or known m [] ++ heard_by g r m (conditions_of g p)
+      ++ flat_map (input_reach g r) (inputs g p)) v) n
       ∙ ap (λ t. is_in (by_test t) v) (sym e)

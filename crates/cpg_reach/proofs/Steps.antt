@@ -1,33 +1,41 @@
 -- The steps of the walk along an order: a start, and what may be sent after an end.
-use Rattle.std.proofs.Common.{ℕ, ◌+◌, ◌*◌, ◌<◌, ◌≤◌, ◌≡◌, ◌==◌, Bool, true, false, cond, ◌&&◌, ◌||◌, List, [], ◌∷◌, ◌++◌, length, get_or, set, take, map, filter, flat_map, Contains, refl, sym, ap}
+use Rattle.std.proofs.Common.{ℕ, ◌+◌, ◌*◌, ◌<◌, ◌≤◌, ◌≡◌, ◌==◌, Bool, true, false, cond, ◌&&◌, ◌||◌, List, [], ◌∷◌}
+use Rattle.std.proofs.Common.{◌++◌, length, get_or, set, take, map, filter, flat_map, Contains, refl, sym, ap}
 use Rattle.std.proofs.Common.{ap₂, ◌∙◌, subst, ⊎_elim, inl, inr, arith, lt-ltb, le-ltb, eq-eqb, ltb-true}
 use Rattle.std.specs.Prelude.{nat_lt}
 use Rattle.std.specs.List.{list_any}
-use Rattle.std.proofs.lemmas.Bool.{cases_lt, cases_eq, cases_order, and_parts, and_from, both_ways, or_left, or_right, and_right}
+use Rattle.std.proofs.lemmas.Bool.{cases_lt, cases_eq, cases_order, and_parts, and_from, both_ways, or_left, or_right}
+use Rattle.std.proofs.lemmas.Bool.{and_right}
 use Rattle.std.proofs.lemmas.Bool.Decides.{eqb_tells}
 use Rattle.std.proofs.lemmas.List.{length-set, get_or-set_same, get_or-set_other, take_more, append-nil}
 use Rattle.std.proofs.lemmas.List.Elements.{filter-append}
 use Rattle.std.proofs.lemmas.Grind.{flat_map-append}
 use Rattle.cpg_base.specs.Numbers.{numbers_below}
-use Rattle.cpg_base.specs.Graph.{Graph, process_count, edge_count, condition_count, item_count, item_at, message_item, broadcast_item, process_at, node_of, source, inputs, is_message, is_sent}
+use Rattle.cpg_base.specs.Graph.{Graph, process_count, edge_count, condition_count, item_count, item_at, message_item}
+use Rattle.cpg_base.specs.Graph.{broadcast_item, process_at, node_of, source, inputs, is_message, is_sent}
 use Rattle.cpg_base.specs.Graph.{is_sent_item, is_frozen, producer, home, process_of, value_variable}
 use Rattle.cpg_base.specs.declared.item.Item.{Item}
-use Rattle.cpg_base.proofs.Lists.{Contains-filter_parts, numbers-Contains, list_any_parts, same_truth, same_filter, filter_none}
+use Rattle.cpg_base.proofs.Lists.{Contains-filter_parts, numbers-Contains, list_any_parts, same_truth, same_filter}
+use Rattle.cpg_base.proofs.Lists.{filter_none}
 use Rattle.cpg_base.proofs.Inputs.{inputs_parts}
 use Rattle.cpg_base.proofs.Items.{item_at-start, process_of_below, start_not_sent}
 use Rattle.cpg_order.specs.Urgency.{IsTopological}
 use Rattle.cpg_base.specs.Order.{before_on_node, place}
 use Rattle.cpg_order.specs.Deciding.{decides, conditions_of, outcomes}
 use Rattle.cpg_order.specs.Queue.{queued_before, is_queued_before}
-use Rattle.cpg_order.specs.Reach.{Reach, IsReach, is_in, reach_of, end_reach, hearing_reach, source_value, input_reach, start_reach, sent_value, send_reach, reach_by_item}
+use Rattle.cpg_order.specs.Reach.{Reach, IsReach, is_in, reach_of, end_reach, hearing_reach, source_value, input_reach}
+use Rattle.cpg_order.specs.Reach.{start_reach, sent_value, send_reach, reach_by_item}
 use Rattle.cpg_base.proofs.Places.{same_place, Contains-order, comes_before_from_places, place-lt, get_or-place}
-use Rattle.cpg_order.proofs.Moments.{phase, phases, moment, message_sooner, broadcast_sooner, end_sooner, moment_of_start, producer_in_range, phase_below, phase_is_rank, queued_sooner, sooner}
+use Rattle.cpg_order.proofs.Moments.{phase, phases, moment, message_sooner, broadcast_sooner, end_sooner}
+use Rattle.cpg_order.proofs.Moments.{moment_of_start, producer_in_range, phase_below, phase_is_rank, queued_sooner}
+use Rattle.cpg_order.proofs.Moments.{sooner}
 use Rattle.cpg_order.proofs.Acyclic.{input_goes_up, source_in_order}
 use Rattle.cpg_order.proofs.DecidingLaws.{decides_earlier}
 use Rattle.cpg_order.proofs.ReachExists.{some_reach}
 use Rattle.cpg_order.specs.Elements.{SameElements}
 use Rattle.cpg_reach.specs.Variables.{Adds}
-use Rattle.cpg_reach.specs.Walked.{heard_by, start_by, send_by, known_after, on_node, sent_before, AgreesUntil, AreEmpty}
+use Rattle.cpg_reach.specs.Walked.{heard_by, start_by, send_by, known_after, on_node, sent_before, AgreesUntil}
+use Rattle.cpg_reach.specs.Walked.{AreEmpty}
 use Rattle.cpg_reach.proofs.Adding.{in_append}
 use Rattle.cpg_reach.proofs.Settling.{same_append, same_flat_map, same_cond, same_moment, sent_kept, nothing_at_end}
 
@@ -49,39 +57,49 @@ known_parts false false false s p = refl
 
 module _ (g : Graph) (order : List ℕ) (top : IsTopological g order) (r : Reach) (is : IsReach g order r) where
   -- a condition that decides a process belongs to an earlier one
-  decides_before : (p c : ℕ) → Contains (conditions_of g p) c → (c < condition_count g) × (place order (process_of g c) < place order p)
+  decides_before : (p c : ℕ) → Contains (conditions_of g p) c →
+      (c < condition_count g) × (place order (process_of g c) < place order p)
   decides_before p c k =
-      let a = Contains-filter_parts (λ c. list_any (λ o. decides g o p c) (outcomes (condition_count g))) (numbers_below (condition_count g)) c k in
+      let a = Contains-filter_parts (λ c. list_any (λ o. decides g o p c) (outcomes (condition_count g)))
+      (numbers_below (condition_count g)) c k in
       let o = list_any_parts (λ o. decides g o p c) (outcomes (condition_count g)) a.1 in
       let l = numbers-Contains (condition_count g) c a.0 in
       (l, decides_earlier g order top o.0 p c l o.2)
 
   module _ (k m : ℕ) (rs known sent : List (List ℕ)) (agrees : AgreesUntil g order r k m rs known sent) where
-    end_right : (q : ℕ) → q < process_count g → place order q * phases g + 0 < m → SameElements (end_reach rs q) (end_reach r q)
-    end_right q l h = same_append (reach_of rs q) (q ∷ []) (reach_of r q) (q ∷ []) (agrees.reached q (omega arith) (let e = moment_of_start g order top q l in omega arith)) (λ v. refl)
+    end_right : (q : ℕ) → q < process_count g → place order q * phases g + 0 < m →
+        SameElements (end_reach rs q) (end_reach r q)
+    end_right q l h = same_append (reach_of rs q) (q ∷ []) (reach_of r q) (q ∷ [])
+        (agrees.reached q (omega arith) (let e = moment_of_start g order top q l in omega arith)) (λ v. refl)
 
-    hearing_right : (p c node : ℕ) → place order p * phases g ≤ m → c < condition_count g → place order (process_of g c) < place order p →
+    hearing_right : (p c node : ℕ) → place order p * phases g ≤ m → c < condition_count g →
+        place order (process_of g c) < place order p →
         SameElements (hearing_reach g rs node c) (hearing_reach g r node c)
     hearing_right p c node d n l = let b = end_sooner g order top p (process_of g c) l in
-        same_cond (node_of g (process_of g c) == node) (end_reach rs (process_of g c)) (reach_of rs (broadcast_item g c)) (end_reach r (process_of g c)) (reach_of r (broadcast_item g c))
+        same_cond (node_of g (process_of g c) == node) (end_reach rs (process_of g c))
+        (reach_of rs (broadcast_item g c)) (end_reach r (process_of g c)) (reach_of r (broadcast_item g c))
         (λ t. end_right (process_of g c) (process_of_below g c n) (omega arith))
         (λ t. agrees.reached (broadcast_item g c) (omega arith) (omega (arith, broadcast_sooner g order top p c l)))
 
-    input_right : (p e : ℕ) → place order p * phases g ≤ m → Contains (inputs g p) e → SameElements (input_reach g rs e) (input_reach g r e)
+    input_right : (p e : ℕ) → place order p * phases g ≤ m → Contains (inputs g p) e →
+        SameElements (input_reach g rs e) (input_reach g r e)
     input_right p e d i =
         let l : e < edge_count g = (inputs_parts g p e i).0 in
         let up = input_goes_up g order top p e i in
         let b = end_sooner g order top p (source g e) up in
-        same_append (cond (is_message g e) (reach_of rs (message_item g e)) (end_reach rs (source g e))) (source_value g e)
+        same_append (cond (is_message g e) (reach_of rs (message_item g e)) (end_reach rs (source g e)))
+        (source_value g e)
         (cond (is_message g e) (reach_of r (message_item g e)) (end_reach r (source g e))) (source_value g e)
-        (same_cond (is_message g e) (reach_of rs (message_item g e)) (end_reach rs (source g e)) (reach_of r (message_item g e)) (end_reach r (source g e))
+        (same_cond (is_message g e) (reach_of rs (message_item g e)) (end_reach rs (source g e))
+        (reach_of r (message_item g e)) (end_reach r (source g e))
         (λ t. agrees.reached (message_item g e) (omega arith) (omega (arith, message_sooner g order top p e l up)))
         (λ t. end_right (source g e) (source_in_order g order top e l) (omega arith)))
         (λ v. refl)
 
   -- ---- a start
 
-  module _ (p : ℕ) (within : p < process_count g) (rs known sent : List (List ℕ)) (agrees : AgreesUntil g order r (place order p) (place order p * phases g) rs known sent)
+  module _ (p : ℕ) (within : p < process_count g) (rs known sent : List (List ℕ))
+      (agrees : AgreesUntil g order r (place order p) (place order p * phases g) rs known sent)
       (there : node_of g p < length g.nodes) where
     abbrev heard_own : Reach → List ℕ
     heard_own s = heard_by g s (node_of g p) (conditions_of g p)
@@ -99,111 +117,161 @@ module _ (g : Graph) (order : List ℕ) (top : IsTopological g order) (r : Reach
     ends_earlier = flat_map (end_reach r) earlier
 
     heard_right : SameElements (heard_own rs) (heard_own r)
-    heard_right = same_flat_map (λ c. value_variable c ∷ hearing_reach g rs (node_of g p) c) (λ c. value_variable c ∷ hearing_reach g r (node_of g p) c) (conditions_of g p)
-        (λ c i. let b = decides_before p c i in same_append (value_variable c ∷ []) (hearing_reach g rs (node_of g p) c) (value_variable c ∷ []) (hearing_reach g r (node_of g p) c) (λ v. refl)
-        (hearing_right (place order p) (place order p * phases g) rs known sent agrees p c (node_of g p) (omega arith) b.0 b.1))
+    heard_right = same_flat_map (λ c. value_variable c ∷ hearing_reach g rs (node_of g p) c)
+        (λ c. value_variable c ∷ hearing_reach g r (node_of g p) c) (conditions_of g p)
+        (λ c i. let b = decides_before p c i in
+        same_append (value_variable c ∷ []) (hearing_reach g rs (node_of g p) c) (value_variable c ∷ [])
+        (hearing_reach g r (node_of g p) c) (λ v. refl)
+        (hearing_right (place order p) (place order p * phases g) rs known sent agrees p c (node_of g p)
+        (omega arith) b.0 b.1))
 
     ins_right : SameElements (ins rs) (ins r)
-    ins_right = same_flat_map (input_reach g rs) (input_reach g r) (inputs g p) (λ e i. input_right (place order p) (place order p * phases g) rs known sent agrees p e (omega arith) i)
+    ins_right = same_flat_map (input_reach g rs) (input_reach g r) (inputs g p)
+        (λ e i. input_right (place order p) (place order p * phases g) rs known sent agrees p e (omega arith) i)
 
     -- what the processes up to this one let hear
-    heard_up_to : heard_by g r (node_of g p) (flat_map (conditions_of g) (earlier ++ p ∷ [])) ≡ heard_earlier ++ heard_own r
-    heard_up_to = ap (heard_by g r (node_of g p)) (flat_map-append (conditions_of g) earlier (p ∷ []) ∙ ap (λ cs. flat_map (conditions_of g) earlier ++ cs) (append-nil (conditions_of g p)))
-        ∙ flat_map-append (λ c. value_variable c ∷ hearing_reach g r (node_of g p) c) (flat_map (conditions_of g) earlier) (conditions_of g p)
+    heard_up_to : heard_by g r (node_of g p) (flat_map (conditions_of g) (earlier ++ p ∷ []))
+        ≡ heard_earlier ++ heard_own r
+    heard_up_to = ap (heard_by g r (node_of g p)) (flat_map-append (conditions_of g) earlier (p ∷ [])
+        ∙ ap (λ cs. flat_map (conditions_of g) earlier ++ cs) (append-nil (conditions_of g p)))
+        ∙ flat_map-append (λ c. value_variable c ∷ hearing_reach g r (node_of g p) c)
+        (flat_map (conditions_of g) earlier) (conditions_of g p)
 
-    plain_right : SameElements (get_or known (node_of g p) [] ++ heard_own rs ++ ins rs) (heard_by g r (node_of g p) (flat_map (conditions_of g) (earlier ++ p ∷ [])) ++ ends_earlier ++ ins r)
+    plain_right : SameElements (get_or known (node_of g p) [] ++ heard_own rs ++ ins rs)
+        (heard_by g r (node_of g p) (flat_map (conditions_of g) (earlier ++ p ∷ [])) ++ ends_earlier ++ ins r)
     plain_right v =
         in_append (get_or known (node_of g p) [] ++ heard_own rs) (ins rs) v
-        ∙ ap₂ ◌||◌ (in_append (get_or known (node_of g p) []) (heard_own rs) v ∙ ap₂ ◌||◌ (agrees.knows (node_of g p) there v ∙ in_append heard_earlier ends_earlier v) (heard_right v)) (ins_right v)
+        ∙ ap₂ ◌||◌ (in_append (get_or known (node_of g p) []) (heard_own rs) v ∙ ap₂ ◌||◌
+        (agrees.knows (node_of g p) there v ∙ in_append heard_earlier ends_earlier v) (heard_right v)) (ins_right v)
         ∙ start_parts (is_in heard_earlier v) (is_in ends_earlier v) (is_in (heard_own r) v) (is_in (ins r) v)
-        ∙ ap (λ b. b || is_in (ins r) v) (ap (λ b. b || is_in ends_earlier v) (sym (in_append heard_earlier (heard_own r) v) ∙ ap (λ xs. is_in xs v) (sym heard_up_to))
+        ∙ ap (λ b. b || is_in (ins r) v) (ap (λ b. b || is_in ends_earlier v)
+        (sym (in_append heard_earlier (heard_own r) v) ∙ ap (λ xs. is_in xs v) (sym heard_up_to))
         ∙ sym (in_append (heard_by g r (node_of g p) (flat_map (conditions_of g) (earlier ++ p ∷ []))) ends_earlier v))
-        ∙ sym (in_append (heard_by g r (node_of g p) (flat_map (conditions_of g) (earlier ++ p ∷ [])) ++ ends_earlier) (ins r) v)
+        ∙ sym (in_append (heard_by g r (node_of g p) (flat_map (conditions_of g) (earlier ++ p ∷ [])) ++ ends_earlier)
+        (ins r) v)
 
     start_is : SameElements (start_reach g order r p) (reach_of r p)
-    start_is v = sym (is.each p v (omega arith) ∙ ap (λ i. is_in (reach_by_item g order r p i) v) (item_at-start g p within))
+    start_is v =
+        sym (is.each p v (omega arith) ∙ ap (λ i. is_in (reach_by_item g order r p i) v) (item_at-start g p within))
 
     pub start_right : (reach : List ℕ) → SameElements reach (start_by g rs known p) → SameElements reach (reach_of r p)
     start_right reach h v = h v
-        ∙ same_cond (process_at g p).frozen (map value_variable (conditions_of g p)) (get_or known (node_of g p) [] ++ heard_own rs ++ ins rs) (map value_variable (conditions_of g p))
-        (heard_by g r (node_of g p) (flat_map (conditions_of g) (earlier ++ p ∷ [])) ++ ends_earlier ++ ins r) (λ t u. refl) (λ t. plain_right) v
+        ∙ same_cond (process_at g p).frozen (map value_variable (conditions_of g p))
+        (get_or known (node_of g p) [] ++ heard_own rs ++ ins rs) (map value_variable (conditions_of g p))
+        (heard_by g r (node_of g p) (flat_map (conditions_of g) (earlier ++ p ∷ [])) ++ ends_earlier ++ ins r)
+        (λ t u. refl) (λ t. plain_right) v
         ∙ start_is v
 
-    on_node_next : (node : ℕ) → on_node g order (place order p + 1) node ≡ on_node g order (place order p) node ++ cond (node_of g p == node) (p ∷ []) []
+    on_node_next : (node : ℕ) →
+        on_node g order (place order p + 1) node ≡ on_node g order (place order p) node
+        ++ cond (node_of g p == node) (p ∷ []) []
     on_node_next node =
         let c = Contains-order (process_count g) order top.all p within in
-        ap (filter (λ q. node_of g q == node)) (take_more order (place order p) p (place-lt order p c) ∙ ap (λ q. take (place order p) order ++ q ∷ []) (get_or-place order p p c))
+        ap (filter (λ q. node_of g q == node)) (take_more order (place order p) p (place-lt order p c)
+        ∙ ap (λ q. take (place order p) order ++ q ∷ []) (get_or-place order p p c))
         ∙ filter-append (λ q. node_of g q == node) (take (place order p) order) (p ∷ [])
 
-    module _ (reach a b d : List ℕ) (right : SameElements reach (reach_of r p)) (heard : Adds (get_or known (node_of g p) []) (heard_own rs) a) (started : Adds a reach b)
+    module _ (reach a b d : List ℕ) (right : SameElements reach (reach_of r p))
+        (heard : Adds (get_or known (node_of g p) []) (heard_own rs) a) (started : Adds a reach b)
         (ended : Adds b (p ∷ []) d) where
-      known_after_here : known_after g r (node_of g p) (earlier ++ p ∷ []) ≡ (heard_earlier ++ heard_own r) ++ (ends_earlier ++ end_reach r p)
-      known_after_here = ap₂ ◌++◌ heard_up_to (flat_map-append (end_reach r) earlier (p ∷ []) ∙ ap (λ xs. ends_earlier ++ xs) (append-nil (end_reach r p)))
+      known_after_here : known_after g r (node_of g p) (earlier ++ p ∷ []) ≡ (heard_earlier ++ heard_own r)
+          ++ (ends_earlier ++ end_reach r p)
+      known_after_here = ap₂ ◌++◌ heard_up_to
+          (flat_map-append (end_reach r) earlier (p ∷ []) ∙ ap (λ xs. ends_earlier ++ xs) (append-nil (end_reach r p)))
 
       here : SameElements d (known_after g r (node_of g p) (earlier ++ p ∷ []))
       here v = ended v ∙ ap (λ t. t || is_in (p ∷ []) v)
-          (started v ∙ ap₂ ◌||◌ (heard v ∙ ap₂ ◌||◌ (agrees.knows (node_of g p) there v ∙ in_append heard_earlier ends_earlier v) (heard_right v)) (right v))
-          ∙ known_parts (is_in heard_earlier v) (is_in ends_earlier v) (is_in (heard_own r) v) (is_in (reach_of r p) v) (is_in (p ∷ []) v)
-          ∙ ap₂ ◌||◌ (sym (in_append heard_earlier (heard_own r) v)) (ap (λ t. is_in ends_earlier v || t) (sym (in_append (reach_of r p) (p ∷ []) v)) ∙ sym (in_append ends_earlier (end_reach r p) v))
+          (started v ∙ ap₂ ◌||◌ (heard v ∙ ap₂ ◌||◌
+          (agrees.knows (node_of g p) there v ∙ in_append heard_earlier ends_earlier v) (heard_right v)) (right v))
+          ∙ known_parts (is_in heard_earlier v) (is_in ends_earlier v) (is_in (heard_own r) v) (is_in (reach_of r p) v)
+          (is_in (p ∷ []) v)
+          ∙ ap₂ ◌||◌ (sym (in_append heard_earlier (heard_own r) v)) (ap (λ t. is_in ends_earlier v || t)
+          (sym (in_append (reach_of r p) (p ∷ []) v)) ∙ sym (in_append ends_earlier (end_reach r p) v))
           ∙ sym (in_append (heard_earlier ++ heard_own r) (ends_earlier ++ end_reach r p) v)
           ∙ ap (λ xs. is_in xs v) (sym known_after_here)
 
-      knows_next : (node : ℕ) → node < length g.nodes → SameElements (get_or (set known (node_of g p) d) node []) (known_after g r node (on_node g order (place order p + 1) node))
+      knows_next : (node : ℕ) → node < length g.nodes →
+          SameElements (get_or (set known (node_of g p) d) node [])
+          (known_after g r node (on_node g order (place order p + 1) node))
       knows_next node l v = elim (eqb_tells (node_of g p) node) [
         | inl same ↦ ap (λ n. is_in (get_or (set known (node_of g p) d) n []) v) (sym same.1)
-            ∙ ap (λ zs. is_in zs v) (get_or-set_same known (node_of g p) d [] (let i = agrees.known_nodes in omega arith))
+            ∙ ap (λ zs. is_in zs v)
+            (get_or-set_same known (node_of g p) d [] (let i = agrees.known_nodes in omega arith))
             ∙ here v
             ∙ ap (λ n. is_in (known_after g r n (on_node g order (place order p) n ++ p ∷ [])) v) same.1
-            ∙ ap (λ qs. is_in (known_after g r node qs) v) (ap (λ t. on_node g order (place order p) node ++ cond t (p ∷ []) []) (sym same.0) ∙ sym (on_node_next node))
+            ∙ ap (λ qs. is_in (known_after g r node qs) v)
+            (ap (λ t. on_node g order (place order p) node ++ cond t (p ∷ []) []) (sym same.0)
+            ∙ sym (on_node_next node))
         | inr other ↦ ap (λ zs. is_in zs v) (get_or-set_other known (node_of g p) node d [] (λ e. other.1 (sym e)))
             ∙ agrees.knows node l v
             ∙ ap (λ qs. is_in (known_after g r node qs) v)
-            (sym (append-nil (on_node g order (place order p) node)) ∙ ap (λ t. on_node g order (place order p) node ++ cond t (p ∷ []) []) (sym other.0) ∙ sym (on_node_next node))
+            (sym (append-nil (on_node g order (place order p) node))
+            ∙ ap (λ t. on_node g order (place order p) node ++ cond t (p ∷ []) []) (sym other.0)
+            ∙ sym (on_node_next node))
       ]
 
-      reached_start : (y : ℕ) → y < item_count g → moment g order y < place order p * phases g + 2 → SameElements (reach_of (set rs p reach) y) (reach_of r y)
+      reached_start : (y : ℕ) → y < item_count g → moment g order y < place order p * phases g + 2 →
+          SameElements (reach_of (set rs p reach) y) (reach_of r y)
       reached_start y l h v = ⊎_elim
-          (λ (e : y ≡ p). ap (λ z. is_in (reach_of (set rs p reach) z) v) e ∙ ap (λ zs. is_in zs v) (get_or-set_same rs p reach [] (let i = agrees.items in omega arith)) ∙ right v ∙
+          (λ (e : y ≡ p). ap (λ z. is_in (reach_of (set rs p reach) z) v) e
+          ∙ ap (λ zs. is_in zs v) (get_or-set_same rs p reach [] (let i = agrees.items in omega arith)) ∙ right v ∙
           ap (λ z. is_in (reach_of r z) v) (sym e))
-          (λ (e : y ≡ p → ⊥). ap (λ zs. is_in zs v) (get_or-set_other rs p y reach [] e) ∙ agrees.reached y l (sooner_than e) v)
+          (λ (e : y ≡ p → ⊥). ap (λ zs. is_in zs v) (get_or-set_other rs p y reach [] e)
+          ∙ agrees.reached y l (sooner_than e) v)
           (cases_eq y p)
         where
           sooner_than : (y ≡ p → ⊥) → moment g order y < place order p * phases g
           sooner_than e = ⊎_elim
               (λ (d : moment g order y < place order p * phases g). d)
               (λ (d : place order p * phases g ≤ moment g order y). ⊎_elim
-              (λ (f : moment g order y ≡ place order p * phases g + 1). absurd (nothing_at_end g order top p y within l f))
-              (λ (f : moment g order y ≡ place order p * phases g + 1 → ⊥). absurd (e (same_moment g order top y p l (omega arith) (let n = moment_of_start g order top p within in omega arith))))
+              (λ (f : moment g order y ≡ place order p * phases g + 1).
+              absurd (nothing_at_end g order top p y within l f))
+              (λ (f : moment g order y ≡ place order p * phases g + 1 → ⊥). absurd (e (same_moment g order top y p l
+              (omega arith) (let n = moment_of_start g order top p within in omega arith))))
               (cases_eq (moment g order y) (place order p * phases g + 1)))
               (cases_lt (moment g order y) (place order p * phases g))
 
-      sends_start : (node : ℕ) → sent_before g order (place order p * phases g + 2) node ≡ sent_before g order (place order p * phases g) node
-      sends_start node = ap (λ n. sent_before g order n node) (let e : place order p * phases g + 2 ≡ (place order p * phases g + 1) + 1 = omega arith in e)
-          ∙ sent_kept g order top (place order p * phases g + 1) node (λ y l t e. nothing_at_end g order top p y within l e)
+      sends_start : (node : ℕ) →
+          sent_before g order (place order p * phases g + 2) node ≡ sent_before g order (place order p * phases g) node
+      sends_start node = ap (λ n. sent_before g order n node)
+          (let e : place order p * phases g + 2 ≡ (place order p * phases g + 1) + 1 = omega arith in e)
+          ∙ sent_kept g order top (place order p * phases g + 1) node
+          (λ y l t e. nothing_at_end g order top p y within l e)
           ∙ sent_kept g order top (place order p * phases g) node (λ y l t e. both_ways _ (start_not_sent g p within)
-          (subst (λ z. is_sent g z ≡ true) (same_moment g order top y p l (omega arith) (let n = moment_of_start g order top p within in omega arith)) t))
+          (subst (λ z. is_sent g z ≡ true) (same_moment g order top y p l (omega arith)
+          (let n = moment_of_start g order top p within in omega arith)) t))
 
-      pub started_next : AgreesUntil g order r (place order p + 1) (place order p * phases g + 2) (set rs p reach) (set known (node_of g p) d) sent
+      pub started_next : AgreesUntil g order r (place order p + 1) (place order p * phases g + 2) (set rs p reach)
+          (set known (node_of g p) d) sent
       started_next = record {
         items = length-set rs p reach ∙ agrees.items;
         known_nodes = length-set known (node_of g p) d ∙ agrees.known_nodes;
         sent_nodes = agrees.sent_nodes;
         reached = reached_start;
         knows = knows_next;
-        sends = λ node l v. agrees.sends node l v ∙ ap (λ ys. is_in (flat_map (reach_of r) ys) v) (sym (sends_start node));
+        sends =
+            λ node l v. agrees.sends node l v ∙ ap (λ ys. is_in (flat_map (reach_of r) ys) v) (sym (sends_start node));
       }
 
   -- ---- what may be sent
 
   -- what stands before an item in its node's queue is what the node has sent before
-  queue_is : (x : ℕ) → x < item_count g → is_sent g x ≡ true → queued_before g order x ≡ sent_before g order (moment g order x) (home g x)
-  queue_is x l t = same_filter (λ y. is_queued_before g order y x) (λ y. is_sent g y && (home g y == home g x) && nat_lt (moment g order y) (moment g order x)) (numbers_below (item_count g))
-      (λ y k. same_truth _ _ (to_before y (numbers-Contains (item_count g) y k)) (from_before y (numbers-Contains (item_count g) y k)))
+  queue_is : (x : ℕ) → x < item_count g → is_sent g x ≡ true →
+      queued_before g order x ≡ sent_before g order (moment g order x) (home g x)
+  queue_is x l t = same_filter (λ y. is_queued_before g order y x)
+      (λ y. is_sent g y && (home g y == home g x) && nat_lt (moment g order y) (moment g order x))
+      (numbers_below (item_count g))
+      (λ y k. same_truth _ _ (to_before y (numbers-Contains (item_count g) y k))
+      (from_before y (numbers-Contains (item_count g) y k)))
     where
-      to_before : (y : ℕ) → y < item_count g → is_queued_before g order y x ≡ true → (is_sent g y && (home g y == home g x) && nat_lt (moment g order y) (moment g order x)) ≡ true
-      to_before y m q = and_from _ _ (and_parts _ _ q).0 (lt-ltb _ _ (queued_sooner g order top y x m (phase_is_rank g (item_at g x) t) q))
+      to_before : (y : ℕ) → y < item_count g → is_queued_before g order y x ≡ true →
+          (is_sent g y && (home g y == home g x) && nat_lt (moment g order y) (moment g order x)) ≡ true
+      to_before y m q = and_from _ _ (and_parts _ _ q).0
+          (lt-ltb _ _ (queued_sooner g order top y x m (phase_is_rank g (item_at g x) t) q))
 
-      from_before : (y : ℕ) → y < item_count g → (is_sent g y && (home g y == home g x) && nat_lt (moment g order y) (moment g order x)) ≡ true → is_queued_before g order y x ≡ true
+      from_before : (y : ℕ) → y < item_count g →
+          (is_sent g y && (home g y == home g x) && nat_lt (moment g order y) (moment g order x)) ≡ true →
+          is_queued_before g order y x ≡ true
       from_before y m q =
           let a = and_parts _ _ q in
           let less = ltb-true _ _ a.1 in
@@ -212,23 +280,34 @@ module _ (g : Graph) (order : List ℕ) (top : IsTopological g order) (r : Reach
           let cx = Contains-order (process_count g) order top.all (producer g x) (producer_in_range g order top x l) in
           and_from _ _ a.0 (elim (cases_order (place order (producer g y)) (place order (producer g x))) [
             | inl e ↦ or_right _ _ (and_from _ _ (eq-eqb _ _ (same_place order (producer g y) (producer g x) cy cx e))
-                (lt-ltb _ _ (let w = ap (λ n. n * phases g) e in let u = phase_is_rank g (item_at g y) s in let z = phase_is_rank g (item_at g x) t in omega arith)))
+                (lt-ltb _ _ (let w = ap (λ n. n * phases g) e in let u = phase_is_rank g (item_at g y) s in
+                let z = phase_is_rank g (item_at g x) t in omega arith)))
             | inr (inl k) ↦ or_left _ _ (comes_before_from_places order (producer g y) (producer g x) cy k)
-            | inr (inr k) ↦ absurd (let w = sooner (place order (producer g x)) (place order (producer g y)) (phase (item_at g x)) (phases g) k (phase_below g x l) in omega arith)
+            | inr (inr k) ↦ absurd (let w = sooner (place order (producer g x)) (place order (producer g y))
+                (phase (item_at g x)) (phases g) k (phase_below g x l) in omega arith)
           ])
 
-  module _ (k : ℕ) (x : ℕ) (within : x < item_count g) (rs known sent : List (List ℕ)) (agrees : AgreesUntil g order r k (moment g order x) rs known sent) (there : home g x < length g.nodes) where
+  module _ (k : ℕ) (x : ℕ) (within : x < item_count g) (rs known sent : List (List ℕ))
+      (agrees : AgreesUntil g order r k (moment g order x) rs known sent) (there : home g x < length g.nodes) where
     abbrev values : List ℕ
     values = map value_variable (conditions_of g (producer g x))
 
-    sent_right : is_sent g x ≡ true → SameElements ((cond (is_frozen g x) values (end_reach rs (producer g x) ++ get_or sent (home g x) [])) ++ sent_value g (item_at g x)) (send_reach g order r x)
-    sent_right t = same_append (cond (is_frozen g x) values (end_reach rs (producer g x) ++ get_or sent (home g x) [])) (sent_value g (item_at g x))
-        (cond (is_frozen g x) values (end_reach r (producer g x) ++ flat_map (reach_of r) (queued_before g order x))) (sent_value g (item_at g x))
-        (same_cond (is_frozen g x) values (end_reach rs (producer g x) ++ get_or sent (home g x) []) values (end_reach r (producer g x) ++ flat_map (reach_of r) (queued_before g order x))
+    sent_right : is_sent g x ≡ true →
+        SameElements ((cond (is_frozen g x) values (end_reach rs (producer g x) ++ get_or sent (home g x) []))
+        ++ sent_value g (item_at g x)) (send_reach g order r x)
+    sent_right t = same_append (cond (is_frozen g x) values (end_reach rs (producer g x) ++ get_or sent (home g x) []))
+        (sent_value g (item_at g x))
+        (cond (is_frozen g x) values (end_reach r (producer g x) ++ flat_map (reach_of r) (queued_before g order x)))
+        (sent_value g (item_at g x))
+        (same_cond (is_frozen g x) values (end_reach rs (producer g x) ++ get_or sent (home g x) []) values
+        (end_reach r (producer g x) ++ flat_map (reach_of r) (queued_before g order x))
         (λ e v. refl)
-        (λ e. same_append (end_reach rs (producer g x)) (get_or sent (home g x) []) (end_reach r (producer g x)) (flat_map (reach_of r) (queued_before g order x))
-        (end_right k (moment g order x) rs known sent agrees (producer g x) (producer_in_range g order top x within) (let u = phase_is_rank g (item_at g x) t in omega arith))
-        (λ v. agrees.sends (home g x) there v ∙ ap (λ ys. is_in (flat_map (reach_of r) ys) v) (sym (queue_is x within t)))))
+        (λ e. same_append (end_reach rs (producer g x)) (get_or sent (home g x) []) (end_reach r (producer g x))
+        (flat_map (reach_of r) (queued_before g order x))
+        (end_right k (moment g order x) rs known sent agrees (producer g x) (producer_in_range g order top x within)
+        (let u = phase_is_rank g (item_at g x) t in omega arith))
+        (λ v. agrees.sends (home g x) there v
+        ∙ ap (λ ys. is_in (flat_map (reach_of r) ys) v) (sym (queue_is x within t)))))
         (λ v. refl)
 
     -- by whether it is sent
@@ -236,7 +315,9 @@ module _ (g : Graph) (order : List ℕ) (top : IsTopological g order) (r : Reach
     if_sent i = cond (is_sent_item g i) (send_reach g order r x) []
 
     any_right : SameElements (send_by g rs sent (item_at g x)) (if_sent (item_at g x))
-    any_right = same_cond (is_sent g x) ((cond (is_frozen g x) values (end_reach rs (producer g x) ++ get_or sent (home g x) [])) ++ sent_value g (item_at g x)) []
+    any_right = same_cond (is_sent g x)
+        ((cond (is_frozen g x) values (end_reach rs (producer g x) ++ get_or sent (home g x) []))
+        ++ sent_value g (item_at g x)) []
         (send_reach g order r x) [] sent_right (λ e v. refl)
 
     module _ (i : Item) (at : item_at g x ≡ i) (rule : reach_by_item g order r x i ≡ if_sent i) where
@@ -247,12 +328,15 @@ module _ (g : Graph) (order : List ℕ) (top : IsTopological g order) (r : Reach
           ∙ sym (is.each x v within ∙ ap (λ j. is_in (reach_by_item g order r x j) v) at)
 
       pub unsent_empty : is_sent g x ≡ false → (v : ℕ) → is_in (reach_of r x) v ≡ false
-      unsent_empty e v = is.each x v within ∙ ap (λ j. is_in (reach_by_item g order r x j) v) at ∙ ap (λ xs. is_in xs v) rule
+      unsent_empty e v =
+          is.each x v within ∙ ap (λ j. is_in (reach_by_item g order r x j) v) at ∙ ap (λ xs. is_in xs v) rule
           ∙ ap (λ j. is_in (if_sent j) v) (sym at) ∙ ap (λ b. is_in (cond b (send_reach g order r x) []) v) e
 
 -- ---- at first
 
-pub walk_begins : (g : Graph) (order : List ℕ) (r : Reach) (rs known sent : List (List ℕ)) → AreEmpty (item_count g) rs → AreEmpty (length g.nodes) known → AreEmpty (length g.nodes) sent →
+pub walk_begins : (g : Graph) (order : List ℕ) (r : Reach) (rs known sent : List (List ℕ)) →
+    AreEmpty (item_count g) rs → AreEmpty (length g.nodes) known →
+    AreEmpty (length g.nodes) sent →
     AgreesUntil g order r 0 0 rs known sent
 walk_begins g order r rs known sent a b c = record {
   items = a.count;
@@ -264,10 +348,15 @@ walk_begins g order r rs known sent a b c = record {
 }
   where
     none : (node : ℕ) → sent_before g order 0 node ≡ []
-    none node = filter_none (λ y. is_sent g y && (home g y == node) && nat_lt (moment g order y) 0) (numbers_below (item_count g))
-        (λ y k. and_right (is_sent g y && (home g y == node)) (nat_lt (moment g order y) 0) (le-ltb (moment g order y) 0 (omega arith)))
+    none node = filter_none (λ y. is_sent g y && (home g y == node) && nat_lt (moment g order y) 0)
+        (numbers_below (item_count g))
+        (λ y k. and_right (is_sent g y && (home g y == node)) (nat_lt (moment g order y) 0)
+        (le-ltb (moment g order y) 0 (omega arith)))
 
 -- what every walk keeps, whatever the reach
-pub walked_some : (g : Graph) (order : List ℕ) (top : IsTopological g order) (k m : ℕ) (rs known sent : List (List ℕ)) → ((r : Reach) → IsReach g order r → AgreesUntil g order r k m rs known sent)
+pub walked_some : (g : Graph) (order : List ℕ) (top : IsTopological g order) (k m : ℕ) (rs known sent : List (List ℕ)) →
+    ((r : Reach) → IsReach g order r → AgreesUntil g order r k m rs known sent)
     → (length rs ≡ item_count g) × (length known ≡ length g.nodes) × (length sent ≡ length g.nodes)
-walked_some g order top k m rs known sent h = let s = some_reach g order top in let a = h s.0 s.1 in (a.items, a.known_nodes, a.sent_nodes)
+walked_some g order top k m rs known sent h = let s = some_reach g order top in
+    let a = h s.0 s.1 in
+    (a.items, a.known_nodes, a.sent_nodes)

@@ -1,5 +1,6 @@
 -- A reduced and ordered tree tests exactly the conditions that decide its process in some scenario.
-use Rattle.std.proofs.Common.{ℕ, ◌+◌, ◌<◌, ◌≤◌, ◌≡◌, Bool, true, false, if◌then◌else◌, List, [], ◌∷◌, ◌++◌, length, get_or, set, map, replicate, length-append, Contains, refl, sym, ap, ◌∙◌, subst}
+use Rattle.std.proofs.Common.{ℕ, ◌+◌, ◌<◌, ◌≤◌, ◌≡◌, Bool, true, false, if◌then◌else◌, List, [], ◌∷◌, ◌++◌, length}
+use Rattle.std.proofs.Common.{get_or, set, map, replicate, length-append, Contains, refl, sym, ap, ◌∙◌, subst}
 use Rattle.std.proofs.Common.{⊎_elim, arith}
 use Rattle.std.proofs.lemmas.Bool.{cases_Bool, cases_lt}
 use Rattle.std.specs.List.{list_any}
@@ -8,7 +9,8 @@ use Rattle.std.proofs.Math.Seq.{get_or-append_seam}
 use Rattle.std.proofs.lemmas.List.Elements.{Contains-append_cases, Contains-append_left, Contains-append_right}
 use Rattle.cpg_base.specs.Numbers.{numbers_below}
 use Rattle.cpg_base.specs.Graph.{Graph, process_count, condition_count, process_of, value_variable}
-use Rattle.cpg_base.proofs.Lists.{Contains-first, Contains-rest, Contains-cases, Contains-nil, Contains-map, Contains-map_parts, Contains-filter, Contains-filter_parts, Contains-numbers}
+use Rattle.cpg_base.proofs.Lists.{Contains-first, Contains-rest, Contains-cases, Contains-nil, Contains-map}
+use Rattle.cpg_base.proofs.Lists.{Contains-map_parts, Contains-filter, Contains-filter_parts, Contains-numbers}
 use Rattle.cpg_base.proofs.Lists.{numbers-Contains, list_any_true, list_any_parts, same_truth}
 use Rattle.cpg_order.specs.Urgency.{IsUrgencyOrder}
 use Rattle.cpg_base.specs.Order.{place}
@@ -30,9 +32,12 @@ way_is_tested : (t : Guard) (o : List Bool) (c : ℕ) → Contains (way t o) c �
 way_is_tested (Leaf a) o c k = k
 way_is_tested (Test d off on) o c k = ⊎_elim
     (λ (e : d ≡ c). subst (Contains (tested (Test d off on))) e (Contains-first d (tested off ++ tested on)))
-    (λ (i : Contains (if get_or o d false then way on o else way off o) c). Contains-rest d (tested off ++ tested on) c (⊎_elim
-    (λ (v : get_or o d false ≡ true). Contains-append_right (tested off) (tested on) c (way_is_tested on o c (subst (λ w. Contains (if w then way on o else way off o) c) v i)))
-    (λ (v : get_or o d false ≡ false). Contains-append_left (tested off) (tested on) c (way_is_tested off o c (subst (λ w. Contains (if w then way on o else way off o) c) v i)))
+    (λ (i : Contains (if get_or o d false then way on o else way off o) c).
+    Contains-rest d (tested off ++ tested on) c (⊎_elim
+    (λ (v : get_or o d false ≡ true). Contains-append_right (tested off) (tested on) c
+    (way_is_tested on o c (subst (λ w. Contains (if w then way on o else way off o) c) v i)))
+    (λ (v : get_or o d false ≡ false). Contains-append_left (tested off) (tested on) c
+    (way_is_tested off o c (subst (λ w. Contains (if w then way on o else way off o) c) v i)))
     (cases_Bool (get_or o d false))))
     (Contains-cases d _ c k)
 
@@ -47,34 +52,49 @@ module _ (g : Graph) (order : List ℕ) where
     agrees : (d : ℕ) → d < condition_count g → rank d < k → get_or outcome d false ≡ get_or b d false
     passes : Contains (way t outcome) c
 
-  way_at : (d : ℕ) (off on : Guard) (o : List Bool) (v : Bool) → get_or o d false ≡ v → way (Test d off on) o ≡ d ∷ (if v then way on o else way off o)
+  way_at : (d : ℕ) (off on : Guard) (o : List Bool) (v : Bool) → get_or o d false ≡ v →
+      way (Test d off on) o ≡ d ∷ (if v then way on o else way off o)
   way_at d off on o v e = ap (λ w. d ∷ (if w then way on o else way off o)) e
 
   -- through one arm of a test
-  through : (k d : ℕ) (b : List Bool) (off on : Guard) (v : Bool) (c : ℕ) → d < condition_count g → k ≤ rank d → length b ≡ condition_count g
+  through : (k d : ℕ) (b : List Bool) (off on : Guard) (v : Bool) (c : ℕ) → d < condition_count g → k ≤ rank d →
+      length b ≡ condition_count g
       → Passes (rank d + 1) (set b d v) (if v then on else off) c → Passes k b (Test d off on) c
   through k d b off on v c h at l p = record {
     outcome = p.outcome;
     count = p.count;
-    agrees = λ e i j. p.agrees e i (omega arith) ∙ get_or-set_other b d e v false (λ m. let n = ap rank m in omega arith);
-    passes = subst (λ w. Contains w c) (sym (way_at d off on p.outcome v (p.agrees d h (omega arith) ∙ get_or-set_same b d v false (omega arith)))) (arm v p.outcome p.passes);
+    agrees =
+        λ e i j. p.agrees e i (omega arith) ∙ get_or-set_other b d e v false (λ m. let n = ap rank m in omega arith);
+    passes = subst (λ w. Contains w c)
+        (sym (way_at d off on p.outcome v (p.agrees d h (omega arith) ∙ get_or-set_same b d v false (omega arith))))
+        (arm v p.outcome p.passes);
   }
     where
-      arm : (w : Bool) (o : List Bool) → Contains (way (if w then on else off) o) c → Contains (d ∷ (if w then way on o else way off o)) c
+      arm : (w : Bool) (o : List Bool) → Contains (way (if w then on else off) o) c →
+          Contains (d ∷ (if w then way on o else way off o)) c
       arm true o i = Contains-rest d (way on o) c i
       arm false o i = Contains-rest d (way off o) c i
 
-  tested_passes : (k : ℕ) (t : Guard) (b : List Bool) (c : ℕ) → IsOrderedFrom g order k t → length b ≡ condition_count g → Contains (tested t) c → Passes k b t c
+  tested_passes : (k : ℕ) (t : Guard) (b : List Bool) (c : ℕ) → IsOrderedFrom g order k t →
+      length b ≡ condition_count g → Contains (tested t) c → Passes k b t c
   tested_passes k (Leaf a) b c o l i = absurd (Contains-nil c i)
   tested_passes k (Test d off on) b c o l i = ⊎_elim
-      (λ (e : d ≡ c). record { outcome = b; count = l; agrees = λ e h j. refl; passes = subst (Contains (way (Test d off on) b)) e (Contains-first d _) })
+      (λ (e : d ≡ c). record {
+        outcome = b;
+        count = l;
+        agrees = λ e h j. refl;
+        passes = subst (Contains (way (Test d off on) b)) e (Contains-first d _);
+      })
       (λ (j : Contains (tested off ++ tested on) c). ⊎_elim
-      (λ (m : Contains (tested off) c). through k d b off on false c o.0 o.1 l (tested_passes (rank d + 1) off (set b d false) c o.2 (length-set b d false ∙ l) m))
-      (λ (m : Contains (tested on) c). through k d b off on true c o.0 o.1 l (tested_passes (rank d + 1) on (set b d true) c o.3 (length-set b d true ∙ l) m))
+      (λ (m : Contains (tested off) c). through k d b off on false c o.0 o.1 l
+      (tested_passes (rank d + 1) off (set b d false) c o.2 (length-set b d false ∙ l) m))
+      (λ (m : Contains (tested on) c). through k d b off on true c o.0 o.1 l
+      (tested_passes (rank d + 1) on (set b d true) c o.3 (length-set b d true ∙ l) m))
       (Contains-append_cases (tested off) (tested on) c j))
       (Contains-cases d (tested off ++ tested on) c i)
 
-  tested_within : (k : ℕ) (t : Guard) (c : ℕ) → IsOrderedFrom g order k t → Contains (tested t) c → c < condition_count g
+  tested_within : (k : ℕ) (t : Guard) (c : ℕ) → IsOrderedFrom g order k t → Contains (tested t) c →
+      c < condition_count g
   tested_within k (Leaf a) c o i = absurd (Contains-nil c i)
   tested_within k (Test d off on) c o i = ⊎_elim
       (λ (e : d ≡ c). subst (λ z. z < condition_count g) e o.0)
@@ -90,10 +110,12 @@ module _ (g : Graph) (order : List ℕ) where
 
     from_tested : (c : ℕ) → Contains (tested t) c → Contains (conditions_of g p) c
     from_tested c i =
-        let x = tested_passes 0 t (replicate (condition_count g) false) c guard.ordered (length-replicate (condition_count g) false) i in
+        let x = tested_passes 0 t (replicate (condition_count g) false) c guard.ordered
+        (length-replicate (condition_count g) false) i in
         let h = tested_within 0 t c guard.ordered i in
         Contains-filter some_decides (numbers_below (condition_count g)) c
-        (list_any_true (λ o. decides g o p c) (outcomes (condition_count g)) x.outcome (Contains-outcomes (condition_count g) x.outcome x.count)
+        (list_any_true (λ o. decides g o p c) (outcomes (condition_count g)) x.outcome
+        (Contains-outcomes (condition_count g) x.outcome x.count)
         ((way_is_deciding g order urgency p x.outcome x.count t guard c h).0 x.passes))
         (Contains-numbers (condition_count g) c h)
 
@@ -101,15 +123,20 @@ module _ (g : Graph) (order : List ℕ) where
     to_tested c i =
         let a = Contains-filter_parts some_decides (numbers_below (condition_count g)) c i in
         let o = list_any_parts (λ o. decides g o p c) (outcomes (condition_count g)) a.1 in
-        way_is_tested t o.0 c ((way_is_deciding g order urgency p o.0 (length_of_outcome (condition_count g) o.0 o.1) t guard c (numbers-Contains (condition_count g) c a.0)).1 o.2)
+        way_is_tested t o.0 c ((way_is_deciding g order urgency p o.0 (length_of_outcome (condition_count g) o.0 o.1) t
+        guard c (numbers-Contains (condition_count g) c a.0)).1 o.2)
 
-    values_moved : (xs ys : List ℕ) (v : ℕ) → ((c : ℕ) → Contains xs c → Contains ys c) → is_in (map value_variable xs) v ≡ true → is_in (map value_variable ys) v ≡ true
+    values_moved : (xs ys : List ℕ) (v : ℕ) → ((c : ℕ) → Contains xs c → Contains ys c) →
+        is_in (map value_variable xs) v ≡ true →
+        is_in (map value_variable ys) v ≡ true
     values_moved xs ys v h e =
         let r = Contains-map_parts value_variable xs v (from_is_in (map value_variable xs) v e) in
-        is_in_from (map value_variable ys) v (subst (Contains (map value_variable ys)) r.2 (Contains-map value_variable ys r.0 (h r.0 r.1)))
+        is_in_from (map value_variable ys) v
+        (subst (Contains (map value_variable ys)) r.2 (Contains-map value_variable ys r.0 (h r.0 r.1)))
 
     pub tests_are_deciding : SameElements (tested_values t) (map value_variable (conditions_of g p))
-    tests_are_deciding v = same_truth _ _ (values_moved (tested t) (conditions_of g p) v from_tested) (values_moved (conditions_of g p) (tested t) v to_tested)
+    tests_are_deciding v = same_truth _ _ (values_moved (tested t) (conditions_of g p) v from_tested)
+        (values_moved (conditions_of g p) (tested t) v to_tested)
 
 -- ---- one process after another
 
@@ -120,14 +147,17 @@ tests_below n m (Test c off on) l h = (omega (arith, h.0), tests_below n m off l
 pub deciding_first : (g : Graph) → AreDecidingUntil g 0 []
 deciding_first g = record { count = refl; each = λ p l. absurd (omega arith) }
 
-pub deciding_next : (g : Graph) (n : ℕ) (values : List (List ℕ)) (more : List ℕ) → SameElements more (map value_variable (conditions_of g n)) → AreDecidingUntil g n values →
+pub deciding_next : (g : Graph) (n : ℕ) (values : List (List ℕ)) (more : List ℕ) →
+    SameElements more (map value_variable (conditions_of g n)) →
+    AreDecidingUntil g n values →
     AreDecidingUntil g (n + 1) (values ++ more ∷ [])
 deciding_next g n values more same h = let c = h.count in record {
   count = let e = length-append values (more ∷ []) in omega arith;
   each = λ p l v. ⊎_elim
       (λ (b : p < n). ap (λ xs. is_in xs v) (get_or_append_left values (more ∷ []) [] p (omega arith)) ∙ h.each p b v)
       (λ (b : n ≤ p). let e : p ≡ length values = omega arith in let f : p ≡ n = omega arith in
-      ap (λ xs. is_in xs v) (ap (λ i. get_or (values ++ more ∷ []) i []) e ∙ get_or-append_seam values more [] []) ∙ same v ∙ ap (λ q. is_in (map value_variable (conditions_of g q)) v) (sym f))
+      ap (λ xs. is_in xs v) (ap (λ i. get_or (values ++ more ∷ []) i []) e ∙ get_or-append_seam values more [] [])
+      ∙ same v ∙ ap (λ q. is_in (map value_variable (conditions_of g q)) v) (sym f))
       (cases_lt p n);
 }
 
@@ -135,8 +165,12 @@ deciding_next g n values more same h = let c = h.count in record {
 
 module _ (g : Graph) (order : List ℕ) (guards : Guards) (admitted : IsAdmitted g order guards) where
   pub tests_fit : (t : Guard) → TestsBelow guards.conditions t → TestsBelow 32 t
-  tests_fit t h = let a = admitted.guards.conditions in let b = admitted.limits.few_conditions in tests_below guards.conditions 32 t (omega arith) h
+  tests_fit t h = let a = admitted.guards.conditions in
+      let b = admitted.limits.few_conditions in
+      tests_below guards.conditions 32 t (omega arith) h
 
-  pub tree_decides : (p : ℕ) → p < process_count g → (t : Guard) → t ≡ tree_of guards p → (found : List ℕ) → Adds [] (tested_values t) found →
+  pub tree_decides : (p : ℕ) → p < process_count g → (t : Guard) → t ≡ tree_of guards p → (found : List ℕ) →
+      Adds [] (tested_values t) found →
       SameElements found (map value_variable (conditions_of g p))
-  tree_decides p l t is found adds v = adds v ∙ ap (λ u. is_in (tested_values u) v) is ∙ tests_are_deciding g order admitted.urgency p (tree_of guards p) (admitted.guards.trees p l) v
+  tree_decides p l t is found adds v = adds v ∙ ap (λ u. is_in (tested_values u) v) is
+      ∙ tests_are_deciding g order admitted.urgency p (tree_of guards p) (admitted.guards.trees p l) v

@@ -1,5 +1,6 @@
 -- Items that are too wide: the loads of one item after another, and views by sets with the same in them.
-use Rattle.std.proofs.Common.{ℕ, ◌+◌, ◌*◌, ◌<◌, ◌≤◌, ◌≡◌, min, true, false, ◌&&◌, ◌||◌, List, [], ◌∷◌, get_or, sum_by, refl, sym, ap, ap₂, ◌∙◌, ⊎_elim, arith}
+use Rattle.std.proofs.Common.{ℕ, ◌+◌, ◌*◌, ◌<◌, ◌≤◌, ◌≡◌, min, true, false, ◌&&◌, ◌||◌, List, [], ◌∷◌, get_or, sum_by}
+use Rattle.std.proofs.Common.{refl, sym, ap, ap₂, ◌∙◌, ⊎_elim, arith}
 use Rattle.std.specs.Prelude.{nat_lt}
 use Rattle.std.proofs.lemmas.Bool.{cases_lt, both_ways}
 use Rattle.std.proofs.lemmas.List.Sums.{sum_by-append, sum_by-cons}
@@ -8,7 +9,8 @@ use Rattle.cpg_base.specs.Numbers.{numbers_below}
 use Rattle.cpg_base.specs.Graph.{Graph, item_count, item_at}
 use Rattle.cpg_base.proofs.Lists.{below_push}
 use Rattle.cpg_order.specs.Urgency.{IsTopological}
-use Rattle.cpg_order.specs.Reach.{Reach, IsReach, reach_of, is_in, views, rows_of_item, load, is_too_wide, most_views, most_loads}
+use Rattle.cpg_order.specs.Reach.{Reach, IsReach, reach_of, is_in, views, rows_of_item, load, is_too_wide, most_views}
+use Rattle.cpg_order.specs.Reach.{most_loads}
 use Rattle.cpg_order.proofs.ViewsGrow.{views_grow}
 use Rattle.cpg_order.proofs.ReachExists.{some_reach}
 use Rattle.cpg_order.proofs.TrackLists.{tracks_exist, count_of_tracks}
@@ -27,7 +29,8 @@ same_views g xs ys h =
     omega arith
 
 -- a number of 64 bits holds the views of an admitted graph
-pub views_whole : (g : Graph) (order : List ℕ) (guards : Guards) → IsAdmitted g order guards → (reached : List ℕ) → min 18446744073709551615 (views g reached) ≡ views g reached
+pub views_whole : (g : Graph) (order : List ℕ) (guards : Guards) → IsAdmitted g order guards → (reached : List ℕ) →
+    min 18446744073709551615 (views g reached) ≡ views g reached
 views_whole g order guards admitted reached =
     let t = tracks_exist g in
     let n = count_of_tracks g t.0 t.1 in
@@ -35,7 +38,9 @@ views_whole g order guards admitted reached =
     let f = views_fit g admitted.limits.few_processes admitted.limits.faults reached t.0 t.1 (omega arith) in
     omega arith
 
-pub has_views : (g : Graph) (order : List ℕ) (top : IsTopological g order) (guards : Guards) (urgency : List ℕ) → IsAdmitted g urgency guards → (rs : Reach) → AreReaches g order rs →
+pub has_views : (g : Graph) (order : List ℕ) (top : IsTopological g order) (guards : Guards) (urgency : List ℕ) →
+    IsAdmitted g urgency guards → (rs : Reach) →
+    AreReaches g order rs →
     (x n : ℕ) (xs : List ℕ) → x < item_count g → xs ≡ get_or rs x xs
     → n ≡ min 18446744073709551615 (views g xs) → HasViews g order x n
 has_views g order top guards urgency admitted rs are x n xs l at is = record {
@@ -56,21 +61,27 @@ pub loads_first : (g : Graph) (order : List ℕ) → AreLoads g order 0 0
 loads_first g order = record { few = omega arith; sum = λ r is. refl; narrow = λ r is y l. absurd (omega arith) }
 
 sum_next : (f : ℕ → ℕ) (x : ℕ) → sum_by f (numbers_below (x + 1)) ≡ sum_by f (numbers_below x) + f x
-sum_next f x = ap (sum_by f) (below_push x) ∙ sum_by-append f (numbers_below x) (x ∷ []) ∙ (let e = sum_by-cons f x [] in omega arith)
+sum_next f x = ap (sum_by f) (below_push x) ∙ sum_by-append f (numbers_below x) (x ∷ [])
+    ∙ (let e = sum_by-cons f x [] in omega arith)
 
-module _ (g : Graph) (order : List ℕ) (top : IsTopological g order) (rs : Reach) (are : AreReaches g order rs) (x loads : ℕ) (so_far : AreLoads g order x loads) (within : x < item_count g)
+module _ (g : Graph) (order : List ℕ) (top : IsTopological g order) (rs : Reach) (are : AreReaches g order rs)
+    (x loads : ℕ) (so_far : AreLoads g order x loads) (within : x < item_count g)
     (xs : List ℕ) (at : xs ≡ get_or rs x xs) where
   views_are : (r : Reach) → IsReach g order r → views g xs ≡ views g (reach_of r x)
-  views_are r is = same_views g xs (reach_of r x) (λ v. ap (λ ys. is_in ys v) (set_at rs x xs (let c = are.count in omega arith) at) ∙ are.each r is x within v)
+  views_are r is = same_views g xs (reach_of r x)
+      (λ v. ap (λ ys. is_in ys v) (set_at rs x xs (let c = are.count in omega arith) at) ∙ are.each r is x within v)
 
   wide_is : (r : Reach) → IsReach g order r → is_wide_by g xs x loads ≡ is_too_wide g r x
-  wide_is r is = ap₂ (λ n s. nat_lt 0 (rows_of_item g (item_at g x)) && (nat_lt most_views n || nat_lt most_loads s)) (views_are r is)
-      (ap₂ ◌+◌ (so_far.sum r is) (ap (λ n. n * rows_of_item g (item_at g x)) (views_are r is)) ∙ sym (sum_next (load g r) x))
+  wide_is r is = ap₂ (λ n s. nat_lt 0 (rows_of_item g (item_at g x)) && (nat_lt most_views n || nat_lt most_loads s))
+      (views_are r is)
+      (ap₂ ◌+◌ (so_far.sum r is) (ap (λ n. n * rows_of_item g (item_at g x)) (views_are r is))
+      ∙ sym (sum_next (load g r) x))
 
   pub loads_next : (sum : ℕ) → HasLoads g xs x loads sum → AreLoads g order (x + 1) sum
   loads_next sum h = record {
     few = h.few;
-    sum = λ r is. h.sum ∙ ap₂ ◌+◌ (so_far.sum r is) (ap (λ n. n * rows_of_item g (item_at g x)) (views_are r is)) ∙ sym (sum_next (load g r) x);
+    sum = λ r is. h.sum ∙ ap₂ ◌+◌ (so_far.sum r is) (ap (λ n. n * rows_of_item g (item_at g x)) (views_are r is))
+        ∙ sym (sum_next (load g r) x);
     narrow = λ r is y l. ⊎_elim
         (λ (k : y < x). so_far.narrow r is y k)
         (λ (k : x ≤ y). ap (is_too_wide g r) (let e : y ≡ x = omega arith in e) ∙ sym (wide_is r is) ∙ h.narrow)
@@ -79,9 +90,12 @@ module _ (g : Graph) (order : List ℕ) (top : IsTopological g order) (rs : Reac
 
   pub least_wide : is_wide_by g xs x loads ≡ true → IsLeastWide g order x
   least_wide t = record {
-    wide = let s = some_reach g order top in record { reach = s.0; reached = s.1; within = within; wide = sym (wide_is s.0 s.1) ∙ t };
+    wide = let s = some_reach g order top in
+        record { reach = s.0; reached = s.1; within = within; wide = sym (wide_is s.0 s.1) ∙ t };
     least = λ y l w. both_ways _ (so_far.narrow w.reach w.reached y l) w.wide;
   }
 
-pub none_wide : (g : Graph) (order : List ℕ) (x loads : ℕ) → item_count g ≤ x → AreLoads g order x loads → IsNarrow g order
-none_wide g order x loads l h = λ y w. both_ways _ (h.narrow w.reach w.reached y (let i = w.within in omega arith)) w.wide
+pub none_wide : (g : Graph) (order : List ℕ) (x loads : ℕ) → item_count g ≤ x → AreLoads g order x loads →
+    IsNarrow g order
+none_wide g order x loads l h =
+    λ y w. both_ways _ (h.narrow w.reach w.reached y (let i = w.within in omega arith)) w.wide

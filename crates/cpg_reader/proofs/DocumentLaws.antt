@@ -4,11 +4,13 @@ use Rattle.std.specs.Str.{IsUtf8, is_utf8}
 use Rattle.std.proofs.lemmas.Str.{IsUtf8-from_is_utf8, is_utf8-from_IsUtf8}
 use Rattle.toml.specs.Data.{Members}
 use Rattle.toml.specs.Parse.{parse_document}
-use Rattle.cpg_reader.specs.declared.place.ReadFault.TheVariants.{NotToml, BadField, DoubleName, UnknownName, OverLimit, OutOfMemory}
+use Rattle.cpg_reader.specs.declared.place.ReadFault.TheVariants.{NotToml, BadField, DoubleName, UnknownName, OverLimit}
+use Rattle.cpg_reader.specs.declared.place.ReadFault.TheVariants.{OutOfMemory}
 use Rattle.cpg_reader.specs.Reading.{Reading, Gives}
 use Rattle.cpg_reader.specs.Document.{document_of, read_members, problem_of}
 
-pub problem_of-read : (bytes : List ℕ) (ms : Members) → IsUtf8 bytes → parse_document bytes ≡ Some ms → problem_of bytes ≡ read_members ms
+pub problem_of-read : (bytes : List ℕ) (ms : Members) → IsUtf8 bytes → parse_document bytes ≡ Some ms →
+    problem_of bytes ≡ read_members ms
 unfolding problem_of document_of
 problem_of-read bytes ms text read = rw (is_utf8-from_IsUtf8 bytes text, read) refl
 
@@ -16,12 +18,15 @@ none_if : (b : Bool) (o : Option Members) → (b ≡ true → o ≡ None) → co
 none_if true o h = h refl
 none_if false o h = refl
 
-pub problem_of-refused : (bytes : List ℕ) → (IsUtf8 bytes → parse_document bytes ≡ None) → problem_of bytes ≡ Err NotToml
+pub problem_of-refused : (bytes : List ℕ) → (IsUtf8 bytes → parse_document bytes ≡ None) →
+    problem_of bytes ≡ Err NotToml
 unfolding problem_of document_of
-problem_of-refused bytes h = rw (none_if (is_utf8 bytes) (parse_document bytes) (λ e. h (IsUtf8-from_is_utf8 bytes e))) refl
+problem_of-refused bytes h =
+    rw (none_if (is_utf8 bytes) (parse_document bytes) (λ e. h (IsUtf8-from_is_utf8 bytes e))) refl
 
 -- code that refuses as reading does, or because memory ran out, answers what reading gives if memory is there
-pub answer-is : {T : Type 0} (answer reading : Reading T) → Gives (λ x. x) answer reading → answer ≢ Err OutOfMemory → answer ≡ reading
+pub answer-is : {T : Type 0} (answer reading : Reading T) → Gives (λ x. x) answer reading → answer ≢ Err OutOfMemory →
+    answer ≡ reading
 answer-is (Ok x) reading h memory = sym h
 answer-is (Err NotToml) reading h memory = sym h
 answer-is (Err (BadField place)) reading h memory = sym h

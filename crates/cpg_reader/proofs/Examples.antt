@@ -12,7 +12,8 @@ use Rattle.cpg_reader.specs.Reading.{Reading, ◌>>=◌}
 use Rattle.cpg_reader.specs.Rows.{optional, only, read_name, read_integer, integer_or, flag_or, read_array}
 use Rattle.cpg_reader.specs.Shape.{read_node, read_slot, read_process, read_edge, read_raw}
 use Rattle.cpg_reader.specs.Ranges.{limits}
-use Rattle.cpg_reader.specs.Names.{place, apart, number_of, slot_of, process_of, edge_of, order_of, order_apart, resolved, graph_of}
+use Rattle.cpg_reader.specs.Names.{place, apart, number_of, slot_of, process_of, edge_of, order_of, order_apart}
+use Rattle.cpg_reader.specs.Names.{resolved, graph_of}
 use Rattle.cpg_reader.specs.Document.{members_if, read_members}
 
 abbrev lines : List (List ℕ) → List ℕ
@@ -24,76 +25,107 @@ abbrev said : List ℕ → Reading Graph
 said bytes = members_if (parse_document bytes) >>= read_members
 
 -- a graph of nothing
-nothing : said (lines (codes "faults = 0" ∷ codes "deadline = 0" ∷ [])) ≡ Ok (record { faults = 0; deadline = 0; nodes = []; slots = []; processes = []; edges = []; order = None })
-unfolding read_members read_raw read_node read_slot read_process read_edge optional only read_name read_integer integer_or flag_or read_array limits apart number_of slot_of process_of edge_of order_of
+nothing : said (lines (codes "faults = 0" ∷ codes "deadline = 0" ∷ []))
+    ≡ Ok (record { faults = 0; deadline = 0; nodes = []; slots = []; processes = []; edges = []; order = None })
+unfolding read_members read_raw read_node read_slot read_process read_edge optional only read_name read_integer
+    integer_or flag_or read_array limits apart number_of slot_of process_of edge_of order_of
     order_apart resolved graph_of toml_on_literals
 nothing = refl
 
 -- one process on one node
-single : said (lines (codes "faults = 1" ∷ codes "deadline = 72" ∷ codes "node = [{ name = \"N1\" }]" ∷ codes "process = [{ name = \"A\", node = \"N1\", wcet = 30, alpha = 2, chi = 3, mu = 5 }]" ∷
+single : said (lines (codes "faults = 1" ∷ codes "deadline = 72" ∷ codes "node = [{ name = \"N1\" }]"
+    ∷ codes "process = [{ name = \"A\", node = \"N1\", wcet = 30, alpha = 2, chi = 3, mu = 5 }]" ∷
     [])) ≡ Ok (record {
       faults = 1;
       deadline = 72;
       nodes = codes "N1" ∷ [];
       slots = [];
       processes =
-          record { name = codes "A"; node = 0; wcet = 30; parts = 1; alpha = 2; chi = 3; mu = 5; join = false; frozen = false; release = 0; deadline = None } ∷ [];
+          record {
+            name = codes "A";
+            node = 0;
+            wcet = 30;
+            parts = 1;
+            alpha = 2;
+            chi = 3;
+            mu = 5;
+            join = false;
+            frozen = false;
+            release = 0;
+            deadline = None;
+          } ∷ [];
       edges = [];
       order = None;
     })
-unfolding read_members read_raw read_node read_slot read_process read_edge optional only read_name read_integer integer_or flag_or read_array limits apart number_of slot_of process_of edge_of order_of
+unfolding read_members read_raw read_node read_slot read_process read_edge optional only read_name read_integer
+    integer_or flag_or read_array limits apart number_of slot_of process_of edge_of order_of
     order_apart resolved graph_of toml_on_literals
 single = refl
 
 -- a key that is missing
 no_deadline : said (lines (codes "faults = 1" ∷ [])) ≡ Err (BadField (place tables.Top 0 keys.Deadline))
-unfolding read_members read_raw read_node read_slot read_process read_edge optional only read_name read_integer integer_or flag_or read_array limits apart number_of slot_of process_of edge_of order_of
+unfolding read_members read_raw read_node read_slot read_process read_edge optional only read_name read_integer
+    integer_or flag_or read_array limits apart number_of slot_of process_of edge_of order_of
     order_apart resolved graph_of toml_on_literals
 no_deadline = refl
 
 -- a name with a blank
-bad_name : said (lines (codes "faults = 1" ∷ codes "deadline = 72" ∷ codes "node = [{ name = \"N1\" }]" ∷ codes "process = [{ name = \"A b\", node = \"N1\", wcet = 30, alpha = 2, chi = 3, mu = 5 }]"
+bad_name : said (lines (codes "faults = 1" ∷ codes "deadline = 72" ∷ codes "node = [{ name = \"N1\" }]"
+    ∷ codes "process = [{ name = \"A b\", node = \"N1\", wcet = 30, alpha = 2, chi = 3, mu = 5 }]"
     ∷ [])) ≡ Err (BadField (place tables.Process 0 keys.Name))
-unfolding read_members read_raw read_node read_slot read_process read_edge optional only read_name read_integer integer_or flag_or read_array limits apart number_of slot_of process_of edge_of order_of
+unfolding read_members read_raw read_node read_slot read_process read_edge optional only read_name read_integer
+    integer_or flag_or read_array limits apart number_of slot_of process_of edge_of order_of
     order_apart resolved graph_of toml_on_literals
 bad_name = refl
 
 -- a key that isn't listed stands after the others
 unknown_key : said (lines (codes "faults = 1" ∷ codes "deadline = 72" ∷ codes "node = [{ name = \"N1\" }]" ∷ codes
-    "process = [{ name = \"A\", node = \"N1\", wcet = 30, alpha = 2, chi = 3, mu = 5, nu = 1 }]" ∷ [])) ≡ Err (BadField (place tables.Process 0 keys.Unknown))
-unfolding read_members read_raw read_node read_slot read_process read_edge optional only read_name read_integer integer_or flag_or read_array limits apart number_of slot_of process_of edge_of order_of
+    "process = [{ name = \"A\", node = \"N1\", wcet = 30, alpha = 2, chi = 3, mu = 5, nu = 1 }]" ∷ []))
+    ≡ Err (BadField (place tables.Process 0 keys.Unknown))
+unfolding read_members read_raw read_node read_slot read_process read_edge optional only read_name read_integer
+    integer_or flag_or read_array limits apart number_of slot_of process_of edge_of order_of
     order_apart resolved graph_of toml_on_literals
 unknown_key = refl
 
 -- a type goes before a range
-type_first : said (lines (codes "faults = 9" ∷ codes "deadline = 72" ∷ codes "node = 3" ∷ [])) ≡ Err (BadField (place tables.Top 0 keys.Node))
-unfolding read_members read_raw read_node read_slot read_process read_edge optional only read_name read_integer integer_or flag_or read_array limits apart number_of slot_of process_of edge_of order_of
+type_first : said (lines (codes "faults = 9" ∷ codes "deadline = 72" ∷ codes "node = 3" ∷ []))
+    ≡ Err (BadField (place tables.Top 0 keys.Node))
+unfolding read_members read_raw read_node read_slot read_process read_edge optional only read_name read_integer
+    integer_or flag_or read_array limits apart number_of slot_of process_of edge_of order_of
     order_apart resolved graph_of toml_on_literals
 type_first = refl
 
 -- a number below its range
-no_work : said (lines (codes "faults = 1" ∷ codes "deadline = 72" ∷ codes "node = [{ name = \"N1\" }]" ∷ codes "process = [{ name = \"A\", node = \"N1\", wcet = 0, alpha = 2, chi = 3, mu = 5 }]" ∷
+no_work : said (lines (codes "faults = 1" ∷ codes "deadline = 72" ∷ codes "node = [{ name = \"N1\" }]"
+    ∷ codes "process = [{ name = \"A\", node = \"N1\", wcet = 0, alpha = 2, chi = 3, mu = 5 }]" ∷
     [])) ≡ Err (OverLimit (Number (place tables.Process 0 keys.Wcet)))
-unfolding read_members read_raw read_node read_slot read_process read_edge optional only read_name read_integer integer_or flag_or read_array limits apart number_of slot_of process_of edge_of order_of
+unfolding read_members read_raw read_node read_slot read_process read_edge optional only read_name read_integer
+    integer_or flag_or read_array limits apart number_of slot_of process_of edge_of order_of
     order_apart resolved graph_of toml_on_literals
 no_work = refl
 
 -- a name that stands earlier
-double_node : said (lines (codes "faults = 0" ∷ codes "deadline = 9" ∷ codes "node = [{ name = \"N1\" }, { name = \"N1\" }]" ∷ codes "process = [{ name = \"A\", node = \"N2\", wcet = 1 }]" ∷ [])) ≡
+double_node :
+    said (lines (codes "faults = 0" ∷ codes "deadline = 9" ∷ codes "node = [{ name = \"N1\" }, { name = \"N1\" }]"
+    ∷ codes "process = [{ name = \"A\", node = \"N2\", wcet = 1 }]" ∷ [])) ≡
     Err (DoubleName (place tables.Node 1 keys.Name))
-unfolding read_members read_raw read_node read_slot read_process read_edge optional only read_name read_integer integer_or flag_or read_array limits apart number_of slot_of process_of edge_of order_of
+unfolding read_members read_raw read_node read_slot read_process read_edge optional only read_name read_integer
+    integer_or flag_or read_array limits apart number_of slot_of process_of edge_of order_of
     order_apart resolved graph_of toml_on_literals
 double_node = refl
 
 -- a name that names nothing
-unknown_node : said (lines (codes "faults = 0" ∷ codes "deadline = 9" ∷ codes "node = [{ name = \"N1\" }]" ∷ codes "process = [{ name = \"A\", node = \"N2\", wcet = 1 }]" ∷ [])) ≡ Err
+unknown_node : said (lines (codes "faults = 0" ∷ codes "deadline = 9" ∷ codes "node = [{ name = \"N1\" }]"
+    ∷ codes "process = [{ name = \"A\", node = \"N2\", wcet = 1 }]" ∷ [])) ≡ Err
     (UnknownName (place tables.Process 0 keys.Node))
-unfolding read_members read_raw read_node read_slot read_process read_edge optional only read_name read_integer integer_or flag_or read_array limits apart number_of slot_of process_of edge_of order_of
+unfolding read_members read_raw read_node read_slot read_process read_edge optional only read_name read_integer
+    integer_or flag_or read_array limits apart number_of slot_of process_of edge_of order_of
     order_apart resolved graph_of toml_on_literals
 unknown_node = refl
 
 -- an order
-ordered : said (lines (codes "faults = 0" ∷ codes "deadline = 9" ∷ codes "node = [{ name = \"N\" }]" ∷ codes "order = [\"A\"]" ∷ codes "process = [{ name = \"A\", node = \"N\", wcet = 1 }]" ∷ [])) ≡
+ordered : said (lines (codes "faults = 0" ∷ codes "deadline = 9" ∷ codes "node = [{ name = \"N\" }]"
+    ∷ codes "order = [\"A\"]" ∷ codes "process = [{ name = \"A\", node = \"N\", wcet = 1 }]" ∷ [])) ≡
     Ok (record {
       faults = 0;
       deadline = 9;
@@ -104,12 +136,14 @@ ordered : said (lines (codes "faults = 0" ∷ codes "deadline = 9" ∷ codes "no
       edges = [];
       order = Some (0 ∷ []);
     })
-unfolding read_members read_raw read_node read_slot read_process read_edge optional only read_name read_integer integer_or flag_or read_array limits apart number_of slot_of process_of edge_of order_of
+unfolding read_members read_raw read_node read_slot read_process read_edge optional only read_name read_integer
+    integer_or flag_or read_array limits apart number_of slot_of process_of edge_of order_of
     order_apart resolved graph_of toml_on_literals
 ordered = refl
 
 -- an order of none is an order, too
-empty_order : said (lines (codes "faults = 0" ∷ codes "deadline = 9" ∷ codes "node = [{ name = \"N\" }]" ∷ codes "order = []" ∷ codes "process = [{ name = \"A\", node = \"N\", wcet = 1 }]" ∷ [])) ≡
+empty_order : said (lines (codes "faults = 0" ∷ codes "deadline = 9" ∷ codes "node = [{ name = \"N\" }]"
+    ∷ codes "order = []" ∷ codes "process = [{ name = \"A\", node = \"N\", wcet = 1 }]" ∷ [])) ≡
     Ok (record {
       faults = 0;
       deadline = 9;
@@ -120,27 +154,34 @@ empty_order : said (lines (codes "faults = 0" ∷ codes "deadline = 9" ∷ codes
       edges = [];
       order = Some ([]);
     })
-unfolding read_members read_raw read_node read_slot read_process read_edge optional only read_name read_integer integer_or flag_or read_array limits apart number_of slot_of process_of edge_of order_of
+unfolding read_members read_raw read_node read_slot read_process read_edge optional only read_name read_integer
+    integer_or flag_or read_array limits apart number_of slot_of process_of edge_of order_of
     order_apart resolved graph_of toml_on_literals
 empty_order = refl
 
 -- an order with an element that is no name, which goes before a range
-bad_order : said (lines (codes "faults = 9" ∷ codes "deadline = 9" ∷ codes "node = [{ name = \"N\" }]" ∷ codes "order = [\"A\", 1]" ∷ codes "process = [{ name = \"A\", node = \"N\", wcet = 1 }]" ∷
+bad_order : said (lines (codes "faults = 9" ∷ codes "deadline = 9" ∷ codes "node = [{ name = \"N\" }]"
+    ∷ codes "order = [\"A\", 1]" ∷ codes "process = [{ name = \"A\", node = \"N\", wcet = 1 }]" ∷
     [])) ≡ Err (BadField (place tables.Top 0 keys.Order))
-unfolding read_members read_raw read_node read_slot read_process read_edge optional only read_name read_integer integer_or flag_or read_array limits apart number_of slot_of process_of edge_of order_of
+unfolding read_members read_raw read_node read_slot read_process read_edge optional only read_name read_integer
+    integer_or flag_or read_array limits apart number_of slot_of process_of edge_of order_of
     order_apart resolved graph_of toml_on_literals
 bad_order = refl
 
 -- a name that stands twice in the order, which goes before a name that names nothing
-double_order : said (lines (codes "faults = 0" ∷ codes "deadline = 9" ∷ codes "node = [{ name = \"N\" }]" ∷ codes "order = [\"B\", \"A\", \"A\"]" ∷ codes
+double_order : said (lines (codes "faults = 0" ∷ codes "deadline = 9" ∷ codes "node = [{ name = \"N\" }]"
+    ∷ codes "order = [\"B\", \"A\", \"A\"]" ∷ codes
     "process = [{ name = \"A\", node = \"N\", wcet = 1 }]" ∷ [])) ≡ Err (DoubleName (place tables.Top 0 keys.Order))
-unfolding read_members read_raw read_node read_slot read_process read_edge optional only read_name read_integer integer_or flag_or read_array limits apart number_of slot_of process_of edge_of order_of
+unfolding read_members read_raw read_node read_slot read_process read_edge optional only read_name read_integer
+    integer_or flag_or read_array limits apart number_of slot_of process_of edge_of order_of
     order_apart resolved graph_of toml_on_literals
 double_order = refl
 
 -- a name of the order that names nothing
-unknown_order : said (lines (codes "faults = 0" ∷ codes "deadline = 9" ∷ codes "node = [{ name = \"N\" }]" ∷ codes "order = [\"A\", \"N\"]" ∷ codes
+unknown_order : said (lines (codes "faults = 0" ∷ codes "deadline = 9" ∷ codes "node = [{ name = \"N\" }]"
+    ∷ codes "order = [\"A\", \"N\"]" ∷ codes
     "process = [{ name = \"A\", node = \"N\", wcet = 1 }]" ∷ [])) ≡ Err (UnknownName (place tables.Top 0 keys.Order))
-unfolding read_members read_raw read_node read_slot read_process read_edge optional only read_name read_integer integer_or flag_or read_array limits apart number_of slot_of process_of edge_of order_of
+unfolding read_members read_raw read_node read_slot read_process read_edge optional only read_name read_integer
+    integer_or flag_or read_array limits apart number_of slot_of process_of edge_of order_of
     order_apart resolved graph_of toml_on_literals
 unknown_order = refl

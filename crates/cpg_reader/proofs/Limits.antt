@@ -1,5 +1,6 @@
 -- What is known of a document that is within the limits.
-use Rattle.std.proofs.Common.{◌≡◌, ℕ, zero, suc, ◌+◌, ◌<◌, ◌≤◌, Bool, true, false, List, [], ◌∷◌, length, get_or, Ok, Err, refl, sym, ap, ◌∙◌, subst, arith, ℤ, pos, negsuc, cond}
+use Rattle.std.proofs.Common.{◌≡◌, ℕ, zero, suc, ◌+◌, ◌<◌, ◌≤◌, Bool, true, false, List, [], ◌∷◌, length, get_or, Ok}
+use Rattle.std.proofs.Common.{Err, refl, sym, ap, ◌∙◌, subst, arith, ℤ, pos, negsuc, cond}
 use Rattle.std.specs.Prelude.{nat_le, All}
 use Rattle.std.proofs.lemmas.Bool.{and_parts, leb-true, false≢true}
 use Rattle.std.proofs.lemmas.List.{length-map}
@@ -11,7 +12,8 @@ use Rattle.cpg_reader.specs.declared.place.ReadFault.{ReadFault}
 use Rattle.cpg_reader.specs.declared.ranges.BoundedField.{BoundedField}
 use Rattle.cpg_reader.specs.Reading.{Reading, done}
 use Rattle.cpg_reader.specs.Shape.{RawGraph}
-use Rattle.cpg_reader.specs.Ranges.{top_numbers, slot_numbers, process_numbers, edge_numbers, is_within, in_range, all_in_range, at_most, sources, different, limits}
+use Rattle.cpg_reader.specs.Ranges.{top_numbers, slot_numbers, process_numbers, edge_numbers, is_within, in_range}
+use Rattle.cpg_reader.specs.Ranges.{all_in_range, at_most, sources, different, limits}
 use Rattle.cpg_base.specs.Natural.{natural}
 use Rattle.cpg_reader.specs.Names.{process_names}
 use Rattle.cpg_reader.proofs.Steps.{then-parts}
@@ -32,27 +34,33 @@ pub record AreLimits (g : RawGraph) : Type 0 where
   pub edge_ranges : All (λ e. AreIn (edge_numbers e)) g.edges
   pub conditions : length (different [] (sources g.edges)) ≤ 32
 
-passes : {T : Type 0} (b : Bool) (next : Reading T) (fault : ReadFault) (x : T) → cond b next (Err fault) ≡ Ok x → (b ≡ true) × (next ≡ Ok x)
+passes : {T : Type 0} (b : Bool) (next : Reading T) (fault : ReadFault) (x : T) → cond b next (Err fault) ≡ Ok x →
+    (b ≡ true) × (next ≡ Ok x)
 passes true next fault x h = (refl, h)
 passes false next fault x h = cc
 
-at_most-le : {T : Type 0} (limit : ℕ) (what : What) (xs : List T) (x : Unit {0}) → at_most limit what xs ≡ Ok x → length xs ≤ limit
+at_most-le : {T : Type 0} (limit : ℕ) (what : What) (xs : List T) (x : Unit {0}) → at_most limit what xs ≡ Ok x →
+    length xs ≤ limit
 at_most-le limit what xs x h = leb-true (length xs) limit (passes (nat_le (length xs) limit) done _ x h).0
 
-natural-within : (low high : ℕ) (value : ℤ) → is_within low high value ≡ true → (low ≤ natural value) × (natural value ≤ high)
+natural-within : (low high : ℕ) (value : ℤ) → is_within low high value ≡ true →
+    (low ≤ natural value) × (natural value ≤ high)
 natural-within low high (pos n) h =
     let (above, below) = and_parts (nat_le low n) (nat_le n high) h in
     (leb-true low n above, leb-true n high below)
 natural-within low high (negsuc n) h = absurd (false≢true h)
 
-AreIn-from_in_range : (table : Table) (i : ℕ) (ns : List BoundedField) (x : Unit {0}) → in_range table i ns ≡ Ok x → AreIn ns
+AreIn-from_in_range : (table : Table) (i : ℕ) (ns : List BoundedField) (x : Unit {0}) → in_range table i ns ≡ Ok x →
+    AreIn ns
 AreIn-from_in_range table i [] x h = tt
 AreIn-from_in_range table i (n ∷ ns) x h =
     let (here, rest) = passes (is_within n.low n.high n.value) (in_range table i ns) _ x h in
     let (low, high) = natural-within n.low n.high n.value here in
     (low, high, AreIn-from_in_range table i ns x rest)
 
-all_in_range-at : {T : Type 0} (table : Table) (numbers_of : T → List BoundedField) (i : ℕ) (xs : List T) (x : Unit {0}) → all_in_range table numbers_of i xs ≡ Ok x →
+all_in_range-at : {T : Type 0} (table : Table) (numbers_of : T → List BoundedField) (i : ℕ) (xs : List T)
+    (x : Unit {0}) →
+    all_in_range table numbers_of i xs ≡ Ok x →
     All (λ y. AreIn (numbers_of y)) xs
 all_in_range-at table numbers_of i [] x h k d l = absurd (omega arith)
 all_in_range-at table numbers_of i (y ∷ ys) x h zero d l =
@@ -98,11 +106,13 @@ small_edges g h k d l = ((are_limits g h).edge_ranges k d l).1
 pub few_nodes : (g : RawGraph) (names : List (List ℕ)) → limits g ≡ Ok tt → names ≡ g.nodes → length names ≤ 128
 few_nodes g names h e = omega (arith, (are_limits g h).nodes, ap length e)
 
-pub few_processes : (g : RawGraph) (names : List (List ℕ)) → limits g ≡ Ok tt → names ≡ process_names g.processes → length names ≤ 128
+pub few_processes : (g : RawGraph) (names : List (List ℕ)) → limits g ≡ Ok tt → names ≡ process_names g.processes →
+    length names ≤ 128
 few_processes g names h e = omega (arith, (are_limits g h).processes, ap length e, length-map g.processes (λ p. p.name))
 
 -- what holds of all holds of the one at a place
-pub all_at : {X : Type 0} (P : X → Type 0) (xs ys : List X) (i : ℕ) (x : X) → All P xs → ys ≡ xs → i < length ys → x ≡ get_or ys i x → P x
+pub all_at : {X : Type 0} (P : X → Type 0) (xs ys : List X) (i : ℕ) (x : X) → All P xs → ys ≡ xs → i < length ys →
+    x ≡ get_or ys i x → P x
 all_at P xs ys i x h e l is =
     let there : get_or xs i x ≡ x = sym (is ∙ ap (λ zs. get_or zs i x) e) in
     subst P there (h i x (subst (λ zs. i < length zs) e l))

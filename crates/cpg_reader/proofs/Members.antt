@@ -1,5 +1,6 @@
 -- A map with one more entry, as members.
-use Rattle.std.proofs.Common.{◌≡◌, ℕ, ◌+◌, ◌<◌, List, [], ◌∷◌, ◌++◌, length, get_or, take, map, sym, ap, subst, String, Global, Ordering, Less, Equal, Greater, string_bytes, refl, ◌∙◌}
+use Rattle.std.proofs.Common.{◌≡◌, ℕ, ◌+◌, ◌<◌, List, [], ◌∷◌, ◌++◌, length, get_or, take, map, sym, ap, subst, String}
+use Rattle.std.proofs.Common.{Global, Ordering, Less, Equal, Greater, string_bytes, refl, ◌∙◌}
 use Rattle.std.specs.Prelude.{All}
 use Rattle.std.proofs.lemmas.List.{map_push, take_more}
 use Rattle.std.proofs.lemmas.List.Elements.{All-push}
@@ -11,12 +12,14 @@ use Rattle.toml.specs.declared.value.Value.{Value}
 use Rattle.toml.proofs.Views.{Entry}
 use Rattle.cpg_reader.specs.WrittenTree.{with_member}
 
-match_members : (o : Ordering) (a b c : List Entry) → members_view (match_ordering o a b c) ≡ match_ordering o (members_view a) (members_view b) (members_view c)
+match_members : (o : Ordering) (a b c : List Entry) →
+    members_view (match_ordering o a b c) ≡ match_ordering o (members_view a) (members_view b) (members_view c)
 match_members Less a b c = refl
 match_members Equal a b c = refl
 match_members Greater a b c = refl
 
-pub members_view-insert : (es : List Entry) (k : String Global) (v : Value) → members_view (insert_entry string_cmp es k v) ≡ with_member (string_bytes k) (view v) (members_view es)
+pub members_view-insert : (es : List Entry) (k : String Global) (v : Value) →
+    members_view (insert_entry string_cmp es k v) ≡ with_member (string_bytes k) (view v) (members_view es)
 members_view-insert [] k v = refl
 members_view-insert (e ∷ es) k v = match_members (string_cmp k e.0) _ _ _ ∙ rw (members_view-insert es k v)
 
@@ -30,5 +33,6 @@ module _ {X : Type 0} (xs : List X) (i : ℕ) (x : X) (h : i < length xs) (is : 
   all_more P a p = subst (All P) (sym more) (All-push P (take i xs) x a p)
 
   -- what was made of all so far is made of one more
-  pub made_more : {Y : Type 0} (f : X → Y) (made new : List Y) → made ≡ map f (take i xs) → new ≡ made ++ f x ∷ [] → new ≡ map f (take (i + 1) xs)
+  pub made_more : {Y : Type 0} (f : X → Y) (made new : List Y) → made ≡ map f (take i xs) → new ≡ made ++ f x ∷ [] →
+      new ≡ map f (take (i + 1) xs)
   made_more f made new so_far is_new = is_new ∙ rw (so_far, more) (sym (map_push f (take i xs) x))

@@ -1,5 +1,6 @@
 -- When a text is a name.
-use Rattle.std.proofs.Common.{◌≡◌, ℕ, Bool, true, false, List, length, Option, Some, None, Result, Ok, Err, refl, ◌∙◌, sym, ap, cond, le-leb}
+use Rattle.std.proofs.Common.{◌≡◌, ℕ, Bool, true, false, List, length, Option, Some, None, Result, Ok, Err, refl, ◌∙◌}
+use Rattle.std.proofs.Common.{sym, ap, cond, le-leb}
 use Rattle.std.specs.Prelude.{IfOk, IfSome, IfNone, nat_le, ◌&&◌}
 use Rattle.std.specs.List.{list_all}
 use Rattle.std.proofs.lemmas.Bool.{and_parts, leb-true}
@@ -8,13 +9,18 @@ use Rattle.cpg_base.specs.Name.{IsName, is_name_byte}
 use Rattle.cpg_reader.specs.Rows.{is_name, name_if}
 
 pub is_name-from_IsName : (text : List ℕ) → IsName text → is_name text ≡ true
-is_name-from_IsName text h = rw (le-leb 1 (length text) h.some, le-leb (length text) 32 h.short) (list_all-from_AllPass is_name_byte text h.plain)
+is_name-from_IsName text h = rw (le-leb 1 (length text) h.some, le-leb (length text) 32 h.short)
+    (list_all-from_AllPass is_name_byte text h.plain)
 
 pub IsName-from_is_name : (text : List ℕ) → is_name text ≡ true → IsName text
 IsName-from_is_name text h =
     let (sized, plain) = and_parts (nat_le 1 (length text) && nat_le (length text) 32) (list_all is_name_byte text) h in
     let (some, short) = and_parts (nat_le 1 (length text)) (nat_le (length text) 32) sized in
-    record { some = leb-true 1 (length text) some; short = leb-true (length text) 32 short; plain = AllPass-from_list_all is_name_byte text plain }
+    record {
+      some = leb-true 1 (length text) some;
+      short = leb-true (length text) 32 short;
+      plain = AllPass-from_list_all is_name_byte text plain;
+    }
 
 if_name : (text : List ℕ) (b : Bool) → is_name text ≡ b → name_if text ≡ cond b (Some text) None
 if_name text b e = rw e
@@ -24,11 +30,15 @@ not_name text true e h = absurd (h (IsName-from_is_name text e))
 not_name text false e h = if_name text false e
 
 -- what `Name::new` says of its answer
-pub named : (found : Option (List ℕ)) (text : List ℕ) → IfSome found (λ name. name ≡ text) → IfSome found (λ _. IsName text) → IfNone found (¬ IsName text) → found ≡ name_if text
+pub named : (found : Option (List ℕ)) (text : List ℕ) → IfSome found (λ name. name ≡ text) →
+    IfSome found (λ _. IsName text) → IfNone found (¬ IsName text) →
+    found ≡ name_if text
 named (Some name) text same taken refused = ap Some same ∙ sym (if_name text true (is_name-from_IsName text taken))
 named None text same taken refused = sym (not_name text (is_name text) refl refused)
 
-pub named_ok : {E : Type 0} (r : Result (Option (List ℕ)) E) (text : List ℕ) → IfOk r (λ found. IfSome found (λ name. name ≡ text)) → IfOk r (λ found. IfSome found (λ _. IsName text)) →
+pub named_ok : {E : Type 0} (r : Result (Option (List ℕ)) E) (text : List ℕ) →
+    IfOk r (λ found. IfSome found (λ name. name ≡ text)) →
+    IfOk r (λ found. IfSome found (λ _. IsName text)) →
     IfOk r (λ found. IfNone found (¬ IsName text)) → IfOk r (λ found. found ≡ name_if text)
 named_ok (Ok found) text same taken refused = named found text same taken refused
 named_ok (Err e) text same taken refused = tt

@@ -1,5 +1,6 @@
 -- The names of a written document stand for the numbers that they were written for.
-use Rattle.std.proofs.Common.{◌≡◌, ◌≢◌, ℕ, ◌+◌, ◌<◌, Bool, false, List, [], ◌∷◌, ◌++◌, length, get_or, map, Option, Some, None, Ok, Err, AllPairs, refl, sym, ap, ◌∙◌, subst, arith, lt-ltb}
+use Rattle.std.proofs.Common.{◌≡◌, ◌≢◌, ℕ, ◌+◌, ◌<◌, Bool, false, List, [], ◌∷◌, ◌++◌, length, get_or, map, Option}
+use Rattle.std.proofs.Common.{Some, None, Ok, Err, AllPairs, refl, sym, ap, ◌∙◌, subst, arith, lt-ltb}
 use Rattle.std.proofs.Common.{append_assoc, zero, suc}
 use Rattle.std.specs.Prelude.{bytes_eq, position, option_map, IfSome}
 use Rattle.std.specs.List.{AllByRecursion, list_any, position_or_len}
@@ -20,7 +21,8 @@ use Rattle.cpg_reader.specs.declared.place.Key.{Key}
 use Rattle.cpg_reader.specs.declared.place.Key.TheVariants as keys
 use Rattle.cpg_reader.specs.declared.place.Place.{Place}
 use Rattle.cpg_reader.specs.Reading.{Reading, each}
-use Rattle.cpg_reader.specs.Names.{apart_from, apart, number_of, slot_of, process_of, edge_of, ordered, order_of, order_apart, graph_of, resolved}
+use Rattle.cpg_reader.specs.Names.{apart_from, apart, number_of, slot_of, process_of, edge_of, ordered, order_of}
+use Rattle.cpg_reader.specs.Names.{order_apart, graph_of, resolved}
 use Rattle.cpg_reader.specs.RawOf.{raw_slot, raw_process, raw_edge, raw_of, name_in, names_of}
 use Rattle.cpg_reader.proofs.RawReads.{all_by_recursion}
 
@@ -44,29 +46,37 @@ left_shorter [] ys y = omega arith
 left_shorter (x ∷ xs) ys y = omega (arith, left_shorter xs ys y)
 
 -- names that differ pass
-apart_from-pairs : (table : Table) (key : Key) (i : ℕ) (earlier names : List (List ℕ)) → AreApart (earlier ++ names) → apart_from table key i earlier names ≡ Ok tt
+apart_from-pairs : (table : Table) (key : Key) (i : ℕ) (earlier names : List (List ℕ)) → AreApart (earlier ++ names) →
+    apart_from table key i earlier names ≡ Ok tt
 apart_from-pairs table key i earlier [] h = refl
 apart_from-pairs table key i earlier (name ∷ names) h =
-    let new : list_any (bytes_eq name) earlier ≡ false = list_any_false (bytes_eq name) earlier (λ y (k, l, is). differ name y
-    (λ same. h k (length earlier) y l (left_shorter earlier names name) (at_left earlier (name ∷ names) k y l ∙ is ∙ sym same ∙ sym (at_middle earlier names name y)))) in
-    rw new (apart_from-pairs table key (i + 1) (earlier ++ name ∷ []) names (subst AreApart (sym (append_assoc earlier (name ∷ []) names)) h))
+    let new : list_any (bytes_eq name) earlier ≡ false =
+    list_any_false (bytes_eq name) earlier (λ y (k, l, is). differ name y
+    (λ same. h k (length earlier) y l (left_shorter earlier names name)
+    (at_left earlier (name ∷ names) k y l ∙ is ∙ sym same ∙ sym (at_middle earlier names name y)))) in
+    rw new (apart_from-pairs table key (i + 1) (earlier ++ name ∷ []) names
+    (subst AreApart (sym (append_assoc earlier (name ∷ []) names)) h))
 
 apart-names : (table : Table) (key : Key) (names : List (List ℕ)) → AreApart names → apart table key names ≡ Ok tt
 unfolding apart
 apart-names table key names h = apart_from-pairs table key 0 [] names h
 
 -- the number of the name at a place is that place
-number_at : (names : List (List ℕ)) (place : Place) (n : ℕ) → AreApart names → n < length names → number_of names place (get_or names n []) ≡ Ok n
+number_at : (names : List (List ℕ)) (place : Place) (n : ℕ) → AreApart names → n < length names →
+    number_of names place (get_or names n []) ≡ Ok n
 unfolding number_of
 number_at names place n h l =
     let passes : List ℕ → Bool = bytes_eq (get_or names n []) in
     let at : position_or_len passes names ≡ n = position_or_len_is passes names n [] (omega (arith, l))
     (λ k lt. differ (get_or names n []) (get_or names k []) (λ same. h k n [] lt l (sym same)))
     (λ m. (bytes_eq-Decides (get_or names n []) (get_or names n [])).1 refl) in
-    let found : position passes names ≡ Some n = cond-true _ _ _ (lt-ltb (position_or_len passes names) (length names) (omega (arith, at, l))) ∙ ap Some at in
+    let found : position passes names ≡ Some n =
+    cond-true _ _ _ (lt-ltb (position_or_len passes names) (length names) (omega (arith, at, l))) ∙ ap Some at in
     rw found refl
 
-each_back : {S T : Type 0} (step : ℕ → T → Reading S) (f : S → T) (P : S → Type 0) → ((i : ℕ) (x : S) → P x → step i (f x) ≡ Ok x) → (i : ℕ) (xs : List S) → AllByRecursion P xs →
+each_back : {S T : Type 0} (step : ℕ → T → Reading S) (f : S → T) (P : S → Type 0) →
+    ((i : ℕ) (x : S) → P x → step i (f x) ≡ Ok x) → (i : ℕ) (xs : List S) →
+    AllByRecursion P xs →
     each step i (map f xs) ≡ Ok xs
 each_back step f P h i [] a = refl
 each_back step f P h i (x ∷ xs) a = rw (h i x a.0, each_back step f P h (i + 1) xs a.1) refl
@@ -80,10 +90,12 @@ number_value (Ok n) = n
 number_value (Err e) = 0
 
 -- no two numbers have one name
-only : (names : List (List ℕ)) → AreApart names → (m n : ℕ) → m < length names → n < length names → get_or names m [] ≡ get_or names n [] → m ≡ n
+only : (names : List (List ℕ)) → AreApart names → (m n : ℕ) → m < length names → n < length names →
+    get_or names m [] ≡ get_or names n [] → m ≡ n
 only names h m n l k e =
     let somewhere : Place = record { table = places.Slot; index = 0; key = keys.Node } in
-    ap number_value (sym (number_at names somewhere m h l) ∙ ap (number_of names somewhere) e ∙ number_at names somewhere n h k)
+    ap number_value
+    (sym (number_at names somewhere m h l) ∙ ap (number_of names somewhere) e ∙ number_at names somewhere n h k)
 
 -- the names of an order differ, and stand for its numbers
 module _ (names : List (List ℕ)) (names_differ : AreApart names) where
@@ -94,29 +106,34 @@ module _ (names : List (List ℕ)) (names_differ : AreApart names) where
       h.once i j 0 lt l' (only names names_differ (get_or o i 0) (get_or o j 0) (h.there i 0 i') (h.there j 0 l')
       (sym (get_or-map (name_in names) o i 0 d i') ∙ same ∙ get_or-map (name_in names) o j 0 d l'))
 
-  order_differs : (order : Option (List ℕ)) → IfSome order (IsOrderWithin (length names)) → order_apart (option_map (map (name_in names)) order) ≡ Ok tt
+  order_differs : (order : Option (List ℕ)) → IfSome order (IsOrderWithin (length names)) →
+      order_apart (option_map (map (name_in names)) order) ≡ Ok tt
   unfolding order_apart
   order_differs None h = refl
   order_differs (Some o) h = apart-names places.Top keys.Order (map (name_in names) o) (order_names_apart o h)
 
-  order_back : (order : Option (List ℕ)) → IfSome order (IsOrderWithin (length names)) → order_of names (option_map (map (name_in names)) order) ≡ Ok order
+  order_back : (order : Option (List ℕ)) → IfSome order (IsOrderWithin (length names)) →
+      order_of names (option_map (map (name_in names)) order) ≡ Ok order
   unfolding order_of
   order_back None h = refl
   order_back (Some o) h =
-      rw (each_back (ordered names) (name_in names) (λ p. p < length names) (λ i p l. number_at names _ p names_differ l) 0 o (all_by_recursion _ o h.there)) refl
+      rw (each_back (ordered names) (name_in names) (λ p. p < length names)
+      (λ i p l. number_at names _ p names_differ l) 0 o (all_by_recursion _ o h.there)) refl
 
 module _ (g : Graph) (limited : IsWithinLimits g) where
   slot_back : (i : ℕ) (s : Slot) → IsSlotWithin (length g.nodes) s → slot_of g.nodes i (raw_slot g.nodes s) ≡ Ok s
   unfolding slot_of
   slot_back i s h = rw (number_at g.nodes _ s.node limited.node_names h.node) refl
 
-  process_by : (i : ℕ) (p : Process) (own : Option ℕ) → p.deadline ≡ own → IsProcessWithin (length g.nodes) p → process_of g.nodes i (raw_process g.nodes p) ≡ Ok (record p { deadline = own })
+  process_by : (i : ℕ) (p : Process) (own : Option ℕ) → p.deadline ≡ own → IsProcessWithin (length g.nodes) p →
+      process_of g.nodes i (raw_process g.nodes p) ≡ Ok (record p { deadline = own })
   unfolding process_of
   process_by i p None e h = rw (number_at g.nodes _ p.node limited.node_names h.node, e) refl
   process_by i p (Some d) e h = rw (number_at g.nodes _ p.node limited.node_names h.node, e) refl
 
   names_apart : AreApart (names_of g.processes)
-  names_apart = AllPairs-map (λ (p : Process) (q : Process). p.name ≢ q.name) (λ a b. a ≢ b) (λ (p : Process). p.name) g.processes (λ p q d. d) limited.process_names
+  names_apart = AllPairs-map (λ (p : Process) (q : Process). p.name ≢ q.name) (λ a b. a ≢ b)
+      (λ (p : Process). p.name) g.processes (λ p q d. d) limited.process_names
 
   slots_apart : AreApart (map (λ (s : Slot). get_or g.nodes s.node []) g.slots)
   slots_apart i j d lt l same =
@@ -131,24 +148,32 @@ module _ (g : Graph) (limited : IsWithinLimits g) where
       let ni = (limited.slots j none l').node in
       limited.own_slots i j none lt l' (only g.nodes limited.node_names m n mi ni equal)
 
-  edge_back : (i : ℕ) (e : Edge) → IsEdgeWithin (process_count g) e → edge_of (names_of g.processes) i (raw_edge (names_of g.processes) e) ≡ Ok e
+  edge_back : (i : ℕ) (e : Edge) → IsEdgeWithin (process_count g) e →
+      edge_of (names_of g.processes) i (raw_edge (names_of g.processes) e) ≡ Ok e
   unfolding edge_of
   edge_back i e h =
       let count = length-map g.processes (λ (p : Process). p.name) in
-      rw (number_at (names_of g.processes) _ e.from names_apart (omega (arith, count, h.from)), number_at (names_of g.processes) _ e.to names_apart (omega (arith, count, h.to))) refl
+      rw (
+        number_at (names_of g.processes) _ e.from names_apart (omega (arith, count, h.from)),
+        number_at (names_of g.processes) _ e.to names_apart (omega (arith, count, h.to)),
+      ) refl
 
   order_within : IfSome g.order (IsOrderWithin (length (names_of g.processes)))
-  order_within = subst (λ n. IfSome g.order (IsOrderWithin n)) (sym (length-map g.processes (λ (p : Process). p.name))) limited.order
+  order_within = subst (λ n. IfSome g.order (IsOrderWithin n))
+      (sym (length-map g.processes (λ (p : Process). p.name))) limited.order
 
   pub graph_back : graph_of (raw_of g) ≡ Ok g
   unfolding graph_of resolved
   graph_back =
       let slot_name = map_map (raw_slot g.nodes) (λ s. s.node) g.slots in
       let process_name = map_map (raw_process g.nodes) (λ p. p.name) g.processes in
-      let slots = each_back (slot_of g.nodes) (raw_slot g.nodes) (IsSlotWithin (length g.nodes)) slot_back 0 g.slots (all_by_recursion _ g.slots limited.slots) in
-      let processes = each_back (process_of g.nodes) (raw_process g.nodes) (IsProcessWithin (length g.nodes)) (λ i p h. process_by i p p.deadline refl h) 0 g.processes
+      let slots = each_back (slot_of g.nodes) (raw_slot g.nodes) (IsSlotWithin (length g.nodes)) slot_back 0 g.slots
+      (all_by_recursion _ g.slots limited.slots) in
+      let processes = each_back (process_of g.nodes) (raw_process g.nodes) (IsProcessWithin (length g.nodes))
+      (λ i p h. process_by i p p.deadline refl h) 0 g.processes
       (all_by_recursion _ g.processes limited.processes) in
-      let edges = each_back (edge_of (names_of g.processes)) (raw_edge (names_of g.processes)) (IsEdgeWithin (process_count g)) edge_back 0 g.edges (all_by_recursion _ g.edges limited.edges) in
+      let edges = each_back (edge_of (names_of g.processes)) (raw_edge (names_of g.processes))
+      (IsEdgeWithin (process_count g)) edge_back 0 g.edges (all_by_recursion _ g.edges limited.edges) in
       rw (
         slot_name,
         process_name,

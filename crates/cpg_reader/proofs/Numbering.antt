@@ -1,5 +1,6 @@
 -- What is known of names that differ, of the number of a name, and of the different ones among names.
-use Rattle.std.proofs.Common.{◌≡◌, ◌≢◌, ◌⊎◌, inl, inr, ⊎_elim, ℕ, ◌+◌, ◌<◌, Bool, true, false, List, [], ◌∷◌, ◌++◌, length, get_or, Option, Some, None, Ok, Err, AllPairs, Contains, refl, sym, ◌∙◌}
+use Rattle.std.proofs.Common.{◌≡◌, ◌≢◌, ◌⊎◌, inl, inr, ⊎_elim, ℕ, ◌+◌, ◌<◌, Bool, true, false, List, [], ◌∷◌, ◌++◌}
+use Rattle.std.proofs.Common.{length, get_or, Option, Some, None, Ok, Err, AllPairs, Contains, refl, sym, ◌∙◌}
 use Rattle.std.proofs.Common.{subst, cond, arith, append_assoc, append-nil, true≢false}
 use Rattle.std.specs.Prelude.{bytes_eq, position}
 use Rattle.std.specs.List.{list_any}
@@ -20,7 +21,9 @@ known-parts place (Some m) n h = cc
 known-parts place None n h = cc
 
 -- the number of a name is its place
-pub number-is : (names : List (List ℕ)) (place : Place) (name : List ℕ) (n : ℕ) → number_of names place name ≡ Ok n → (d : List ℕ) → (n < length names) × (get_or names n d ≡ name)
+pub number-is : (names : List (List ℕ)) (place : Place) (name : List ℕ) (n : ℕ) → number_of names place name ≡ Ok n →
+    (d : List ℕ) →
+    (n < length names) × (get_or names n d ≡ name)
 unfolding number_of
 number-is names place name n h d =
     let found = position-Some (bytes_eq name) names n d (known-parts place (position (bytes_eq name) names) n h) in
@@ -29,37 +32,48 @@ number-is names place name n h d =
 differ : (x y : List ℕ) → bytes_eq y x ≡ false → x ≢ y
 differ x y e is = true≢false (sym ((bytes_eq-Decides y x).1 (sym is)) ∙ e)
 
-goes_by : {T : Type 0} (b : Bool) (next : Reading T) (fault : ReadFault) (x : T) → cond b (Err fault) next ≡ Ok x → (b ≡ false) × (next ≡ Ok x)
+goes_by : {T : Type 0} (b : Bool) (next : Reading T) (fault : ReadFault) (x : T) → cond b (Err fault) next ≡ Ok x →
+    (b ≡ false) × (next ≡ Ok x)
 goes_by true next fault x h = cc
 goes_by false next fault x h = (refl, h)
 
-apart_from-pairs : (table : Table) (key : Key) (i : ℕ) (earlier names : List (List ℕ)) (x : Unit {0}) → AllPairs (λ a b. a ≢ b) earlier → apart_from table key i earlier names ≡ Ok x
+apart_from-pairs : (table : Table) (key : Key) (i : ℕ) (earlier names : List (List ℕ)) (x : Unit {0}) →
+    AllPairs (λ a b. a ≢ b) earlier →
+    apart_from table key i earlier names ≡ Ok x
     → AllPairs (λ a b. a ≢ b) (earlier ++ names)
 apart_from-pairs table key i earlier [] x p h = subst (AllPairs (λ a b. a ≢ b)) (sym (append-nil earlier)) p
 apart_from-pairs table key i earlier (name ∷ names) x p h =
-    let (new, rest) = goes_by (list_any (bytes_eq name) earlier) (apart_from table key (i + 1) (earlier ++ name ∷ []) names) _ x h in
+    let (new, rest) =
+    goes_by (list_any (bytes_eq name) earlier) (apart_from table key (i + 1) (earlier ++ name ∷ []) names) _ x h in
     let more = all_pairs_push (λ a b. a ≢ b) earlier name p
-    (λ k d l. differ (get_or earlier k d) name (from_any_false (bytes_eq name) earlier (get_or earlier k d) new (Contains-get_or earlier k d l))) in
-    subst (AllPairs (λ a b. a ≢ b)) (append_assoc earlier (name ∷ []) names) (apart_from-pairs table key (i + 1) (earlier ++ name ∷ []) names x more rest)
+    (λ k d l. differ (get_or earlier k d) name
+    (from_any_false (bytes_eq name) earlier (get_or earlier k d) new (Contains-get_or earlier k d l))) in
+    subst (AllPairs (λ a b. a ≢ b)) (append_assoc earlier (name ∷ []) names)
+    (apart_from-pairs table key (i + 1) (earlier ++ name ∷ []) names x more rest)
 
 -- no two names are equal
-pub apart-pairs : (table : Table) (key : Key) (names : List (List ℕ)) (x : Unit {0}) → apart table key names ≡ Ok x → AllPairs (λ a b. a ≢ b) names
+pub apart-pairs : (table : Table) (key : Key) (names : List (List ℕ)) (x : Unit {0}) → apart table key names ≡ Ok x →
+    AllPairs (λ a b. a ≢ b) names
 unfolding apart
 apart-pairs table key names x h = apart_from-pairs table key 0 [] names x (λ i j d lt l. absurd (omega arith)) h
 
-noted_if : (seen : List (List ℕ)) (name : List ℕ) (b : Bool) → list_any (bytes_eq name) seen ≡ b → Contains (cond b seen (seen ++ name ∷ [])) name
+noted_if : (seen : List (List ℕ)) (name : List ℕ) (b : Bool) → list_any (bytes_eq name) seen ≡ b →
+    Contains (cond b seen (seen ++ name ∷ [])) name
 noted_if seen name true e =
     let (other, there, same) = list_any_parts (bytes_eq name) seen e in
     subst (Contains seen) (sym ((bytes_eq-Decides name other).0 same)) there
 noted_if seen name false e = Contains-push seen name
 
-kept_if : (seen : List (List ℕ)) (name other : List ℕ) (b : Bool) → Contains seen other → Contains (cond b seen (seen ++ name ∷ [])) other
+kept_if : (seen : List (List ℕ)) (name other : List ℕ) (b : Bool) → Contains seen other →
+    Contains (cond b seen (seen ++ name ∷ [])) other
 kept_if seen name other true h = h
 kept_if seen name other false h = Contains-append_left seen (name ∷ []) other h
 
 -- each name is among the different ones
-pub different-Contains : (seen names : List (List ℕ)) (x : List ℕ) → Contains seen x ⊎ Contains names x → Contains (different seen names) x
-different-Contains seen [] x h = ⊎_elim (λ (c : Contains seen x). c) (λ (c : Contains [] x). absurd (Contains-nil x c)) h
+pub different-Contains : (seen names : List (List ℕ)) (x : List ℕ) → Contains seen x ⊎ Contains names x →
+    Contains (different seen names) x
+different-Contains seen [] x h =
+    ⊎_elim (λ (c : Contains seen x). c) (λ (c : Contains [] x). absurd (Contains-nil x c)) h
 different-Contains seen (name ∷ names) x h =
     let next = cond (list_any (bytes_eq name) seen) seen (seen ++ name ∷ []) in
     different-Contains next names x (⊎_elim

@@ -1,5 +1,6 @@
 -- What is read of a written document, as far as its keys and types go.
-use Rattle.std.proofs.Common.{◌≡◌, ℕ, ◌+◌, suc, Bool, List, [], ◌∷◌, get_or, map, Option, Some, None, Ok, refl, ap, ◌∙◌, arith}
+use Rattle.std.proofs.Common.{◌≡◌, ℕ, ◌+◌, suc, Bool, List, [], ◌∷◌, get_or, map, Option, Some, None, Ok, refl, ap, ◌∙◌}
+use Rattle.std.proofs.Common.{arith}
 use Rattle.std.specs.Prelude.{All, IfSome}
 use Rattle.std.specs.List.{AllByRecursion}
 use Rattle.toml.specs.Data.{Members, string, table, as_table}
@@ -11,7 +12,8 @@ use Rattle.cpg_base.specs.declared.process.Edge.{Edge}
 use Rattle.cpg_base.specs.declared.process.Slot.{Slot}
 use Rattle.cpg_reader.specs.declared.place.Table.TheVariants as places
 use Rattle.cpg_reader.specs.Reading.{Reading, each}
-use Rattle.cpg_reader.specs.Rows.{name_if, items_as, as_name, read_name, read_integer, integer_or, flag_or, optional, only, read_array}
+use Rattle.cpg_reader.specs.Rows.{name_if, items_as, as_name, read_name, read_integer, integer_or, flag_or, optional}
+use Rattle.cpg_reader.specs.Rows.{only, read_array}
 use Rattle.cpg_reader.specs.Shape.{read_node, read_slot, read_process, read_edge, read_rows, read_raw}
 use Rattle.cpg_reader.proofs.NameTexts.{is_name-from_IsName}
 use Rattle.cpg_reader.specs.WrittenTree.{node_members, slot_members, process_members, edge_members, graph_members}
@@ -24,11 +26,13 @@ all_by_recursion P (x ∷ xs) h = (h 0 x (omega arith), all_by_recursion P xs (�
 pub name_read : (text : List ℕ) → IsName text → name_if text ≡ Some text
 name_read text h = rw (is_name-from_IsName text h) refl
 
-node_read : (i : ℕ) (name : List ℕ) → IsName name → read_node (record { table = places.Node; index = i; members = node_members name }) ≡ Ok name
+node_read : (i : ℕ) (name : List ℕ) → IsName name →
+    read_node (record { table = places.Node; index = i; members = node_members name }) ≡ Ok name
 unfolding read_node read_name optional only
 node_read i name h = rw (name_read name h) refl
 
-slot_read : (nodes : List (List ℕ)) (i : ℕ) (s : Slot) → IsName (get_or nodes s.node []) → read_slot (record { table = places.Slot; index = i; members = slot_members nodes s }) ≡ Ok (raw_slot nodes s)
+slot_read : (nodes : List (List ℕ)) (i : ℕ) (s : Slot) → IsName (get_or nodes s.node []) →
+    read_slot (record { table = places.Slot; index = i; members = slot_members nodes s }) ≡ Ok (raw_slot nodes s)
 unfolding read_slot read_name read_integer optional only
 slot_read nodes i s h = rw (name_read (get_or nodes s.node []) h) refl
 
@@ -37,7 +41,8 @@ pub record IsCalled (nodes : List (List ℕ)) (p : Process) : Type 0 where
   pub node : IsName (get_or nodes p.node [])
 
 process_by : (nodes : List (List ℕ)) (i : ℕ) (p : Process) (own : Option ℕ) → p.deadline ≡ own → IsCalled nodes p
-    → read_process (record { table = places.Process; index = i; members = process_members nodes p }) ≡ Ok (raw_process nodes p)
+    → read_process (record { table = places.Process; index = i; members = process_members nodes p })
+    ≡ Ok (raw_process nodes p)
 unfolding read_process read_name read_integer integer_or flag_or optional only
 process_by nodes i p None e h = rw (e, name_read p.name h.name, name_read (get_or nodes p.node []) h.node) refl
 process_by nodes i p (Some d) e h = rw (e, name_read p.name h.name, name_read (get_or nodes p.node []) h.node) refl
@@ -46,18 +51,31 @@ pub record IsJoined (names : List (List ℕ)) (e : Edge) : Type 0 where
   pub from : IsName (get_or names e.from [])
   pub to : IsName (get_or names e.to [])
 
-edge_by : (processes : List Process) (i : ℕ) (e : Edge) (when : Option Bool) → e.when ≡ when → IsJoined (names_of processes) e
-    → read_edge (record { table = places.Edge; index = i; members = edge_members processes e }) ≡ Ok (raw_edge (names_of processes) e)
+edge_by : (processes : List Process) (i : ℕ) (e : Edge) (when : Option Bool) → e.when ≡ when →
+    IsJoined (names_of processes) e
+    → read_edge (record { table = places.Edge; index = i; members = edge_members processes e })
+    ≡ Ok (raw_edge (names_of processes) e)
 unfolding read_edge read_name integer_or flag_or optional only
-edge_by processes i e None is h = rw (is, name_read (get_or (names_of processes) e.from []) h.from, name_read (get_or (names_of processes) e.to []) h.to) refl
-edge_by processes i e (Some value) is h = rw (is, name_read (get_or (names_of processes) e.from []) h.from, name_read (get_or (names_of processes) e.to []) h.to) refl
+edge_by processes i e None is h = rw (
+  is,
+  name_read (get_or (names_of processes) e.from []) h.from,
+  name_read (get_or (names_of processes) e.to []) h.to,
+) refl
+edge_by processes i e (Some value) is h = rw (
+  is,
+  name_read (get_or (names_of processes) e.from []) h.from,
+  name_read (get_or (names_of processes) e.to []) h.to,
+) refl
 
-each_read : {S T U : Type 0} (step : ℕ → T → Reading U) (f : S → T) (r : S → U) (P : S → Type 0) → ((i : ℕ) (x : S) → P x → step i (f x) ≡ Ok (r x)) → (i : ℕ) (xs : List S) → AllByRecursion P xs
+each_read : {S T U : Type 0} (step : ℕ → T → Reading U) (f : S → T) (r : S → U) (P : S → Type 0) →
+    ((i : ℕ) (x : S) → P x → step i (f x) ≡ Ok (r x)) → (i : ℕ) (xs : List S) →
+    AllByRecursion P xs
     → each step i (map f xs) ≡ Ok (map r xs)
 each_read step f r P h i [] a = refl
 each_read step f r P h i (x ∷ xs) a = rw (h i x a.0, each_read step f r P h (i + 1) xs a.1) refl
 
-tables_read : {T : Type 0} (f : T → Members) (xs : List T) → items_as as_table (items_of (map (λ x. table (f x)) xs)) ≡ Some (map f xs)
+tables_read : {T : Type 0} (f : T → Members) (xs : List T) →
+    items_as as_table (items_of (map (λ x. table (f x)) xs)) ≡ Some (map f xs)
 tables_read f [] = refl
 tables_read f (x ∷ xs) = rw (tables_read f xs) refl
 
@@ -79,21 +97,31 @@ pub record AreNames (g : Graph) : Type 0 where
   pub order : IfSome g.order (AllByRecursion (λ p. IsName (name_in (names_of g.processes) p)))
 
 nodes_read : (g : Graph) → AreNames g → read_rows places.Node read_node (map node_members g.nodes) ≡ Ok g.nodes
-nodes_read g h = each_read (λ i ms. read_node (record { table = places.Node; index = i; members = ms })) node_members (λ n. n) IsName node_read 0 g.nodes h.nodes ∙ ap (λ l. Ok l) (map_same g.nodes)
+nodes_read g h = each_read (λ i ms. read_node (record { table = places.Node; index = i; members = ms })) node_members
+    (λ n. n) IsName node_read 0 g.nodes h.nodes ∙ ap (λ l. Ok l) (map_same g.nodes)
 
-slots_read : (g : Graph) → AreNames g → read_rows places.Slot read_slot (map (slot_members g.nodes) g.slots) ≡ Ok (map (raw_slot g.nodes) g.slots)
-slots_read g h = each_read (λ i ms. read_slot (record { table = places.Slot; index = i; members = ms })) (slot_members g.nodes) (raw_slot g.nodes) _ (slot_read g.nodes) 0 g.slots h.slots
+slots_read : (g : Graph) → AreNames g →
+    read_rows places.Slot read_slot (map (slot_members g.nodes) g.slots) ≡ Ok (map (raw_slot g.nodes) g.slots)
+slots_read g h = each_read (λ i ms. read_slot (record { table = places.Slot; index = i; members = ms }))
+    (slot_members g.nodes) (raw_slot g.nodes) _ (slot_read g.nodes) 0 g.slots h.slots
 
-processes_read : (g : Graph) → AreNames g → read_rows places.Process read_process (map (process_members g.nodes) g.processes) ≡ Ok (map (raw_process g.nodes) g.processes)
-processes_read g h = each_read (λ i ms. read_process (record { table = places.Process; index = i; members = ms })) (process_members g.nodes) (raw_process g.nodes) (IsCalled g.nodes)
+processes_read : (g : Graph) → AreNames g →
+    read_rows places.Process read_process (map (process_members g.nodes) g.processes)
+    ≡ Ok (map (raw_process g.nodes) g.processes)
+processes_read g h = each_read (λ i ms. read_process (record { table = places.Process; index = i; members = ms }))
+    (process_members g.nodes) (raw_process g.nodes) (IsCalled g.nodes)
     (λ i p c. process_by g.nodes i p p.deadline refl c) 0 g.processes h.processes
 
-edges_read : (g : Graph) → AreNames g → read_rows places.Edge read_edge (map (edge_members g.processes) g.edges) ≡ Ok (map (raw_edge (names_of g.processes)) g.edges)
-edges_read g h = each_read (λ i ms. read_edge (record { table = places.Edge; index = i; members = ms })) (edge_members g.processes) (raw_edge (names_of g.processes)) (IsJoined (names_of g.processes))
+edges_read : (g : Graph) → AreNames g →
+    read_rows places.Edge read_edge (map (edge_members g.processes) g.edges)
+    ≡ Ok (map (raw_edge (names_of g.processes)) g.edges)
+edges_read g h = each_read (λ i ms. read_edge (record { table = places.Edge; index = i; members = ms }))
+    (edge_members g.processes) (raw_edge (names_of g.processes)) (IsJoined (names_of g.processes))
     (λ i e c. edge_by g.processes i e e.when refl c) 0 g.edges h.edges
 
 -- a written document is read as what the graph says, whatever order it gives
-raw_by : (g : Graph) (order : Option (List ℕ)) → g.order ≡ order → AreNames g → IfSome order (AllByRecursion (λ p. IsName (name_in (names_of g.processes) p))) →
+raw_by : (g : Graph) (order : Option (List ℕ)) → g.order ≡ order → AreNames g →
+    IfSome order (AllByRecursion (λ p. IsName (name_in (names_of g.processes) p))) →
     read_raw (graph_members g) ≡ Ok (raw_of g)
 unfolding read_raw read_integer read_array optional only
 raw_by g None is h named =

@@ -1,5 +1,6 @@
 -- A written document is read as the graph.
-use Rattle.std.proofs.Common.{◌≡◌, ℕ, ◌<◌, ◌≤◌, Bool, false, List, [], ◌∷◌, length, get_or, map, Option, Some, None, Ok, refl, sym, ◌∙◌, subst, arith}
+use Rattle.std.proofs.Common.{◌≡◌, ℕ, ◌<◌, ◌≤◌, Bool, false, List, [], ◌∷◌, length, get_or, map, Option, Some, None, Ok}
+use Rattle.std.proofs.Common.{refl, sym, ◌∙◌, subst, arith}
 use Rattle.std.specs.Prelude.{All, IfSome}
 use Rattle.std.specs.List.{AllByRecursion}
 use Rattle.std.specs.Str.{IsUtf8}
@@ -21,11 +22,13 @@ use Rattle.cpg_reader.proofs.Limited.{raw_limited}
 use Rattle.cpg_reader.proofs.Numbered.{graph_back}
 
 -- no table of a list holds a table
-tables_flat : {T : Type 0} (f : T → Members) → ((x : T) → members_depth (f x) ≤ 0) → (xs : List T) → items_depth (items_of (map (λ x. table (f x)) xs)) ≤ 1
+tables_flat : {T : Type 0} (f : T → Members) → ((x : T) → members_depth (f x) ≤ 0) → (xs : List T) →
+    items_depth (items_of (map (λ x. table (f x)) xs)) ≤ 1
 tables_flat f h [] = omega arith
 tables_flat f h (x ∷ xs) = omega (arith, h x, tables_flat f h xs)
 
-process_flat : (nodes : List (List ℕ)) (p : Process) (own : Option ℕ) → p.deadline ≡ own → members_depth (process_members nodes p) ≤ 0
+process_flat : (nodes : List (List ℕ)) (p : Process) (own : Option ℕ) → p.deadline ≡ own →
+    members_depth (process_members nodes p) ≤ 0
 process_flat nodes p None e = rw e (omega arith)
 process_flat nodes p (Some d) e = rw e (omega arith)
 
@@ -33,7 +36,8 @@ edge_flat : (ps : List Process) (e : Edge) (when : Option Bool) → e.when ≡ w
 edge_flat ps e None is = rw is (omega arith)
 edge_flat ps e (Some value) is = rw is (omega arith)
 
-names_flat : (names : List (List ℕ)) (order : List ℕ) → items_depth (items_of (map (λ p. string (name_in names p)) order)) ≤ 0
+names_flat : (names : List (List ℕ)) (order : List ℕ) →
+    items_depth (items_of (map (λ p. string (name_in names p)) order)) ≤ 0
 names_flat names [] = omega arith
 names_flat names (p ∷ ps) = omega (arith, names_flat names ps)
 
@@ -54,26 +58,47 @@ shallow_by g (Some order) is = rw is (
 pub graph_shallow : (g : Graph) → members_depth (graph_members g) ≤ 80
 graph_shallow g = shallow_by g g.order refl
 
-module _ (g : Graph) (limited : IsWithinLimits g) (nodes : All IsName g.nodes) (processes : All (λ p. IsName p.name) g.processes) where
+module _ (g : Graph) (limited : IsWithinLimits g) (nodes : All IsName g.nodes)
+    (processes : All (λ p. IsName p.name) g.processes) where
   node_named : (n : ℕ) → n < length g.nodes → IsName (get_or g.nodes n [])
   node_named n l = nodes n [] l
 
   process_named : (n : ℕ) → n < length g.processes → IsName (get_or (names_of g.processes) n [])
   process_named n l =
-      let none : Process = record { name = []; node = 0; wcet = 0; parts = 1; alpha = 0; chi = 0; mu = 0; join = false; frozen = false; release = 0; deadline = None } in
+      let none : Process = record {
+        name = [];
+        node = 0;
+        wcet = 0;
+        parts = 1;
+        alpha = 0;
+        chi = 0;
+        mu = 0;
+        join = false;
+        frozen = false;
+        release = 0;
+        deadline = None;
+      } in
       subst IsName (sym (get_or-map (λ (p : Process). p.name) g.processes n none [] l)) (processes n none l)
 
-  order_named : (order : Option (List ℕ)) → IfSome order (IsOrderWithin (length g.processes)) → IfSome order (AllByRecursion (λ p. IsName (name_in (names_of g.processes) p)))
+  order_named : (order : Option (List ℕ)) → IfSome order (IsOrderWithin (length g.processes)) →
+      IfSome order (AllByRecursion (λ p. IsName (name_in (names_of g.processes) p)))
   order_named None h = tt
   order_named (Some o) h = all_by_recursion _ o (λ k d l. process_named (get_or o k d) (h.there k d l))
 
   are_names : AreNames g
   are_names = record {
     nodes = all_by_recursion IsName g.nodes nodes;
-    slots = all_by_recursion (λ s. IsName (get_or g.nodes s.node [])) g.slots (λ k d l. node_named (get_or g.slots k d).node (limited.slots k d l).node);
-    processes = all_by_recursion (IsCalled g.nodes) g.processes (λ k d l. record { name = processes k d l; node = node_named (get_or g.processes k d).node (limited.processes k d l).node });
+    slots = all_by_recursion (λ s. IsName (get_or g.nodes s.node [])) g.slots
+        (λ k d l. node_named (get_or g.slots k d).node (limited.slots k d l).node);
+    processes = all_by_recursion (IsCalled g.nodes) g.processes (λ k d l. record {
+      name = processes k d l;
+      node = node_named (get_or g.processes k d).node (limited.processes k d l).node;
+    });
     edges = all_by_recursion (IsJoined (names_of g.processes)) g.edges
-        (λ k d l. record { from = process_named (get_or g.edges k d).from (limited.edges k d l).from; to = process_named (get_or g.edges k d).to (limited.edges k d l).to });
+        (λ k d l. record {
+          from = process_named (get_or g.edges k d).from (limited.edges k d l).from;
+          to = process_named (get_or g.edges k d).to (limited.edges k d l).to;
+        });
     order = order_named g.order limited.order;
   }
 

@@ -1,12 +1,15 @@
 -- What is known of the steps if all of them gave something.
-use Rattle.std.proofs.Common.{◌≡◌, ℕ, zero, suc, ◌+◌, ◌<◌, List, [], ◌∷◌, length, get_or, Ok, Err, refl, sym, ap, ◌∙◌, arith}
+use Rattle.std.proofs.Common.{◌≡◌, ℕ, zero, suc, ◌+◌, ◌<◌, List, [], ◌∷◌, length, get_or, Ok, Err, refl, sym, ap, ◌∙◌}
+use Rattle.std.proofs.Common.{arith}
 use Rattle.cpg_reader.specs.Reading.{Reading, pure, ◌>>=◌, ◌>>◌, each}
 
-pub then-parts : {T U : Type 0} (a : Reading T) (b : Reading U) (y : U) → (a >> b) ≡ Ok y → (x : T) × (a ≡ Ok x) × (b ≡ Ok y)
+pub then-parts : {T U : Type 0} (a : Reading T) (b : Reading U) (y : U) → (a >> b) ≡ Ok y →
+    (x : T) × (a ≡ Ok x) × (b ≡ Ok y)
 then-parts (Ok x) b y h = (x, refl, h)
 then-parts (Err fault) b y h = cc
 
-pub bind-parts : {T U : Type 0} (a : Reading T) (next : T → Reading U) (y : U) → (a >>= next) ≡ Ok y → (x : T) × (a ≡ Ok x) × (next x ≡ Ok y)
+pub bind-parts : {T U : Type 0} (a : Reading T) (next : T → Reading U) (y : U) → (a >>= next) ≡ Ok y →
+    (x : T) × (a ≡ Ok x) × (next x ≡ Ok y)
 bind-parts (Ok x) next y h = (x, refl, h)
 bind-parts (Err fault) next y h = cc
 
@@ -19,7 +22,8 @@ unfolding ok_value
 same_ok x y h = ap (ok_value x) h
 
 module _ {T U : Type 0} (step : ℕ → T → Reading U) where
-  pub each-parts : (i : ℕ) (x : T) (xs : List T) (ys : List U) → each step i (x ∷ xs) ≡ Ok ys → (y : U) × (zs : List U) × (ys ≡ y ∷ zs) × (step i x ≡ Ok y) × (each step (i + 1) xs ≡ Ok zs)
+  pub each-parts : (i : ℕ) (x : T) (xs : List T) (ys : List U) → each step i (x ∷ xs) ≡ Ok ys →
+      (y : U) × (zs : List U) × (ys ≡ y ∷ zs) × (step i x ≡ Ok y) × (each step (i + 1) xs ≡ Ok zs)
   each-parts i x xs ys h =
       let (y, first, more) = bind-parts (step i x) (λ y. each step (i + 1) xs >>= (λ ys. pure (y ∷ ys))) ys h in
       let (zs, rest, last) = bind-parts (each step (i + 1) xs) (λ ys. pure (y ∷ ys)) ys more in
@@ -32,7 +36,9 @@ module _ {T U : Type 0} (step : ℕ → T → Reading U) where
       ap length is ∙ ap suc (each-length (i + 1) xs zs rest)
 
   -- each element gives the one at its place
-  pub each-at : (i : ℕ) (xs : List T) (ys : List U) → each step i xs ≡ Ok ys → (k j : ℕ) (d : T) (e : U) → i + k ≡ j → k < length xs → step j (get_or xs k d) ≡ Ok (get_or ys k e)
+  pub each-at : (i : ℕ) (xs : List T) (ys : List U) → each step i xs ≡ Ok ys → (k j : ℕ) (d : T) (e : U) → i + k ≡ j →
+      k < length xs →
+      step j (get_or xs k d) ≡ Ok (get_or ys k e)
   each-at i [] ys h k j d e at l = absurd (omega arith)
   each-at i (x ∷ xs) ys h zero j d e at l =
       let (y, zs, is, first, rest) = each-parts i x xs ys h in

@@ -1,5 +1,6 @@
 -- Borrowed texts, as a set keeps them.
-use Rattle.std.proofs.Common.{◌≡◌, ℕ, ◌+◌, ◌<◌, Bool, true, false, not, List, [], ◌∷◌, ◌++◌, length, drop, take, get_or, map, Err, Bor, refl, ap, ◌∙◌, sym, cond}
+use Rattle.std.proofs.Common.{◌≡◌, ℕ, ◌+◌, ◌<◌, Bool, true, false, not, List, [], ◌∷◌, ◌++◌, length, drop, take, get_or}
+use Rattle.std.proofs.Common.{map, Err, Bor, refl, ap, ◌∙◌, sym, cond}
 use Rattle.std.specs.Prelude.{bytes_eq, position, is_some}
 use Rattle.std.specs.List.{list_any, position_or_len}
 use Rattle.std.proofs.lemmas.List.{length-map, map_push, take_more}
@@ -23,44 +24,55 @@ any-texts : (name : List ℕ) (ks : Texts) → list_any (λ k. bytes_eq name k.n
 any-texts name [] = refl
 any-texts name (k ∷ ks) = rw (any-texts name ks) refl
 
-first-texts : (name : List ℕ) (ks : Texts) → position_or_len (λ k. bytes_eq name k.now) ks ≡ position_or_len (bytes_eq name) (texts ks)
+first-texts : (name : List ℕ) (ks : Texts) →
+    position_or_len (λ k. bytes_eq name k.now) ks ≡ position_or_len (bytes_eq name) (texts ks)
 first-texts name [] = refl
 first-texts name (k ∷ ks) = rw (first-texts name ks) refl
 
-pub position-texts : (name : List ℕ) (ks : Texts) → position (λ k. bytes_eq name k.now) ks ≡ position (bytes_eq name) (texts ks)
+pub position-texts : (name : List ℕ) (ks : Texts) →
+    position (λ k. bytes_eq name k.now) ks ≡ position (bytes_eq name) (texts ks)
 position-texts name ks = rw (first-texts name ks, length-map ks (λ k. k.now)) refl
 
 abbrev pub same_text : Bor (List ℕ) → Bor (List ℕ) → Bool
 same_text a b = bytes_eq a.now b.now
 
-inserted_if : (ks : Texts) (k : Bor (List ℕ)) (b : Bool) → texts (cond b ks (ks ++ k ∷ [])) ≡ cond b (texts ks) (texts ks ++ k.now ∷ [])
+inserted_if : (ks : Texts) (k : Bor (List ℕ)) (b : Bool) →
+    texts (cond b ks (ks ++ k ∷ [])) ≡ cond b (texts ks) (texts ks ++ k.now ∷ [])
 inserted_if ks k true = refl
 inserted_if ks k false = map_push (λ n. n.now) ks k
 
 -- a name is noted once
-pub inserted : (ks : Texts) (k : Bor (List ℕ)) → texts (insert_key same_text ks k) ≡ cond (list_any (bytes_eq k.now) (texts ks)) (texts ks) (texts ks ++ k.now ∷ [])
+pub inserted : (ks : Texts) (k : Bor (List ℕ)) →
+    texts (insert_key same_text ks k) ≡ cond (list_any (bytes_eq k.now) (texts ks)) (texts ks) (texts ks ++ k.now ∷ [])
 inserted ks k = rw (← any-texts k.now ks) (inserted_if ks k (list_any (same_text k) ks))
 
 -- the source of a conditional edge is noted
-source_noted : (e : RawEdge) (es : List RawEdge) (ks new : Texts) (k : Bor (List ℕ)) → is_some e.when ≡ true → k.now ≡ e.from → new ≡ insert_key same_text ks k
+source_noted : (e : RawEdge) (es : List RawEdge) (ks new : Texts) (k : Bor (List ℕ)) → is_some e.when ≡ true →
+    k.now ≡ e.from →
+    new ≡ insert_key same_text ks k
     → different (texts ks) (sources (e ∷ es)) ≡ different (texts new) (sources es)
 source_noted e es ks new k conditional named keys =
     rw (conditional, ← named) (ap (λ seen. different seen (sources es)) (sym (ap texts keys ∙ inserted ks k)))
 
 -- a simple edge notes nothing
-simple_edge : (e : RawEdge) (es : List RawEdge) (seen : List (List ℕ)) → is_some e.when ≡ false → different seen (sources (e ∷ es)) ≡ different seen (sources es)
+simple_edge : (e : RawEdge) (es : List RawEdge) (seen : List (List ℕ)) → is_some e.when ≡ false →
+    different seen (sources (e ∷ es)) ≡ different seen (sources es)
 simple_edge e es seen simple = rw simple refl
 
 module _ (es : List RawEdge) (i : ℕ) (e : RawEdge) (whole : List (List ℕ)) (ks : Texts) where
   -- one more edge that is conditional
-  pub more_sources : i < length es → e ≡ get_or es i e → (new : Texts) (k : Bor (List ℕ)) → is_some e.when ≡ true → k.now ≡ e.from → new ≡ insert_key same_text ks k
+  pub more_sources : i < length es → e ≡ get_or es i e → (new : Texts) (k : Bor (List ℕ)) → is_some e.when ≡ true →
+      k.now ≡ e.from →
+      new ≡ insert_key same_text ks k
       → whole ≡ different (texts ks) (sources (drop i es)) → whole ≡ different (texts new) (sources (drop (i + 1) es))
-  more_sources h is new k conditional named keys so_far = so_far ∙ rw (drop-here es i e h is) (source_noted e (drop (i + 1) es) ks new k conditional named keys)
+  more_sources h is new k conditional named keys so_far =
+      so_far ∙ rw (drop-here es i e h is) (source_noted e (drop (i + 1) es) ks new k conditional named keys)
 
   -- one more edge that is simple
   pub same_sources : i < length es → e ≡ get_or es i e → is_some e.when ≡ false
       → whole ≡ different (texts ks) (sources (drop i es)) → whole ≡ different (texts ks) (sources (drop (i + 1) es))
-  same_sources h is simple so_far = so_far ∙ rw (drop-here es i e h is) (simple_edge e (drop (i + 1) es) (texts ks) simple)
+  same_sources h is simple so_far =
+      so_far ∙ rw (drop-here es i e h is) (simple_edge e (drop (i + 1) es) (texts ks) simple)
 
 pub was_there : (b : Bool) → false ≡ not b → b ≡ true
 was_there true e = refl
@@ -70,31 +82,42 @@ pub was_new : (b : Bool) → true ≡ not b → b ≡ false
 was_new false e = refl
 was_new true e = cc
 
-module _ (ks : Texts) (k : Bor (List ℕ)) (new : Texts) (keys : new ≡ insert_key same_text ks k) (e : list_any (same_text k) ks ≡ false) where
+module _ (ks : Texts) (k : Bor (List ℕ)) (new : Texts) (keys : new ≡ insert_key same_text ks k)
+    (e : list_any (same_text k) ks ≡ false) where
   noted : texts new ≡ texts ks ++ k.now ∷ []
   noted = ap texts (rw e at keys) ∙ map_push (λ n. n.now) ks k
 
   -- the names that were seen are those of the elements
-  pub seen_more : {T : Type 0} (named : T → List ℕ) (xs : List T) (i : ℕ) (x : T) → i < length xs → x ≡ get_or xs i x → k.now ≡ named x
+  pub seen_more : {T : Type 0} (named : T → List ℕ) (xs : List T) (i : ℕ) (x : T) → i < length xs → x ≡ get_or xs i x →
+      k.now ≡ named x
       → texts ks ≡ map named (take i xs) → texts new ≡ map named (take (i + 1) xs)
   seen_more named xs i x h is name seen =
       let front : take (i + 1) xs ≡ take i xs ++ x ∷ [] = take_more xs i x h ∙ ap (λ y. take i xs ++ y ∷ []) (sym is) in
       noted ∙ rw (front, map_push named (take i xs) x, ← seen, ← name) refl
 
 module _ (table : Table) (key : Key) where
-  apart-test : (i : ℕ) (seen : List (List ℕ)) (name : List ℕ) (names : List (List ℕ)) (b : Bool) → list_any (bytes_eq name) seen ≡ b
-      → apart_from table key i seen (name ∷ names) ≡ cond b (Err (DoubleName (name_place table i key))) (apart_from table key (i + 1) (seen ++ name ∷ []) names)
+  apart-test : (i : ℕ) (seen : List (List ℕ)) (name : List ℕ) (names : List (List ℕ)) (b : Bool) →
+      list_any (bytes_eq name) seen ≡ b
+      → apart_from table key i seen (name ∷ names)
+      ≡ cond b (Err (DoubleName (name_place table i key))) (apart_from table key (i + 1) (seen ++ name ∷ []) names)
   apart-test i seen name names b e = rw e refl
 
-  module _ {T : Type 0} (named : T → List ℕ) (xs : List T) (i : ℕ) (x : T) (ks : Texts) (k : Bor (List ℕ)) (whole : Reading (Unit {0})) where
+  module _ {T : Type 0} (named : T → List ℕ) (xs : List T) (i : ℕ) (x : T) (ks : Texts) (k : Bor (List ℕ))
+      (whole : Reading (Unit {0})) where
     -- a name that stands earlier
     pub is_double : i < length xs → x ≡ get_or xs i x → k.now ≡ named x → list_any (same_text k) ks ≡ true
-        → whole ≡ apart_from table key i (texts ks) (map named (drop i xs)) → whole ≡ Err (DoubleName (name_place table i key))
-    is_double h is name e so_far = so_far ∙ rw (drop-here xs i x h is, ← name) (apart-test i (texts ks) k.now (map named (drop (i + 1) xs)) true (sym (any-texts k.now ks) ∙ e))
+        → whole ≡ apart_from table key i (texts ks) (map named (drop i xs)) →
+        whole ≡ Err (DoubleName (name_place table i key))
+    is_double h is name e so_far = so_far ∙ rw (drop-here xs i x h is, ← name)
+        (apart-test i (texts ks) k.now (map named (drop (i + 1) xs)) true (sym (any-texts k.now ks) ∙ e))
 
     -- a name that is new
-    pub is_new : i < length xs → x ≡ get_or xs i x → k.now ≡ named x → list_any (same_text k) ks ≡ false → (new : Texts) → new ≡ insert_key same_text ks k
-        → whole ≡ apart_from table key i (texts ks) (map named (drop i xs)) → whole ≡ apart_from table key (i + 1) (texts new) (map named (drop (i + 1) xs))
+    pub is_new : i < length xs → x ≡ get_or xs i x → k.now ≡ named x → list_any (same_text k) ks ≡ false →
+        (new : Texts) →
+        new ≡ insert_key same_text ks k
+        → whole ≡ apart_from table key i (texts ks) (map named (drop i xs)) →
+        whole ≡ apart_from table key (i + 1) (texts new) (map named (drop (i + 1) xs))
     is_new h is name e new keys so_far = so_far
-        ∙ rw (drop-here xs i x h is, ← name) (apart-test i (texts ks) k.now (map named (drop (i + 1) xs)) false (sym (any-texts k.now ks) ∙ e))
+        ∙ rw (drop-here xs i x h is, ← name)
+        (apart-test i (texts ks) k.now (map named (drop (i + 1) xs)) false (sym (any-texts k.now ks) ∙ e))
         ∙ ap (λ seen. apart_from table key (i + 1) seen (map named (drop (i + 1) xs))) (sym (noted ks k new keys e))

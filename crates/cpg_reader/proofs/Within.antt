@@ -1,5 +1,6 @@
 -- The graph of a document that is within the limits is within the limits.
-use Rattle.std.proofs.Common.{◌≡◌, ◌≢◌, ℕ, ◌<◌, ◌≤◌, false, List, [], length, get_or, map, filter, Option, Some, None, Ok, AllPairs, Contains, sym, ap, ◌∙◌, subst, inr, arith, ℤ, pos, eqb-true}
+use Rattle.std.proofs.Common.{◌≡◌, ◌≢◌, ℕ, ◌<◌, ◌≤◌, false, List, [], length, get_or, map, filter, Option, Some, None}
+use Rattle.std.proofs.Common.{Ok, AllPairs, Contains, sym, ap, ◌∙◌, subst, inr, arith, ℤ, pos, eqb-true}
 use Rattle.std.proofs.Common.{zero-add}
 use Rattle.std.specs.Prelude.{All, IfSome, unwrap_or, option_map, is_some, ◌==◌}
 use Rattle.std.proofs.lemmas.Bool.{and_parts}
@@ -13,7 +14,8 @@ use Rattle.cpg_base.specs.Numbers.{numbers_below}
 use Rattle.cpg_base.specs.Graph.{Graph, condition_count}
 use Rattle.cpg_base.specs.Conditions.{is_conditional_output, has_conditional_output}
 use Rattle.cpg_base.specs.Limits.{IsProcessWithin, IsSlotWithin, IsEdgeWithin, IsOrderWithin, IsWithinLimits}
-use Rattle.cpg_base.proofs.Lists.{Contains-map, Contains-map_parts, Contains-filter, Contains-filter_parts, numbers-Contains, numbers_rise, list_any_parts}
+use Rattle.cpg_base.proofs.Lists.{Contains-map, Contains-map_parts, Contains-filter, Contains-filter_parts}
+use Rattle.cpg_base.proofs.Lists.{numbers-Contains, numbers_rise, list_any_parts}
 use Rattle.cpg_base.proofs.Pairs.{length-le_of_apart}
 use Rattle.cpg_base.proofs.Found.{conditions_found}
 use Rattle.cpg_reader.specs.declared.shape.RawSlot.{RawSlot}
@@ -25,7 +27,8 @@ use Rattle.cpg_reader.specs.Reading.{each}
 use Rattle.cpg_reader.specs.Shape.{RawGraph}
 use Rattle.cpg_reader.specs.Ranges.{sources, different, limits}
 use Rattle.cpg_base.specs.Natural.{natural}
-use Rattle.cpg_reader.specs.Names.{place, number_of, slot_of, process_of, edge_of, ordered, order_of, order_apart, slot_names, process_names, graph_with, resolved, graph_of}
+use Rattle.cpg_reader.specs.Names.{place, number_of, slot_of, process_of, edge_of, ordered, order_of, order_apart}
+use Rattle.cpg_reader.specs.Names.{slot_names, process_names, graph_with, resolved, graph_of}
 use Rattle.cpg_reader.proofs.Steps.{then-parts, bind-parts, same_ok, each-length, each-at}
 use Rattle.cpg_reader.proofs.Limits.{AreLimits, are_limits}
 use Rattle.cpg_reader.proofs.Numbering.{number-is, apart-pairs, different-Contains}
@@ -36,12 +39,17 @@ record ShowsSlot (nodes : List (List ℕ)) (i : ℕ) (raw : RawSlot) (s : Slot) 
   pub length : natural raw.length ≡ s.length
   pub bytes : natural raw.bytes ≡ s.bytes
 
-shows_slot : (nodes : List (List ℕ)) (i : ℕ) (raw : RawSlot) (s : Slot) → slot_of nodes i raw ≡ Ok s → ShowsSlot nodes i raw s
+shows_slot : (nodes : List (List ℕ)) (i : ℕ) (raw : RawSlot) (s : Slot) → slot_of nodes i raw ≡ Ok s →
+    ShowsSlot nodes i raw s
 unfolding slot_of
 shows_slot nodes i raw s h =
     let (node, found, rest) = bind-parts (number_of nodes (place tables.Slot i Node) raw.node) _ s h in
     let is = same_ok _ s rest in
-    record { node = found ∙ ap (λ (x : Slot). Ok x.node) is; length = ap (λ (x : Slot). x.length) is; bytes = ap (λ (x : Slot). x.bytes) is }
+    record {
+      node = found ∙ ap (λ (x : Slot). Ok x.node) is;
+      length = ap (λ (x : Slot). x.length) is;
+      bytes = ap (λ (x : Slot). x.bytes) is;
+    }
 
 record ShowsProcess (nodes : List (List ℕ)) (i : ℕ) (raw : RawProcess) (p : Process) : Type 0 where
   pub name : raw.name ≡ p.name
@@ -54,7 +62,8 @@ record ShowsProcess (nodes : List (List ℕ)) (i : ℕ) (raw : RawProcess) (p : 
   pub release : natural raw.release ≡ p.release
   pub deadline : option_map natural raw.deadline ≡ p.deadline
 
-shows_process : (nodes : List (List ℕ)) (i : ℕ) (raw : RawProcess) (p : Process) → process_of nodes i raw ≡ Ok p → ShowsProcess nodes i raw p
+shows_process : (nodes : List (List ℕ)) (i : ℕ) (raw : RawProcess) (p : Process) → process_of nodes i raw ≡ Ok p →
+    ShowsProcess nodes i raw p
 unfolding process_of
 shows_process nodes i raw p h =
     let (node, found, rest) = bind-parts (number_of nodes (place tables.Process i Node) raw.node) _ p h in
@@ -77,25 +86,36 @@ record ShowsEdge (processes : List (List ℕ)) (i : ℕ) (raw : RawEdge) (e : Ed
   pub size : natural raw.bytes ≡ e.size
   pub when : raw.when ≡ e.when
 
-shows_edge : (processes : List (List ℕ)) (i : ℕ) (raw : RawEdge) (e : Edge) → edge_of processes i raw ≡ Ok e → ShowsEdge processes i raw e
+shows_edge : (processes : List (List ℕ)) (i : ℕ) (raw : RawEdge) (e : Edge) → edge_of processes i raw ≡ Ok e →
+    ShowsEdge processes i raw e
 unfolding edge_of
 shows_edge processes i raw e h =
     let (from, found, next) = bind-parts (number_of processes (place tables.Edge i From) raw.from) _ e h in
     let (to, met, rest) = bind-parts (number_of processes (place tables.Edge i To) raw.to) _ e next in
     let is = same_ok _ e rest in
-    record { from = found ∙ ap (λ (x : Edge). Ok x.from) is; to = met ∙ ap (λ (x : Edge). Ok x.to) is; size = ap (λ (x : Edge). x.size) is; when = ap (λ (x : Edge). x.when) is }
+    record {
+      from = found ∙ ap (λ (x : Edge). Ok x.from) is;
+      to = met ∙ ap (λ (x : Edge). Ok x.to) is;
+      size = ap (λ (x : Edge). x.size) is;
+      when = ap (λ (x : Edge). x.when) is;
+    }
 
 -- the numbers of an order are different ones below the number of names
-order_within : (names : List (List ℕ)) (raw : Option (List (List ℕ))) (order : Option (List ℕ)) → order_apart raw ≡ Ok tt → order_of names raw ≡ Ok order
+order_within : (names : List (List ℕ)) (raw : Option (List (List ℕ))) (order : Option (List ℕ)) →
+    order_apart raw ≡ Ok tt →
+    order_of names raw ≡ Ok order
     → IfSome order (λ o. (n : ℕ) → length names ≡ n → IsOrderWithin n o)
 unfolding order_apart order_of
-order_within names None order h e = subst (λ o. IfSome o (λ o. (n : ℕ) → length names ≡ n → IsOrderWithin n o)) (same_ok None order e) tt
+order_within names None order h e =
+    subst (λ o. IfSome o (λ o. (n : ℕ) → length names ≡ n → IsOrderWithin n o)) (same_ok None order e) tt
 order_within names (Some called) order h e =
     let (o, found, is) = bind-parts (each (ordered names) 0 called) _ order e in
     let differ = apart-pairs tables.Top Order called tt h in
     let count = each-length (ordered names) 0 called o found in
-    let at : (k d : ℕ) → k < length o → (get_or o k d < length names) × (get_or names (get_or o k d) [] ≡ get_or called k []) =
-    λ k d l. number-is names _ _ _ (each-at (ordered names) 0 called o found k k [] d (zero-add k) (omega (arith, l, count))) [] in
+    let at : (k d : ℕ) → k < length o →
+    (get_or o k d < length names) × (get_or names (get_or o k d) [] ≡ get_or called k []) =
+    λ k d l. number-is names _ _ _
+    (each-at (ordered names) 0 called o found k k [] d (zero-add k) (omega (arith, l, count))) [] in
     subst (λ o. IfSome o (λ o. (n : ℕ) → length names ≡ n → IsOrderWithin n o)) (same_ok (Some o) order is)
     (λ n same. record {
       there = λ k d l. omega (arith, (at k d l).0, same);
@@ -104,7 +124,8 @@ order_within names (Some called) order h e =
     })
 
 -- the parts of the graph of a document
-record AreParts (g : RawGraph) (ss : List Slot) (ps : List Process) (es : List Edge) (found : Option (List ℕ)) : Type 0 where
+record AreParts (g : RawGraph) (ss : List Slot) (ps : List Process) (es : List Edge)
+    (found : Option (List ℕ)) : Type 0 where
   pub nodes_apart : AllPairs (λ a b. a ≢ b) g.nodes
   pub slots_apart : AllPairs (λ a b. a ≢ b) (slot_names g.slots)
   pub processes_apart : AllPairs (λ a b. a ≢ b) (process_names g.processes)
@@ -114,7 +135,8 @@ record AreParts (g : RawGraph) (ss : List Slot) (ps : List Process) (es : List E
   pub order_apart : order_apart g.order ≡ Ok tt
   pub order : order_of (process_names g.processes) g.order ≡ Ok found
 
-deadline_within : (own : Option ℤ) (most : ℕ) → natural (unwrap_or own (pos 0)) ≤ most → IfSome (option_map natural own) (λ d. d ≤ most)
+deadline_within : (own : Option ℤ) (most : ℕ) → natural (unwrap_or own (pos 0)) ≤ most →
+    IfSome (option_map natural own) (λ d. d ≤ most)
 deadline_within (Some d) most h = h
 deadline_within None most h = tt
 
@@ -122,12 +144,25 @@ some_slot : RawSlot
 some_slot = record { node = []; length = pos 0; bytes = pos 0 }
 
 some_process : RawProcess
-some_process = record { name = []; node = []; wcet = pos 0; parts = pos 0; alpha = pos 0; chi = pos 0; mu = pos 0; join = false; frozen = false; release = pos 0; deadline = None }
+some_process = record {
+  name = [];
+  node = [];
+  wcet = pos 0;
+  parts = pos 0;
+  alpha = pos 0;
+  chi = pos 0;
+  mu = pos 0;
+  join = false;
+  frozen = false;
+  release = pos 0;
+  deadline = None;
+}
 
 some_edge : RawEdge
 some_edge = record { from = []; to = []; bytes = pos 0; when = None; frozen = false }
 
-module _ (g : RawGraph) (ss : List Slot) (ps : List Process) (es : List Edge) (order : Option (List ℕ)) (limited : AreLimits g) (parts : AreParts g ss ps es order) where
+module _ (g : RawGraph) (ss : List Slot) (ps : List Process) (es : List Edge) (order : Option (List ℕ))
+    (limited : AreLimits g) (parts : AreParts g ss ps es order) where
   slot_count : length ss ≡ length g.slots
   slot_count = each-length (slot_of g.nodes) 0 g.slots ss parts.slots
 
@@ -141,13 +176,18 @@ module _ (g : RawGraph) (ss : List Slot) (ps : List Process) (es : List Edge) (o
   name_count = length-map g.processes (λ p. p.name) ∙ sym process_count
 
   slot_there : (k : ℕ) (d : Slot) → k < length ss → ShowsSlot g.nodes k (get_or g.slots k some_slot) (get_or ss k d)
-  slot_there k d l = shows_slot g.nodes k _ _ (each-at (slot_of g.nodes) 0 g.slots ss parts.slots k k some_slot d (zero-add k) (omega (arith, l, slot_count)))
+  slot_there k d l = shows_slot g.nodes k _ _
+      (each-at (slot_of g.nodes) 0 g.slots ss parts.slots k k some_slot d (zero-add k) (omega (arith, l, slot_count)))
 
-  process_there : (k : ℕ) (d : Process) → k < length ps → ShowsProcess g.nodes k (get_or g.processes k some_process) (get_or ps k d)
-  process_there k d l = shows_process g.nodes k _ _ (each-at (process_of g.nodes) 0 g.processes ps parts.processes k k some_process d (zero-add k) (omega (arith, l, process_count)))
+  process_there : (k : ℕ) (d : Process) → k < length ps →
+      ShowsProcess g.nodes k (get_or g.processes k some_process) (get_or ps k d)
+  process_there k d l = shows_process g.nodes k _ _ (each-at (process_of g.nodes) 0 g.processes ps parts.processes k k
+      some_process d (zero-add k) (omega (arith, l, process_count)))
 
-  edge_there : (k : ℕ) (d : Edge) → k < length es → ShowsEdge (process_names g.processes) k (get_or g.edges k some_edge) (get_or es k d)
-  edge_there k d l = shows_edge (process_names g.processes) k _ _ (each-at (edge_of (process_names g.processes)) 0 g.edges es parts.edges k k some_edge d (zero-add k) (omega (arith, l, edge_count)))
+  edge_there : (k : ℕ) (d : Edge) → k < length es →
+      ShowsEdge (process_names g.processes) k (get_or g.edges k some_edge) (get_or es k d)
+  edge_there k d l = shows_edge (process_names g.processes) k _ _ (each-at (edge_of (process_names g.processes)) 0
+      g.edges es parts.edges k k some_edge d (zero-add k) (omega (arith, l, edge_count)))
 
   slots_within : All (IsSlotWithin (length g.nodes)) ss
   slots_within k d l =
@@ -175,7 +215,8 @@ module _ (g : RawGraph) (ss : List Slot) (ps : List Process) (es : List Edge) (o
         chi = rw (← shown.chi) ranges.2.2.2.1;
         mu = rw (← shown.mu) ranges.2.2.2.2.1;
         release = rw (← shown.release) ranges.2.2.2.2.2.1;
-        deadline = rw (← shown.deadline) (deadline_within (get_or g.processes k some_process).deadline 1000000000 ranges.2.2.2.2.2.2.1);
+        deadline = rw (← shown.deadline)
+            (deadline_within (get_or g.processes k some_process).deadline 1000000000 ranges.2.2.2.2.2.2.1);
       }
 
   edges_within : All (IsEdgeWithin (length ps)) es
@@ -191,11 +232,13 @@ module _ (g : RawGraph) (ss : List Slot) (ps : List Process) (es : List Edge) (o
 
   -- the name of a process
   named : (k : ℕ) (d : Process) → k < length ps → get_or (process_names g.processes) k [] ≡ (get_or ps k d).name
-  named k d l = get_or-map _ g.processes k some_process [] (omega (arith, l, process_count)) ∙ (process_there k d l).name
+  named k d l =
+      get_or-map _ g.processes k some_process [] (omega (arith, l, process_count)) ∙ (process_there k d l).name
 
   names_differ : AllPairs (λ p q. p.name ≢ q.name) ps
   names_differ i j d lt l e =
-      parts.processes_apart i j [] lt (omega (arith, l, name_count)) (named i d (omega (arith, lt, l)) ∙ e ∙ sym (named j d l))
+      parts.processes_apart i j [] lt (omega (arith, l, name_count))
+      (named i d (omega (arith, lt, l)) ∙ e ∙ sym (named j d l))
 
   slots_differ : AllPairs (λ s t. s.node ≢ t.node) ss
   slots_differ i j d lt l e =
@@ -204,7 +247,8 @@ module _ (g : RawGraph) (ss : List Slot) (ps : List Process) (es : List Edge) (o
       let name_i = get_or-map (λ (s : RawSlot). s.node) g.slots i some_slot [] (omega (arith, lt, l, slot_count)) in
       let name_j = get_or-map (λ (s : RawSlot). s.node) g.slots j some_slot [] (omega (arith, l, slot_count)) in
       let same = sym a.1 ∙ ap (λ n. get_or g.nodes n []) e ∙ b.1 in
-      parts.slots_apart i j [] lt (omega (arith, l, slot_count, length-map g.slots (λ s. s.node))) (name_i ∙ same ∙ sym name_j)
+      parts.slots_apart i j [] lt (omega (arith, l, slot_count, length-map g.slots (λ s. s.node)))
+      (name_i ∙ same ∙ sym name_j)
 
   -- the processes with a condition, and what they are called
   conditional : List ℕ
@@ -215,7 +259,8 @@ module _ (g : RawGraph) (ss : List Slot) (ps : List Process) (es : List Edge) (o
 
   conditional_below : (p : ℕ) → Contains conditional p → p < length ps
   unfolding conditional
-  conditional_below p c = numbers-Contains (length ps) p (Contains-filter_parts (has_conditional_output es) (numbers_below (length ps)) p c).0
+  conditional_below p c = numbers-Contains (length ps) p
+      (Contains-filter_parts (has_conditional_output es) (numbers_below (length ps)) p c).0
 
   conditional_names_differ : AllPairs (λ a b. a ≢ b) (map name_of conditional)
   unfolding conditional name_of
@@ -223,7 +268,8 @@ module _ (g : RawGraph) (ss : List Slot) (ps : List Process) (es : List Edge) (o
       let l' : j < length conditional = omega (arith, l, length-map conditional name_of) in
       let at_i = get_or-map name_of conditional i 0 d (omega (arith, lt, l')) in
       let at_j = get_or-map name_of conditional j 0 d l' in
-      let rise = AllPairs-filter (λ x y. x < y) (has_conditional_output es) (numbers_below (length ps)) (AllPairs-from_increasing (numbers_below (length ps)) (numbers_rise (length ps))) i j 0 lt l' in
+      let rise = AllPairs-filter (λ x y. x < y) (has_conditional_output es) (numbers_below (length ps))
+      (AllPairs-from_increasing (numbers_below (length ps)) (numbers_rise (length ps))) i j 0 lt l' in
       parts.processes_apart (get_or conditional i 0) (get_or conditional j 0) [] rise
       (omega (arith, name_count, conditional_below (get_or conditional j 0) (Contains-get_or conditional j 0 l')))
       (sym at_i ∙ e ∙ at_j)
@@ -232,28 +278,34 @@ module _ (g : RawGraph) (ss : List Slot) (ps : List Process) (es : List Edge) (o
   conditional_named : (p : ℕ) → Contains conditional p → Contains (sources g.edges) (name_of p)
   unfolding conditional name_of
   conditional_named p c =
-      let (e, (k, l, here), test) = list_any_parts (is_conditional_output p) es (Contains-filter_parts (has_conditional_output es) (numbers_below (length ps)) p c).1 in
+      let (e, (k, l, here), test) = list_any_parts (is_conditional_output p) es
+      (Contains-filter_parts (has_conditional_output es) (numbers_below (length ps)) p c).1 in
       let (from, taken) = and_parts (e.from == p) (is_some e.when) test in
       let shown = edge_there k e l in
       let raw = get_or g.edges k some_edge in
       let when : raw.when ≡ e.when = shown.when ∙ ap (λ (x : Edge). x.when) here in
-      let source : name_of p ≡ raw.from = ap name_of (sym (ap (λ (x : Edge). x.from) here ∙ eqb-true e.from p from)) ∙ (number-is (process_names g.processes) _ _ _ shown.from []).1 in
+      let source : name_of p ≡ raw.from = ap name_of (sym (ap (λ (x : Edge). x.from) here ∙ eqb-true e.from p from))
+      ∙ (number-is (process_names g.processes) _ _ _ shown.from []).1 in
       subst (Contains (sources g.edges)) (sym source)
       (Contains-map (λ (r : RawEdge). r.from) (filter (λ (r : RawEdge). is_some r.when) g.edges) raw
-      (Contains-filter (λ (r : RawEdge). is_some r.when) g.edges raw (ap is_some when ∙ taken) (Contains-get_or g.edges k some_edge (omega (arith, l, edge_count)))))
+      (Contains-filter (λ (r : RawEdge). is_some r.when) g.edges raw (ap is_some when ∙ taken)
+      (Contains-get_or g.edges k some_edge (omega (arith, l, edge_count)))))
 
   few_conditional : length conditional ≤ 32
   few_conditional =
       let all = length-le_of_apart (map name_of conditional) (different [] (sources g.edges)) conditional_names_differ
       (λ name c. let (p, there, is) = Contains-map_parts name_of conditional name c in
-      different-Contains [] (sources g.edges) name (inr (subst (Contains (sources g.edges)) is (conditional_named p there)))) in
+      different-Contains [] (sources g.edges) name
+      (inr (subst (Contains (sources g.edges)) is (conditional_named p there)))) in
       omega (arith, all, limited.conditions, length-map conditional name_of)
 
   conditions_within : condition_count (graph_with g ss ps es order) ≤ 32
   unfolding conditional
   conditions_within = subst (λ n. n ≤ 32) (ap length (conditions_found (graph_with g ss ps es order))) few_conditional
 
-  order_there : (o : Option (List ℕ)) → IfSome o (λ o. (n : ℕ) → length (process_names g.processes) ≡ n → IsOrderWithin n o) → IfSome o (IsOrderWithin (length ps))
+  order_there : (o : Option (List ℕ)) →
+      IfSome o (λ o. (n : ℕ) → length (process_names g.processes) ≡ n → IsOrderWithin n o) →
+      IfSome o (IsOrderWithin (length ps))
   order_there None h = tt
   order_there (Some o) h = h (length ps) name_count
 
@@ -296,7 +348,8 @@ graph-within g graph limited h =
       order_apart = differs;
       order = ordered;
     } in
-    subst IsWithinLimits (same_ok (graph_with g ss ps es order) graph h8) (all_within g ss ps es order (are_limits g limited) parts)
+    subst IsWithinLimits (same_ok (graph_with g ss ps es order) graph h8)
+    (all_within g ss ps es order (are_limits g limited) parts)
 
 -- it is within them without its order, too
 pub unordered-within : (graph : Graph) → IsWithinLimits graph → IsWithinLimits (record graph { order = None })
@@ -318,6 +371,7 @@ unordered-within graph h = record {
 }
 
 -- what holds of what a value is made into
-pub of_mapped : {S T : Type 0} (f : S → T) (P : T → Type 0) (o : Option S) → IfSome (option_map f o) P → IfSome o (λ x. P (f x))
+pub of_mapped : {S T : Type 0} (f : S → T) (P : T → Type 0) (o : Option S) → IfSome (option_map f o) P →
+    IfSome o (λ x. P (f x))
 of_mapped f P None h = tt
 of_mapped f P (Some x) h = h

@@ -1,10 +1,13 @@
 -- How much of each there may be, and in which range each number lies: the refusals of what is beyond its limit.
-use Rattle.std.specs.Prelude.{ℕ, ◌+◌, ℤ, pos, negsuc, ◌&&◌, Bool, false, List, [], ◌∷◌, ◌++◌, is_some, unwrap_or, Err, length, map, filter, nat_le, bytes_eq, if◌then◌else◌}
+use Rattle.std.specs.Prelude.{ℕ, ◌+◌, ℤ, pos, negsuc, ◌&&◌, Bool, false, List, [], ◌∷◌, ◌++◌, is_some, unwrap_or, Err}
+use Rattle.std.specs.Prelude.{length, map, filter, nat_le, bytes_eq, if◌then◌else◌}
 use Rattle.std.specs.List.{list_any}
-use Rattle.cpg_base.specs.declared.limits.TheConstants.{MOST_FAULTS, MOST_NODES, MOST_PROCESSES, MOST_EDGES, MOST_CONDITIONS, MOST_PARTS, LONGEST, LARGEST}
+use Rattle.cpg_base.specs.declared.limits.TheConstants.{MOST_FAULTS, MOST_NODES, MOST_PROCESSES, MOST_EDGES}
+use Rattle.cpg_base.specs.declared.limits.TheConstants.{MOST_CONDITIONS, MOST_PARTS, LONGEST, LARGEST}
 use Rattle.cpg_reader.specs.declared.place.Table.{Table}
 use Rattle.cpg_reader.specs.declared.place.Table.TheVariants as tables
-use Rattle.cpg_reader.specs.declared.place.Key.TheVariants.{Faults, Deadline, Length, Bytes, Wcet, Parts, Alpha, Chi, Mu, Release}
+use Rattle.cpg_reader.specs.declared.place.Key.TheVariants.{Faults, Deadline, Length, Bytes, Wcet, Parts, Alpha, Chi}
+use Rattle.cpg_reader.specs.declared.place.Key.TheVariants.{Mu, Release}
 use Rattle.cpg_reader.specs.declared.place.What.{What}
 use Rattle.cpg_reader.specs.declared.place.What.TheVariants.{Nodes, Slots, Processes, Edges, Number, Conditions}
 use Rattle.cpg_reader.specs.declared.place.ReadFault.TheVariants.{OverLimit}

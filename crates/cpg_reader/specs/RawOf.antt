@@ -28,7 +28,13 @@ raw_process nodes p = record {
 }
 
 abbrev pub raw_edge : List (List ℕ) → Edge → RawEdge
-raw_edge names e = record { from = get_or names e.from []; to = get_or names e.to []; bytes = pos e.size; when = e.when; frozen = e.frozen }
+raw_edge names e = record {
+  from = get_or names e.from [];
+  to = get_or names e.to [];
+  bytes = pos e.size;
+  when = e.when;
+  frozen = e.frozen;
+}
 
 -- the name at a number
 abbrev pub name_in : List (List ℕ) → ℕ → List ℕ

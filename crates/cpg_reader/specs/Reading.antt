@@ -1,7 +1,8 @@
 -- Reading, step by step. Each step gives a value or rejects the document.
 use Rattle.std.specs.Prelude.{◌≡◌, ℕ, ◌+◌, List, [], ◌∷◌, Result, Ok, Err}
 use Rattle.cpg_reader.specs.declared.place.ReadFault.{ReadFault}
-use Rattle.cpg_reader.specs.declared.place.ReadFault.TheVariants.{NotToml, BadField, DoubleName, UnknownName, OverLimit, OutOfMemory}
+use Rattle.cpg_reader.specs.declared.place.ReadFault.TheVariants.{NotToml, BadField, DoubleName, UnknownName, OverLimit}
+use Rattle.cpg_reader.specs.declared.place.ReadFault.TheVariants.{OutOfMemory}
 
 abbrev pub Reading : Type 0 → Type 0
 Reading T = Result T ReadFault

@@ -1,13 +1,17 @@
 -- The tables of a document, and what stands at their keys.
-use Rattle.std.specs.Prelude.{ℕ, ℤ, ◌&&◌, Bool, true, List, [], ◌∷◌, Option, Some, None, Err, codes, bytes_eq, nat_le, length, option_and_then, option_map, unwrap_or, if◌then◌else◌}
+use Rattle.std.specs.Prelude.{ℕ, ℤ, ◌&&◌, Bool, true, List, [], ◌∷◌, Option, Some, None, Err, codes, bytes_eq, nat_le}
+use Rattle.std.specs.Prelude.{length, option_and_then, option_map, unwrap_or, if◌then◌else◌}
 use Rattle.std.specs.List.{list_any, list_all}
-use Rattle.toml.specs.Data.{Data, Items, no_items, item, Members, no_members, member, get_member, as_str, as_integer, as_bool, as_array, as_table}
+use Rattle.toml.specs.Data.{Data, Items, no_items, item, Members, no_members, member, get_member, as_str, as_integer}
+use Rattle.toml.specs.Data.{as_bool, as_array, as_table}
 use Rattle.toml.specs.View.{table_view}
 use Rattle.cpg_base.specs.Name.{is_name_byte}
 use Rattle.cpg_reader.specs.declared.place.Place.{Place}
 use Rattle.cpg_reader.specs.declared.place.Table.{Table}
 use Rattle.cpg_reader.specs.declared.place.Key.{Key}
-use Rattle.cpg_reader.specs.declared.place.Key.TheVariants.{Faults, Deadline, Node, Slot, Process, Edge, Order, Name, Length, Bytes, Wcet, Parts, Alpha, Chi, Mu, Join, Frozen, Release, From, To, When, Unknown}
+use Rattle.cpg_reader.specs.declared.place.Key.TheVariants.{Faults, Deadline, Node, Slot, Process, Edge, Order, Name}
+use Rattle.cpg_reader.specs.declared.place.Key.TheVariants.{Length, Bytes, Wcet, Parts, Alpha, Chi, Mu, Join, Frozen}
+use Rattle.cpg_reader.specs.declared.place.Key.TheVariants.{Release, From, To, When, Unknown}
 use Rattle.cpg_reader.specs.declared.place.ReadFault.TheVariants.{BadField}
 use Rattle.cpg_reader.specs.declared.row.DocumentRow.{DocumentRow as RowOfCode}
 use Rattle.cpg_reader.specs.Reading.{Reading, pure, done, ◌>>=◌}

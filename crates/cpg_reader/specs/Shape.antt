@@ -4,7 +4,9 @@ use Rattle.toml.specs.Data.{Members, as_integer, as_bool}
 use Rattle.toml.specs.View.{table_view}
 use Rattle.cpg_reader.specs.declared.place.Table.{Table}
 use Rattle.cpg_reader.specs.declared.place.Table.TheVariants as tables
-use Rattle.cpg_reader.specs.declared.place.Key.TheVariants.{Faults, Deadline, Node, Slot, Process, Edge, Order, Name, Length, Bytes, Wcet, Parts, Alpha, Chi, Mu, Join, Frozen, Release, From, To, When}
+use Rattle.cpg_reader.specs.declared.place.Key.TheVariants.{Faults, Deadline, Node, Slot, Process, Edge, Order, Name}
+use Rattle.cpg_reader.specs.declared.place.Key.TheVariants.{Length, Bytes, Wcet, Parts, Alpha, Chi, Mu, Join, Frozen}
+use Rattle.cpg_reader.specs.declared.place.Key.TheVariants.{Release, From, To, When}
 use Rattle.cpg_reader.specs.declared.shape.RawSlot.{RawSlot}
 use Rattle.cpg_reader.specs.declared.shape.RawProcess.{RawProcess}
 use Rattle.cpg_reader.specs.declared.shape.RawEdge.{RawEdge}
@@ -13,7 +15,8 @@ use Rattle.cpg_reader.specs.declared.shape.RawWork.{RawWork}
 use Rattle.cpg_reader.specs.declared.shape.RawLink.{RawLink}
 use Rattle.cpg_reader.specs.declared.shape.Tops.{Tops as TopsOfCode}
 use Rattle.cpg_reader.specs.Reading.{Reading, pure, ◌>>=◌, ◌>>◌, each}
-use Rattle.cpg_reader.specs.Rows.{DocumentRow, read_name, read_integer, integer_or, flag_or, optional, as_names, read_array, only}
+use Rattle.cpg_reader.specs.Rows.{DocumentRow, read_name, read_integer, integer_or, flag_or, optional, as_names}
+use Rattle.cpg_reader.specs.Rows.{read_array, only}
 
 unfoldable pub read_node : DocumentRow → Reading (List ℕ)
 read_node row = do
@@ -113,7 +116,8 @@ edge_with from to l = record { from = from; to = to; bytes = l.bytes; when = l.w
 
 -- the elements of a list of the document
 abbrev pub read_rows : {T : Type 0} → Table → (DocumentRow → Reading T) → List Members → Reading (List T)
-read_rows table element_at members = each (λ i ms. element_at (record { table = table; index = i; members = ms })) 0 members
+read_rows table element_at members =
+    each (λ i ms. element_at (record { table = table; index = i; members = ms })) 0 members
 
 -- what a document says: numbers of any size, and names that need not name anything
 pub record RawGraph : Type 0 where

@@ -12,7 +12,8 @@ use Rattle.cpg_base.specs.declared.process.Slot.{Slot}
 -- the members with one more, or with another value at its key
 abbrev pub with_member : List ℕ → Data → Members → Members
 with_member k d no_members = member k d no_members
-with_member k d (member l e ms) = match_ordering (slice_cmp nat_cmp k l) (member k d (member l e ms)) (member l d ms) (member l e (with_member k d ms))
+with_member k d (member l e ms) = match_ordering (slice_cmp nat_cmp k l) (member k d (member l e ms)) (member l d ms)
+    (member l e (with_member k d ms))
 
 -- a whole number, a name, and a flag
 abbrev pub number : ℕ → Data
@@ -27,18 +28,21 @@ node_members name = member (codes "name") (string name) no_members
 
 abbrev pub slot_members : List (List ℕ) → Slot → Members
 slot_members nodes s =
-    member (codes "bytes") (number s.bytes) (member (codes "length") (number s.length) (member (codes "node") (string (get_or nodes s.node [])) no_members))
+    member (codes "bytes") (number s.bytes)
+    (member (codes "length") (number s.length) (member (codes "node") (string (get_or nodes s.node [])) no_members))
 
 -- the end of a process's table
 abbrev pub process_low : List (List ℕ) → Process → Members
 process_low nodes p =
     member (codes "node") (string (get_or nodes p.node []))
-    (member (codes "parts") (number p.parts) (member (codes "release") (number p.release) (member (codes "wcet") (number p.wcet) no_members)))
+    (member (codes "parts") (number p.parts)
+    (member (codes "release") (number p.release) (member (codes "wcet") (number p.wcet) no_members)))
 
 abbrev pub process_middle : List (List ℕ) → Process → Members
 process_middle nodes p =
     member (codes "frozen") (boolean p.frozen)
-    (member (codes "join") (boolean p.join) (member (codes "mu") (number p.mu) (member (codes "name") (string p.name) (process_low nodes p))))
+    (member (codes "join") (boolean p.join)
+    (member (codes "mu") (number p.mu) (member (codes "name") (string p.name) (process_low nodes p))))
 
 -- an own deadline, if there is one
 abbrev pub with_deadline : Option ℕ → Members → Members
@@ -46,7 +50,8 @@ with_deadline None ms = ms
 with_deadline (Some d) ms = member (codes "deadline") (number d) ms
 
 abbrev pub process_members : List (List ℕ) → Process → Members
-process_members nodes p = member (codes "alpha") (number p.alpha) (member (codes "chi") (number p.chi) (with_deadline p.deadline (process_middle nodes p)))
+process_members nodes p = member (codes "alpha") (number p.alpha)
+    (member (codes "chi") (number p.chi) (with_deadline p.deadline (process_middle nodes p)))
 
 -- the value with which an edge is taken, if it isn't always
 abbrev pub when_members : Option Bool → Members
@@ -55,12 +60,15 @@ when_members (Some value) = member (codes "when") (boolean value) no_members
 
 abbrev pub edge_members : List Process → Edge → Members
 edge_members processes e =
-    member (codes "bytes") (number e.size) (member (codes "from") (string (get_or (map (λ p. p.name) processes) e.from []))
-    (member (codes "frozen") (boolean e.frozen) (member (codes "to") (string (get_or (map (λ p. p.name) processes) e.to [])) (when_members e.when))))
+    member (codes "bytes") (number e.size)
+    (member (codes "from") (string (get_or (map (λ p. p.name) processes) e.from []))
+    (member (codes "frozen") (boolean e.frozen)
+    (member (codes "to") (string (get_or (map (λ p. p.name) processes) e.to [])) (when_members e.when))))
 
 -- the processes and the slots
 abbrev pub last_members : Graph → Members
-last_members g = member (codes "process") (tables (process_members g.nodes) g.processes) (member (codes "slot") (tables (slot_members g.nodes) g.slots) no_members)
+last_members g = member (codes "process") (tables (process_members g.nodes) g.processes)
+    (member (codes "slot") (tables (slot_members g.nodes) g.slots) no_members)
 
 -- the order to compile under, if there is one
 abbrev pub with_order : List Process → Option (List ℕ) → Members → Members
@@ -75,4 +83,5 @@ list_members g = member (codes "node") (tables node_members g.nodes) (with_order
 -- the whole document
 abbrev pub graph_members : Graph → Members
 graph_members g = member (codes "deadline") (number g.deadline)
-    (member (codes "edge") (tables (edge_members g.processes) g.edges) (member (codes "faults") (number g.faults) (list_members g)))
+    (member (codes "edge") (tables (edge_members g.processes) g.edges)
+    (member (codes "faults") (number g.faults) (list_members g)))

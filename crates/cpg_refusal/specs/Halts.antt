@@ -6,7 +6,9 @@ use Rattle.cpg_codec.specs.declared.fault.PackFault.{PackFault}
 use Rattle.cpg_scenario.specs.declared.fault.ScenarioFault.{ScenarioFault}
 use Rattle.cpg_rules.specs.declared.admission.RuleFault.{RuleFault}
 use Rattle.cpg_hyper.specs.declared.part.HyperFault.{HyperFault}
-use Rattle.cpg_refusal.specs.declared.halt.Refusal.TheVariants.{NotToml, BadField, DoubleName, UnknownName, OverLimit, Cycle, TwoAlternatives, NoSlot, TooBig, BadOrder, BadPack, BadScenario, TooManyTracks, NoHypergraph}
+use Rattle.cpg_refusal.specs.declared.halt.Refusal.TheVariants.{NotToml, BadField, DoubleName, UnknownName, OverLimit}
+use Rattle.cpg_refusal.specs.declared.halt.Refusal.TheVariants.{Cycle, TwoAlternatives, NoSlot, TooBig, BadOrder}
+use Rattle.cpg_refusal.specs.declared.halt.Refusal.TheVariants.{BadPack, BadScenario, TooManyTracks, NoHypergraph}
 use Rattle.cpg_refusal.specs.declared.halt.Halt.{Halt}
 use Rattle.cpg_refusal.specs.declared.halt.Halt.TheVariants.{Words, Refused, Memory}
 

@@ -23,7 +23,11 @@ use Rattle.cpg_label.specs.Labels.{labels_of}
 use Rattle.cpg_label.specs.ItemText.{done_text}
 use Rattle.cpg_table.specs.declared.fault.Fault.{Fault}
 use Rattle.cpg_refusal.specs.declared.halt.Refusal.{Refusal}
-use Rattle.cpg_refusal.specs.declared.halt.Refusal.TheVariants.{NotToml, BadField, DoubleName, UnknownName, OverLimit, Cycle, TwoAlternatives, NoSlot, TooBig, BadOrder, BadPack, BadScenario, BadLog, LongGraph, LongPack, LongScenario, LongLog, OtherGraph, TooManyTracks, UnknownNode, NoHypergraph}
+use Rattle.cpg_refusal.specs.declared.halt.Refusal.TheVariants.{NotToml, BadField, DoubleName, UnknownName, OverLimit}
+use Rattle.cpg_refusal.specs.declared.halt.Refusal.TheVariants.{Cycle, TwoAlternatives, NoSlot, TooBig, BadOrder}
+use Rattle.cpg_refusal.specs.declared.halt.Refusal.TheVariants.{BadPack, BadScenario, BadLog, LongGraph, LongPack}
+use Rattle.cpg_refusal.specs.declared.halt.Refusal.TheVariants.{LongScenario, LongLog, OtherGraph, TooManyTracks}
+use Rattle.cpg_refusal.specs.declared.halt.Refusal.TheVariants.{UnknownNode, NoHypergraph}
 use Rattle.cpg_refusal.specs.declared.halt.Halt.{Halt}
 use Rattle.cpg_refusal.specs.declared.halt.Halt.TheVariants.{Words, Read, Refused, Late, TooWide, Unsafe, Memory}
 
@@ -141,7 +145,8 @@ column_text (Some column) = decimal column
 
 -- a violation of a rule: the rule, the item and its column, and the scenario
 abbrev pub unsafe_text : Graph → Fault → List ℕ
-unsafe_text g f = codes "unsafe V" ++ decimal f.rule ++ codes " " ++ item_text g f.item ++ codes " column " ++ column_text f.column
+unsafe_text g f =
+    codes "unsafe V" ++ decimal f.rule ++ codes " " ++ item_text g f.item ++ codes " column " ++ column_text f.column
     ++ codes " in " ++ scenario_text g f.scenario
 
 abbrev pub reason_text : Halt → List ℕ

@@ -7,9 +7,14 @@ use Rattle.cpg_cube.specs.declared.literal.Literal.{Literal}
 use Rattle.cpg_cube.specs.Cube.{holds, matches}
 
 -- the literals so far
-pub matches_more : (s : Scenario) (ls : List Literal) (i : ℕ) (d : Literal) → i < length ls → matches (take i ls) s ≡ true → holds s (get_or ls i d) ≡ true → matches (take (i + 1) ls) s ≡ true
-matches_more s ls i d there before h = list_all_more (holds s) ls i d there ∙ and_from (matches (take i ls) s) (holds s (get_or ls i d)) before h
+pub matches_more : (s : Scenario) (ls : List Literal) (i : ℕ) (d : Literal) → i < length ls →
+    matches (take i ls) s ≡ true → holds s (get_or ls i d) ≡ true →
+    matches (take (i + 1) ls) s ≡ true
+matches_more s ls i d there before h =
+    list_all_more (holds s) ls i d there ∙ and_from (matches (take i ls) s) (holds s (get_or ls i d)) before h
 
 -- what doesn't hold if a literal of those that match must
-pub not_implied : (s : Scenario) (ls : List Literal) (l : Literal) → (matches ls s ≡ true → holds s l ≡ true) → holds s l ≡ false → matches ls s ≡ false
+pub not_implied : (s : Scenario) (ls : List Literal) (l : Literal) → (matches ls s ≡ true → holds s l ≡ true) →
+    holds s l ≡ false →
+    matches ls s ≡ false
 not_implied s ls l implied off = false_from_ne_true (matches ls s) (λ all. both_ways (holds s l) off (implied all))

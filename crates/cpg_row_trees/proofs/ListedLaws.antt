@@ -18,37 +18,45 @@ use Rattle.cpg_row_trees.specs.Slices.{IsForkSpace, IsInside, IsOwn, AddsSliceTr
 use Rattle.cpg_row_trees.specs.Listed.{AreRangesAll, IsOwnOn}
 use Rattle.cpg_tree.proofs.Spaces.{set_same}
 use Rattle.cpg_row_trees.proofs.Holding.{matches_more}
-use Rattle.cpg_row_trees.proofs.SliceLaws.{cut_in_range, low_in_range, under_reached, over_reached, back_from_under, back_from_over, slice_tree_parted, matches_push}
+use Rattle.cpg_row_trees.proofs.SliceLaws.{cut_in_range, low_in_range, under_reached, over_reached, back_from_under}
+use Rattle.cpg_row_trees.proofs.SliceLaws.{back_from_over, slice_tree_parted, matches_push}
 
 -- ---- one literal more
 
 module _ (ls : List Literal) (i : ℕ) (l : Literal) (there : i < length ls) (s : Scenario) where
   less_matches : matches (take (i + 1) ls) s ≡ true → (matches (take i ls) s ≡ true) × (holds s (get_or ls i l) ≡ true)
   less_matches all = and_parts (matches (take i ls) s) (holds s (get_or ls i l))
-      (sym (matches_push s (get_or ls i l) (take i ls)) ∙ ap (λ (xs : List Literal). matches xs s) (sym (take_more ls i l there)) ∙ all)
+      (sym (matches_push s (get_or ls i l) (take i ls))
+      ∙ ap (λ (xs : List Literal). matches xs s) (sym (take_more ls i l there)) ∙ all)
 
 pub own_on : (k : ℕ) (space : Space) (ls : List Literal) (v : ℕ) → IsOwn k space ls → IsOwnOn k space ls v
 own_on k space ls v is_own = record { hold = is_own.hold; come = λ s few all low high. is_own.come s few all }
 
 -- a literal that holds in the space and is inside it says all of its variable
-pub own_more : (k : ℕ) (space : Space) (ls : List Literal) (i : ℕ) (l : Literal) → i < length ls → IsOwnOn k space (take i ls) (get_or ls i l).variable →
-    ((s : Scenario) → IsInSpace space s → holds s (get_or ls i l) ≡ true) × IsInside space (get_or ls i l) → IsOwn k space (take (i + 1) ls)
+pub own_more : (k : ℕ) (space : Space) (ls : List Literal) (i : ℕ) (l : Literal) → i < length ls →
+    IsOwnOn k space (take i ls) (get_or ls i l).variable →
+    ((s : Scenario) → IsInSpace space s → holds s (get_or ls i l) ≡ true) × IsInside space (get_or ls i l) →
+    IsOwn k space (take (i + 1) ls)
 own_more k space ls i l there before known = record {
   hold = λ s few lies. matches_more s ls i l there (before.hold s few lies) (known.0 s lies);
   come = λ s few all.
       let parts = less_matches ls i l there s all in
       let inside = known.1 in
-      before.come s few parts.0 (omega (arith, inside.low, holds-low s (get_or ls i l) parts.1)) (omega (arith, inside.high, holds-high s (get_or ls i l) parts.1));
+      before.come s few parts.0 (omega (arith, inside.low, holds-low s (get_or ls i l) parts.1))
+      (omega (arith, inside.high, holds-high s (get_or ls i l) parts.1));
 }
 
 -- the same of a literal that is read
-pub own_next : (k : ℕ) (space : Space) (ls : List Literal) (i : ℕ) (l : Literal) (v : ℕ) → i < length ls → l ≡ get_or ls i l → l.variable ≡ v → IsOwnOn k space (take i ls) v →
+pub own_next : (k : ℕ) (space : Space) (ls : List Literal) (i : ℕ) (l : Literal) (v : ℕ) → i < length ls →
+    l ≡ get_or ls i l → l.variable ≡ v →
+    IsOwnOn k space (take i ls) v →
     ((s : Scenario) → IsInSpace space s → holds s l ≡ true) × IsInside space l → IsOwn k space (take (i + 1) ls)
 own_next k space ls i l v there is on before known = own_more k space ls i l there
     (subst (λ (u : ℕ). IsOwnOn k space (take i ls) u) (sym on ∙ ap (λ (m : Literal). m.variable) is) before)
     (subst (λ (m : Literal). ((s : Scenario) → IsInSpace space s → holds s m ≡ true) × IsInside space m) is known)
 
-pub own_all : (k : ℕ) (space : Space) (ls : List Literal) (i : ℕ) → length ls ≤ i → IsOwn k space (take i ls) → IsOwn k space ls
+pub own_all : (k : ℕ) (space : Space) (ls : List Literal) (i : ℕ) → length ls ≤ i → IsOwn k space (take i ls) →
+    IsOwn k space ls
 own_all k space ls i past = subst (IsOwn k space) (take_all i ls past)
 
 -- ---- the sides of a fork
@@ -59,67 +67,87 @@ le_self n = omega arith
 le_more : (n m : ℕ) → n + 1 ≤ (n + 1) + m
 le_more n m = omega arith
 
-module _ (k : ℕ) (space side : Space) (v cut : ℕ) (there : v < 256) (ranges : AreRangesAll k space) (open_ : IsOpenCut space v cut) where
+module _ (k : ℕ) (space side : Space) (v cut : ℕ) (there : v < 256) (ranges : AreRangesAll k space)
+    (open_ : IsOpenCut space v cut) where
   reached : IsForkSpace k space (sum_by (narrowed k space) (numbers_below 256))
   reached = record { by_ranges = ranges; few = le_self (sum_by (narrowed k space) (numbers_below 256)) }
 
-  more : (sum_by (narrowed k space) (numbers_below 256)) + 1 ≤ ((sum_by (narrowed k space) (numbers_below 256)) + 1) + narrowed k space v
+  more : (sum_by (narrowed k space) (numbers_below 256)) + 1
+      ≤ ((sum_by (narrowed k space) (numbers_below 256)) + 1) + narrowed k space v
   more = le_more (sum_by (narrowed k space) (numbers_below 256)) (narrowed k space v)
 
   below_high : cut < get_or space.high v 0
-  below_high = cut_in_range k space v cut (sum_by (narrowed k space) (numbers_below 256)) ((sum_by (narrowed k space) (numbers_below 256)) + 1) there reached open_ more
+  below_high = cut_in_range k space v cut (sum_by (narrowed k space) (numbers_below 256))
+      ((sum_by (narrowed k space) (numbers_below 256)) + 1) there reached open_ more
 
   above_low : get_or space.low v 0 ≤ cut
-  above_low = low_in_range k space v cut (sum_by (narrowed k space) (numbers_below 256)) ((sum_by (narrowed k space) (numbers_below 256)) + 1) there reached open_ more
+  above_low = low_in_range k space v cut (sum_by (narrowed k space) (numbers_below 256))
+      ((sum_by (narrowed k space) (numbers_below 256)) + 1) there reached open_ more
 
-  module _ (long : length space.high ≡ 256) (is : side ≡ below_cut space v cut) (goes : (s : Scenario) → IsInSpace space s → number_of s v ≤ cut → IsInSpace side s) where
+  module _ (long : length space.high ≡ 256) (is : side ≡ below_cut space v cut)
+      (goes : (s : Scenario) → IsInSpace space s → number_of s v ≤ cut → IsInSpace side s) where
     pub ranges_under : AreRangesAll k side
-    ranges_under = (under_reached k space side v cut (sum_by (narrowed k space) (numbers_below 256)) ((sum_by (narrowed k space) (numbers_below 256)) + 1)
+    ranges_under = (under_reached k space side v cut (sum_by (narrowed k space) (numbers_below 256))
+        ((sum_by (narrowed k space) (numbers_below 256)) + 1)
         there long reached open_ more is goes).by_ranges
 
     low_as_before : get_or side.low v 0 ≡ get_or space.low v 0
     low_as_before = ap (λ (r : Space). get_or r.low v 0) is
 
     high_is_cut : get_or side.high v 0 ≡ cut
-    high_is_cut = ap (λ (r : Space). get_or r.high v 0) is ∙ set_same space.high v cut v (omega (arith, long, there)) refl
+    high_is_cut =
+        ap (λ (r : Space). get_or r.high v 0) is ∙ set_same space.high v cut v (omega (arith, long, there)) refl
 
     pub on_under : (ls : List Literal) → IsOwnOn k space ls v → IsOwnOn k side ls v
     on_under ls own = record {
-      hold = λ s few lies. own.hold s few (back_from_under k space side v cut (sum_by (narrowed k space) (numbers_below 256)) ((sum_by (narrowed k space) (numbers_below 256)) + 1)
+      hold = λ s few lies. own.hold s few (back_from_under k space side v cut
+          (sum_by (narrowed k space) (numbers_below 256)) ((sum_by (narrowed k space) (numbers_below 256)) + 1)
           there long reached open_ more is goes s few lies);
       come = λ s few all low high.
           let inside : number_of s v ≤ cut = omega (arith, high, high_is_cut) in
           goes s (own.come s few all (omega (arith, low, low_as_before)) (omega (arith, inside, below_high))) inside;
     }
 
-  module _ (long : length space.low ≡ 256) (is : side ≡ above_cut space v cut) (goes : (s : Scenario) → IsInSpace space s → cut < number_of s v → IsInSpace side s) where
+  module _ (long : length space.low ≡ 256) (is : side ≡ above_cut space v cut)
+      (goes : (s : Scenario) → IsInSpace space s → cut < number_of s v → IsInSpace side s) where
     pub ranges_over : AreRangesAll k side
-    ranges_over = (over_reached k space side v cut (sum_by (narrowed k space) (numbers_below 256)) ((sum_by (narrowed k space) (numbers_below 256)) + 1)
+    ranges_over = (over_reached k space side v cut (sum_by (narrowed k space) (numbers_below 256))
+        ((sum_by (narrowed k space) (numbers_below 256)) + 1)
         there long reached open_ more is goes).by_ranges
 
     low_is_next : get_or side.low v 0 ≡ cut + 1
-    low_is_next = ap (λ (r : Space). get_or r.low v 0) is ∙ set_same space.low v (cut + 1) v (omega (arith, long, there)) refl
+    low_is_next =
+        ap (λ (r : Space). get_or r.low v 0) is ∙ set_same space.low v (cut + 1) v (omega (arith, long, there)) refl
 
     high_as_before : get_or side.high v 0 ≡ get_or space.high v 0
     high_as_before = ap (λ (r : Space). get_or r.high v 0) is
 
     pub on_over : (ls : List Literal) → IsOwnOn k space ls v → IsOwnOn k side ls v
     on_over ls own = record {
-      hold = λ s few lies. own.hold s few (back_from_over k space side v cut (sum_by (narrowed k space) (numbers_below 256)) ((sum_by (narrowed k space) (numbers_below 256)) + 1)
+      hold = λ s few lies. own.hold s few (back_from_over k space side v cut
+          (sum_by (narrowed k space) (numbers_below 256)) ((sum_by (narrowed k space) (numbers_below 256)) + 1)
           there long reached open_ more is goes s few lies);
       come = λ s few all low high.
           let past : cut < number_of s v = omega (arith, low, low_is_next) in
           goes s (own.come s few all (omega (arith, past, above_low)) (omega (arith, high, high_as_before))) past;
     }
 
-module _ (cubes : List (List Literal)) (k : ℕ) (space under over : Space) (from border to v cut : ℕ) (there : v < 256) (lows : length space.low ≡ 256) (highs : length space.high ≡ 256)
-    (ranges : AreRangesAll k space) (open_ : IsOpenCut space v cut) (is_under : under ≡ below_cut space v cut) (is_over : over ≡ above_cut space v cut)
-    (goes_under : (s : Scenario) → IsInSpace space s → number_of s v ≤ cut → IsInSpace under s) (goes_over : (s : Scenario) → IsInSpace space s → cut < number_of s v → IsInSpace over s) where
-  pub listed_parted : (start middle : ℕ) (old half full new : TreeGrowth) → ForksEnd start middle v cut full.items.items new.items.items → new.left ≡ full.left →
-      start ≡ length old.items.items → middle ≡ length half.items.items → AddsSliceTree cubes k under from border old half → AddsSliceTree cubes k over border to half full
+module _ (cubes : List (List Literal)) (k : ℕ) (space under over : Space) (from border to v cut : ℕ) (there : v < 256)
+    (lows : length space.low ≡ 256) (highs : length space.high ≡ 256)
+    (ranges : AreRangesAll k space) (open_ : IsOpenCut space v cut) (is_under : under ≡ below_cut space v cut)
+    (is_over : over ≡ above_cut space v cut)
+    (goes_under : (s : Scenario) → IsInSpace space s → number_of s v ≤ cut → IsInSpace under s)
+    (goes_over : (s : Scenario) → IsInSpace space s → cut < number_of s v → IsInSpace over s) where
+  pub listed_parted : (start middle : ℕ) (old half full new : TreeGrowth) →
+      ForksEnd start middle v cut full.items.items new.items.items →
+      new.left ≡ full.left →
+      start ≡ length old.items.items → middle ≡ length half.items.items →
+      AddsSliceTree cubes k under from border old half → AddsSliceTree cubes k over border to half full
       → AddsSliceTree cubes k space from to old new
-  listed_parted = slice_tree_parted cubes k space under over from border to v cut (sum_by (narrowed k space) (numbers_below 256)) ((sum_by (narrowed k space) (numbers_below 256)) + 1) there
-      lows highs (reached k space under v cut there ranges open_) open_ (more k space under v cut there ranges open_) is_under is_over goes_under goes_over
+  listed_parted = slice_tree_parted cubes k space under over from border to v cut
+      (sum_by (narrowed k space) (numbers_below 256)) ((sum_by (narrowed k space) (numbers_below 256)) + 1) there
+      lows highs (reached k space under v cut there ranges open_) open_
+      (more k space under v cut there ranges open_) is_under is_over goes_under goes_over
 
 -- what is told of an answer that is there
 pub at_some : (P : ℕ → Type 0) (o : Option ℕ) (to : ℕ) → o ≡ Some to → IfSome o P → P to

@@ -1,5 +1,6 @@
 -- Places that scenarios of a space match are kept.
-use Rattle.std.proofs.Common.{arith, ℕ, ◌+◌, ◌<◌, ◌≤◌, ◌≡◌, List, [], ◌∷◌, ◌++◌, length, get_or, take, Contains, Option, None, Some, refl, sym, ap, ◌∙◌, ◌==◌, subst, ⊎_elim, inl, inr, true, Bool, Bor}
+use Rattle.std.proofs.Common.{arith, ℕ, ◌+◌, ◌<◌, ◌≤◌, ◌≡◌, List, [], ◌∷◌, ◌++◌, length, get_or, take, Contains, Option}
+use Rattle.std.proofs.Common.{None, Some, refl, sym, ap, ◌∙◌, ◌==◌, subst, ⊎_elim, inl, inr, true, Bool, Bor}
 use Rattle.std.proofs.Common.{map}
 use Rattle.std.proofs.lemmas.List.{take_more, get_or-map, length-map, map_push}
 use Rattle.std.proofs.lemmas.List.Elements.{Contains-push_cases, Contains-append_left, Contains-push}
@@ -19,47 +20,60 @@ use Rattle.cpg_tree.specs.Space.{IsInSpace}
 use Rattle.cpg_tree.specs.Decision.{value_at}
 use Rattle.cpg_tree.specs.Results.{IsForkOf}
 use Rattle.cpg_row_trees.specs.Places.{IsMatched, HoldsInSpace, cube_at, IsPlaceOfMatch}
-use Rattle.cpg_row_trees.specs.PlaceHints.{IsVariableRange, IsImpliedBy, AddsPlaceTree, KeepsWhere, IsMatchAmong, KeepsPlace, places_of}
+use Rattle.cpg_row_trees.specs.PlaceHints.{IsVariableRange, IsImpliedBy, AddsPlaceTree, KeepsWhere, IsMatchAmong}
+use Rattle.cpg_row_trees.specs.PlaceHints.{KeepsPlace, places_of}
 
 module _ (fits : Scenario → Type 0) (place : ℕ) where
   pub kept_out : (hints : List PlaceHint) → ((s : Scenario) → fits s → ⊥) → KeepsPlace fits place hints hints
   kept_out hints off = record { earlier = λ i c. c; this = λ s h. absurd (off s h) }
 
-  pub kept_in : (hints : List PlaceHint) (e : PlaceHint) → e.place ≡ place → KeepsPlace fits place hints (hints ++ e ∷ [])
+  pub kept_in : (hints : List PlaceHint) (e : PlaceHint) → e.place ≡ place →
+      KeepsPlace fits place hints (hints ++ e ∷ [])
   kept_in hints e is =
       let pushed = sym (map_push (λ (e : PlaceHint). e.place) hints e) in
       record {
-        earlier = λ i c. subst (λ (xs : List ℕ). Contains xs i) pushed (Contains-append_left (places_of hints) (e.place ∷ []) i c);
-        this = λ s h. subst (λ (x : ℕ). Contains (places_of (hints ++ e ∷ [])) x) is (subst (λ (xs : List ℕ). Contains xs e.place) pushed (Contains-push (places_of hints) e.place));
+        earlier = λ i c.
+            subst (λ (xs : List ℕ). Contains xs i) pushed (Contains-append_left (places_of hints) (e.place ∷ []) i c);
+        this = λ s h. subst (λ (x : ℕ). Contains (places_of (hints ++ e ∷ [])) x) is
+            (subst (λ (xs : List ℕ). Contains xs e.place) pushed (Contains-push (places_of hints) e.place));
       }
 
   -- what is kept for some scenarios is kept for fewer
-  pub kept_for : (fewer : Scenario → Type 0) (before now : List PlaceHint) → ((s : Scenario) → fewer s → fits s) → KeepsPlace fits place before now → KeepsPlace fewer place before now
+  pub kept_for : (fewer : Scenario → Type 0) (before now : List PlaceHint) → ((s : Scenario) → fewer s → fits s) →
+      KeepsPlace fits place before now →
+      KeepsPlace fewer place before now
   kept_for fewer before now come kept = record { earlier = kept.earlier; this = λ s h. kept.this s (come s h) }
 
 -- one more place of a list
-places_more : (hints : List PlaceHint) (k : ℕ) (d : PlaceHint) → k < length hints → places_of (take (k + 1) hints) ≡ places_of (take k hints) ++ (get_or hints k d).place ∷ []
-places_more hints k d within = ap places_of (take_more hints k d within) ∙ map_push (λ (e : PlaceHint). e.place) (take k hints) (get_or hints k d)
+places_more : (hints : List PlaceHint) (k : ℕ) (d : PlaceHint) → k < length hints →
+    places_of (take (k + 1) hints) ≡ places_of (take k hints) ++ (get_or hints k d).place ∷ []
+places_more hints k d within =
+    ap places_of (take_more hints k d within) ∙ map_push (λ (e : PlaceHint). e.place) (take k hints) (get_or hints k d)
 
 module _ (cubes : List (List Literal)) (fits : Scenario → Type 0) where
   pub keeps_none : (kept : List ℕ) → KeepsWhere cubes fits [] kept
   keeps_none kept s i lies c m = absurd (Contains-nil i c)
 
-  pub keeps_one : (place : ℕ) (places : List ℕ) (before now : List PlaceHint) → KeepsPlace (λ s. fits s × IsMatched cubes s place) place before now →
+  pub keeps_one : (place : ℕ) (places : List ℕ) (before now : List PlaceHint) →
+      KeepsPlace (λ s. fits s × IsMatched cubes s place) place before now →
       KeepsWhere cubes fits places (places_of before) → KeepsWhere cubes fits (places ++ place ∷ []) (places_of now)
   keeps_one place places before now kept h s i lies c m = ⊎_elim
       (λ (b : Contains places i). kept.earlier i (h s i lies b m))
-      (λ (q : place ≡ i). subst (λ j. Contains (places_of now) j) q (kept.this s (lies, subst (λ j. IsMatched cubes s j) (sym q) m)))
+      (λ (q : place ≡ i).
+      subst (λ j. Contains (places_of now) j) q (kept.this s (lies, subst (λ j. IsMatched cubes s j) (sym q) m)))
       (Contains-push_cases places place i c)
 
   pub keeps_more : (hints before now : List PlaceHint) (k : ℕ) (d : PlaceHint) → k < length hints
       → KeepsPlace (λ s. fits s × IsMatched cubes s (get_or hints k d).place) (get_or hints k d).place before now →
-      KeepsWhere cubes fits (places_of (take k hints)) (places_of before) → KeepsWhere cubes fits (places_of (take (k + 1) hints)) (places_of now)
-  keeps_more hints before now k d within kept h = subst (λ (xs : List ℕ). KeepsWhere cubes fits xs (places_of now)) (sym (places_more hints k d within))
+      KeepsWhere cubes fits (places_of (take k hints)) (places_of before) →
+      KeepsWhere cubes fits (places_of (take (k + 1) hints)) (places_of now)
+  keeps_more hints before now k d within kept h =
+      subst (λ (xs : List ℕ). KeepsWhere cubes fits xs (places_of now)) (sym (places_more hints k d within))
       (keeps_one (get_or hints k d).place (places_of (take k hints)) before now kept h)
 
 -- what a literal says of its variable
-pub range_implied : (literals : List Literal) (l : Literal) (v : ℕ) (first : Bool) → l.variable ≡ v → IsImpliedBy literals l
+pub range_implied : (literals : List Literal) (l : Literal) (v : ℕ) (first : Bool) → l.variable ≡ v →
+    IsImpliedBy literals l
     → IsVariableRange literals v (record { low = l.low; high = l.high; is_first = first })
 range_implied literals l v first on implied = record {
   low = λ s m. subst (λ w. l.low ≤ number_of s w) on (holds-low s l (implied s m));
@@ -67,63 +81,90 @@ range_implied literals l v first on implied = record {
 }
 
 -- what is told of the places that are kept is told of all
-module _ (cubes : List (List Literal)) (fits : Scenario → Type 0) (places kept : List ℕ) (keeps : KeepsWhere cubes fits places kept) (s : Scenario) (lies : fits s) where
+module _ (cubes : List (List Literal)) (fits : Scenario → Type 0) (places kept : List ℕ)
+    (keeps : KeepsWhere cubes fits places kept) (s : Scenario) (lies : fits s) where
   widen_place : (x : Option ℕ) → IsMatchAmong cubes kept x s → IsMatchAmong cubes places x s
   widen_place None h = λ j c m. h j (keeps s j lies c m) m
   widen_place (Some i) h = record { is = h.is; only = λ j c m. h.only j (keeps s j lies c m) m }
 
-module _ (cubes : List (List Literal)) (space one two : Space) (places low high : List ℕ) (v cut : ℕ) (below above r : TreeNode (Option ℕ)) (fork : IsForkOf v cut below above r)
-    (keeps_below : KeepsWhere cubes (λ s. number_of s v ≤ cut) places low) (keeps_above : KeepsWhere cubes (λ s. IsInSpace space s × (cut < number_of s v)) places high)
-    (of_one : HoldsInSpace (IsMatchAmong cubes low) one below) (of_two : HoldsInSpace (IsMatchAmong cubes high) two above)
-    (goes_one : (s : Scenario) → IsInSpace space s → number_of s v ≤ cut → IsInSpace one s) (goes_two : (s : Scenario) → IsInSpace space s → cut < number_of s v → IsInSpace two s) where
+module _ (cubes : List (List Literal)) (space one two : Space) (places low high : List ℕ) (v cut : ℕ)
+    (below above r : TreeNode (Option ℕ)) (fork : IsForkOf v cut below above r)
+    (keeps_below : KeepsWhere cubes (λ s. number_of s v ≤ cut) places low)
+    (keeps_above : KeepsWhere cubes (λ s. IsInSpace space s × (cut < number_of s v)) places high)
+    (of_one : HoldsInSpace (IsMatchAmong cubes low) one below)
+    (of_two : HoldsInSpace (IsMatchAmong cubes high) two above)
+    (goes_one : (s : Scenario) → IsInSpace space s → number_of s v ≤ cut → IsInSpace one s)
+    (goes_two : (s : Scenario) → IsInSpace space s → cut < number_of s v → IsInSpace two s) where
   found_parted : HoldsInSpace (IsMatchAmong cubes places) space r
   found_parted s lies = elim (cases_lt cut (number_of s v)) [
-    | inl h ↦ let l = goes_two s lies h in subst (λ (x : Option ℕ). IsMatchAmong cubes places x s) (sym (fork.value_above s h))
-        (widen_place cubes (λ s. IsInSpace space s × (cut < number_of s v)) places high keeps_above s (lies, h) (value_at above s) (of_two s l))
-    | inr h ↦ let l = goes_one s lies h in subst (λ (x : Option ℕ). IsMatchAmong cubes places x s) (sym (fork.value_below s h))
+    | inl h ↦ let l = goes_two s lies h in
+        subst (λ (x : Option ℕ). IsMatchAmong cubes places x s) (sym (fork.value_above s h))
+        (widen_place cubes (λ s. IsInSpace space s × (cut < number_of s v)) places high keeps_above s (lies, h)
+        (value_at above s) (of_two s l))
+    | inr h ↦ let l = goes_one s lies h in
+        subst (λ (x : Option ℕ). IsMatchAmong cubes places x s) (sym (fork.value_below s h))
         (widen_place cubes (λ s. number_of s v ≤ cut) places low keeps_below s h (value_at below s) (of_one s l))
   ]
 
 -- a leaf that tells of the places
-pub place_tree_leaf : (cubes : List (List Literal)) (space : Space) (places : List ℕ) (x : Option ℕ) (old new : TreeGrowth) → ((s : Scenario) → IsInSpace space s → IsMatchAmong cubes places x s) →
+pub place_tree_leaf : (cubes : List (List Literal)) (space : Space) (places : List ℕ) (x : Option ℕ)
+    (old new : TreeGrowth) →
+    ((s : Scenario) → IsInSpace space s → IsMatchAmong cubes places x s) →
     new.items.items ≡ old.items.items ++ flat (Leaf x) → new.left ≤ old.left → AddsPlaceTree cubes space places old new
-place_tree_leaf cubes space places x old new found added fewer = record { found = (Leaf x, added, found); fewer = fewer }
+place_tree_leaf cubes space places x old new found added fewer =
+    record { found = (Leaf x, added, found); fewer = fewer }
 
-module _ (cubes : List (List Literal)) (space one two : Space) (places low high : List ℕ) (v cut start middle : ℕ) (old rest half full new : TreeGrowth)
-    (forks : ForksEnd start middle v cut full.items.items new.items.items) (kept : rest.items.items ≡ old.items.items) (less : rest.left ≤ old.left) (as_full : new.left ≡ full.left)
+module _ (cubes : List (List Literal)) (space one two : Space) (places low high : List ℕ) (v cut start middle : ℕ)
+    (old rest half full new : TreeGrowth)
+    (forks : ForksEnd start middle v cut full.items.items new.items.items) (kept : rest.items.items ≡ old.items.items)
+    (less : rest.left ≤ old.left) (as_full : new.left ≡ full.left)
     (first : start ≡ length old.items.items) (second : middle ≡ length half.items.items)
-    (keeps_below : KeepsWhere cubes (λ s. number_of s v ≤ cut) places low) (keeps_above : KeepsWhere cubes (λ s. IsInSpace space s × (cut < number_of s v)) places high)
+    (keeps_below : KeepsWhere cubes (λ s. number_of s v ≤ cut) places low)
+    (keeps_above : KeepsWhere cubes (λ s. IsInSpace space s × (cut < number_of s v)) places high)
     (of_one : AddsPlaceTree cubes one low rest half) (of_two : AddsPlaceTree cubes two high half full)
-    (goes_one : (s : Scenario) → IsInSpace space s → number_of s v ≤ cut → IsInSpace one s) (goes_two : (s : Scenario) → IsInSpace space s → cut < number_of s v → IsInSpace two s) where
+    (goes_one : (s : Scenario) → IsInSpace space s → number_of s v ≤ cut → IsInSpace one s)
+    (goes_two : (s : Scenario) → IsInSpace space s → cut < number_of s v → IsInSpace two s) where
   pub place_tree_parted : AddsPlaceTree cubes space places old new
   place_tree_parted =
       let lo = of_one.found in
       let hi = of_two.found in
       let of_low = subst (λ xs. half.items.items ≡ xs ++ flat lo.0) kept lo.1 in
-      let fork = forks old.items.items lo.0 hi.0 (split_of start middle old.items.items half.items.items full.items.items lo.0 hi.0 of_low hi.1 first second) in
+      let fork = forks old.items.items lo.0 hi.0 (split_of start middle old.items.items half.items.items
+      full.items.items lo.0 hi.0 of_low hi.1 first second) in
       record {
-        found = (fork.0, fork.1, found_parted cubes space one two places low high v cut lo.0 hi.0 fork.0 fork.2.made keeps_below keeps_above lo.2 hi.2 goes_one goes_two);
+        found = (
+          fork.0,
+          fork.1,
+          found_parted cubes space one two places low high v cut lo.0 hi.0 fork.0 fork.2.made keeps_below keeps_above
+              lo.2 hi.2 goes_one goes_two,
+        );
         fewer = omega (arith, of_one.fewer, of_two.fewer, less, as_full);
       }
 
 -- the cube at a place is the one that is lent there
-module _ (lent : List (Bor (List Literal))) (i : ℕ) (b : Bor (List Literal)) (there : i < length lent) (is : b ≡ get_or lent i b) where
+module _ (lent : List (Bor (List Literal))) (i : ℕ) (b : Bor (List Literal)) (there : i < length lent)
+    (is : b ≡ get_or lent i b) where
   pub cube_here : cube_at (map (λ (x : Bor (List Literal)). x.now) lent) i ≡ b.now
-  cube_here = get_or-map (λ (x : Bor (List Literal)). x.now) lent i b [] there ∙ ap (λ (x : Bor (List Literal)). x.now) (sym is)
+  cube_here =
+      get_or-map (λ (x : Bor (List Literal)). x.now) lent i b [] there ∙ ap (λ (x : Bor (List Literal)). x.now) (sym is)
 
   pub within_lent : i < length (map (λ (x : Bor (List Literal)). x.now) lent)
   within_lent = subst (λ n. i < n) (sym (length-map lent (λ (x : Bor (List Literal)). x.now))) there
 
 -- a list of one
 only_one : (first j : ℕ) (rest : List ℕ) → rest ≡ [] → Contains (first ∷ rest) j → j ≡ first
-only_one first j rest none c = ⊎_elim (λ (b : Contains [] j). absurd (omega (arith, b.1))) (λ (q : first ≡ j). sym q) (Contains-push_cases [] first j (subst (λ xs. Contains (first ∷ xs) j) none c))
+only_one first j rest none c = ⊎_elim (λ (b : Contains [] j). absurd (omega (arith, b.1))) (λ (q : first ≡ j). sym q)
+    (Contains-push_cases [] first j (subst (λ xs. Contains (first ∷ xs) j) none c))
 
-pub only_first : (hints rest : List PlaceHint) (first : PlaceHint) (j : ℕ) → hints ≡ first ∷ rest → (length rest == 0) ≡ true → Contains (places_of hints) j → j ≡ first.place
-only_first hints [] first j is none c = only_one first.place j [] refl (subst (λ (xs : List PlaceHint). Contains (places_of xs) j) is c)
+pub only_first : (hints rest : List PlaceHint) (first : PlaceHint) (j : ℕ) → hints ≡ first ∷ rest →
+    (length rest == 0) ≡ true → Contains (places_of hints) j → j ≡ first.place
+only_first hints [] first j is none c =
+    only_one first.place j [] refl (subst (λ (xs : List PlaceHint). Contains (places_of xs) j) is c)
 only_first hints (x ∷ xs) first j is none c = absurd (omega (arith, eqb-true (length (x ∷ xs)) 0 none))
 
 -- with all places that a scenario matches, what is told of places is told of all cubes
-module _ (cubes : List (List Literal)) (places : List ℕ) (s : Scenario) (all : (i : ℕ) → IsMatched cubes s i → Contains places i) where
+module _ (cubes : List (List Literal)) (places : List ℕ) (s : Scenario)
+    (all : (i : ℕ) → IsMatched cubes s i → Contains places i) where
   pub found_of_all : (x : Option ℕ) → IsMatchAmong cubes places x s → IsPlaceOfMatch cubes x s
   found_of_all None h = λ j m. h j (all j m) m
   found_of_all (Some i) h = (h.is, λ j m. h.only j (all j m) m)

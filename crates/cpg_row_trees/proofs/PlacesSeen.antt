@@ -13,11 +13,15 @@ use Rattle.cpg_tree.proofs.Flats.{read_back-flat}
 use Rattle.cpg_row_trees.specs.PlacesState.{PlacesState}
 use Rattle.cpg_row_trees.specs.Places.{place_on, place_at, IsThere}
 
-pub place_is : (items : List (TreeItem (Option ℕ))) (n : TreeNode (Option ℕ)) (s : Scenario) → items ≡ flat n → place_at (record { items = items }) s ≡ value_at n s
-place_is items n s are = ap (λ (xs : List (TreeItem (Option ℕ))). place_on (read_back xs []) s) are ∙ ap (λ (stack : List (TreeNode (Option ℕ))). place_on stack s) (read_back-flat n [])
+pub place_is : (items : List (TreeItem (Option ℕ))) (n : TreeNode (Option ℕ)) (s : Scenario) → items ≡ flat n →
+    place_at (record { items = items }) s ≡ value_at n s
+place_is items n s are = ap (λ (xs : List (TreeItem (Option ℕ))). place_on (read_back xs []) s) are
+    ∙ ap (λ (stack : List (TreeNode (Option ℕ))). place_on stack s) (read_back-flat n [])
 
 -- as a caller sees them
-pub place_seen : (items : List (TreeItem (Option ℕ))) (n : TreeNode (Option ℕ)) (places : PlacesState) (s : Scenario) → items ≡ flat n → record { items = items } ≡ places →
+pub place_seen : (items : List (TreeItem (Option ℕ))) (n : TreeNode (Option ℕ)) (places : PlacesState) (s : Scenario) →
+    items ≡ flat n →
+    record { items = items } ≡ places →
     place_at places s ≡ value_at n s
 place_seen items n places s are is = ap (λ (p : PlacesState). place_at p s) (sym is) ∙ place_is items n s are
 
@@ -29,7 +33,8 @@ is_no_leaf (Some i) h e = cc
 module _ {X : Type 0} (P : X → Type 0) where
   in_front : (xs ys : List X) → All P (xs ++ ys) → All P xs
   in_front [] ys all = All-nil P
-  in_front (x ∷ xs) ys all = All-cons P x xs (All-head P x (xs ++ ys) all) (in_front xs ys (All-tail P x (xs ++ ys) all))
+  in_front (x ∷ xs) ys all =
+      All-cons P x xs (All-head P x (xs ++ ys) all) (in_front xs ys (All-tail P x (xs ++ ys) all))
 
   behind : (xs ys : List X) → All P (xs ++ ys) → All P ys
   behind [] ys all = all
@@ -44,5 +49,6 @@ there_in (Leaf x) s all = is_no_leaf x (All-head IsThere (Value x) [] all)
 there_in (Fork v cut below above) s all =
     let last : List (TreeItem (Option ℕ)) = Cut v cut (length (flat below)) ∷ [] in
     let sides = in_front IsThere (flat below ++ flat above) last all in
-    side_there (nat_le (number_of s v) cut) (value_at below s) (value_at above s) (there_in below s (in_front IsThere (flat below) (flat above) sides))
+    side_there (nat_le (number_of s v) cut) (value_at below s) (value_at above s)
+    (there_in below s (in_front IsThere (flat below) (flat above) sides))
     (there_in above s (behind IsThere (flat below) (flat above) sides))

@@ -1,9 +1,11 @@
 -- A tree over slices leads each scenario to the cube that it matches.
-use Rattle.std.proofs.Common.{arith, cond, zero, suc, [], ◌∷◌, ◌++◌, max, min, ℕ, ◌+◌, ◌-◌, ◌<◌, ◌≤◌, ◌≡◌, ◌==◌, Bool, true, false, ◌&&◌, ◌||◌, nat_lt, List, get_or, length, take, Contains, sum_by}
+use Rattle.std.proofs.Common.{arith, cond, zero, suc, [], ◌∷◌, ◌++◌, max, min, ℕ, ◌+◌, ◌-◌, ◌<◌, ◌≤◌, ◌≡◌, ◌==◌, Bool}
+use Rattle.std.proofs.Common.{true, false, ◌&&◌, ◌||◌, nat_lt, List, get_or, length, take, Contains, sum_by}
 use Rattle.std.proofs.Common.{Option, None, Some, refl, sym, ap, ◌∙◌, subst, ⊎_elim, inl, inr, lt-ltb, le-ltb, eq-eqb}
 use Rattle.std.specs.Prelude.{nat_le, slice_set}
 use Rattle.std.specs.List.{list_any}
-use Rattle.std.proofs.lemmas.Bool.{cases_lt, cases_eq, and_parts, and_from, or_parts, ltb-true, leb-true, cond-true, cond-false, both_ways, eqb-true}
+use Rattle.std.proofs.lemmas.Bool.{cases_lt, cases_eq, and_parts, and_from, or_parts, ltb-true, leb-true, cond-true}
+use Rattle.std.proofs.lemmas.Bool.{cond-false, both_ways, eqb-true}
 use Rattle.std.proofs.Math.Bool.{and-false}
 use Rattle.std.proofs.lemmas.Bool.Decides.{nat_tests}
 use Rattle.std.proofs.lemmas.List.Folds.{list_all-append}
@@ -30,7 +32,8 @@ use Rattle.cpg_tree.specs.Decision.{value_at}
 use Rattle.cpg_tree.specs.Results.{IsForkOf}
 use Rattle.cpg_row_trees.specs.Places.{IsMatched, cube_at, IsPlaceOfMatch}
 use Rattle.cpg_row_trees.specs.PlaceHints.{IsOpenCut}
-use Rattle.cpg_row_trees.specs.Slices.{IsInRanges, IsForkSpace, IsInside, AreSpaceBounds, IsOwn, IsLastOn, IsEntered, FindsMatches, AddsSliceTree, is_narrow, met_by, narrowed}
+use Rattle.cpg_row_trees.specs.Slices.{IsInRanges, IsForkSpace, IsInside, AreSpaceBounds, IsOwn, IsLastOn, IsEntered}
+use Rattle.cpg_row_trees.specs.Slices.{FindsMatches, AddsSliceTree, is_narrow, met_by, narrowed}
 use Rattle.cpg_tree.proofs.Spaces.{not_less, set_other, set_same, number_le_top}
 use Rattle.cpg_row_trees.proofs.Holding.{matches_more}
 use Rattle.cpg_tree.proofs.Demands.{weights_le, without, without_here, without_other}
@@ -53,7 +56,8 @@ module _ (space : Space) (v cut : ℕ) (there : v < 256) (s : Scenario) where
 
   module _ (long : length space.low ≡ 256) (in_side : IsInRanges (above_cut space v cut) s) where
     pub number_above : cut < number_of s v
-    number_above = omega (arith, in_side.low v there, set_same space.low v (cut + 1) v (omega (arith, long, there)) refl)
+    number_above =
+        omega (arith, in_side.low v there, set_same space.low v (cut + 1) v (omega (arith, long, there)) refl)
 
     pub range_above : get_or space.low v 0 ≤ cut → IsInRanges space s
     range_above h = record {
@@ -69,10 +73,12 @@ in_range space s lies = record { low = lies.low; high = lies.high }
 
 -- ---- what leads to the sides
 
-sum_of_side : (side whole at_side at_whole narrow n : ℕ) → side + at_whole ≡ whole + at_side → whole ≤ narrow → narrow + 1 ≤ n + at_whole → at_side ≤ 1 → side ≤ n
+sum_of_side : (side whole at_side at_whole narrow n : ℕ) → side + at_whole ≡ whole + at_side → whole ≤ narrow →
+    narrow + 1 ≤ n + at_whole → at_side ≤ 1 → side ≤ n
 sum_of_side side whole at_side at_whole narrow n changed few more one = omega arith
 
-too_few : (literals rest whole at_rest here narrow found : ℕ) → literals ≤ rest → rest + here ≡ whole + at_rest → at_rest ≡ 0 → here ≡ 1 → whole ≤ narrow → narrow ≤ found → found ≤ literals → ⊥
+too_few : (literals rest whole at_rest here narrow found : ℕ) → literals ≤ rest → rest + here ≡ whole + at_rest →
+    at_rest ≡ 0 → here ≡ 1 → whole ≤ narrow → narrow ≤ found → found ≤ literals → ⊥
 too_few literals rest whole at_rest here narrow found few changed none one most enough some = omega arith
 
 narrowed_le : (k : ℕ) (space : Space) (v : ℕ) → narrowed k space v ≤ 1
@@ -82,38 +88,56 @@ narrowed_le k space v = step (nat_lt v 256 && is_narrow k space v)
     step true = omega arith
     step false = omega arith
 
-module _ (k : ℕ) (space : Space) (v cut narrow n : ℕ) (there : v < 256) (reached : IsForkSpace k space narrow) (open_ : IsOpenCut space v cut) (more : narrow + 1 ≤ n + narrowed k space v) where
-  one_more : (side : Space) → ((u : ℕ) → (u ≡ v → ⊥) → narrowed k side u ≡ narrowed k space u) → sum_by (narrowed k side) (numbers_below 256) ≤ n
-  one_more side same = sum_of_side _ _ (narrowed k side v) (narrowed k space v) narrow n (sum_changed (narrowed k side) (narrowed k space) 256 v there same) reached.few more (narrowed_le k side v)
+module _ (k : ℕ) (space : Space) (v cut narrow n : ℕ) (there : v < 256) (reached : IsForkSpace k space narrow)
+    (open_ : IsOpenCut space v cut) (more : narrow + 1 ≤ n + narrowed k space v) where
+  one_more : (side : Space) → ((u : ℕ) → (u ≡ v → ⊥) → narrowed k side u ≡ narrowed k space u) →
+      sum_by (narrowed k side) (numbers_below 256) ≤ n
+  one_more side same = sum_of_side _ _ (narrowed k side v) (narrowed k space v) narrow n
+      (sum_changed (narrowed k side) (narrowed k space) 256 v there same) reached.few more (narrowed_le k side v)
 
   pub cut_in_range : cut < get_or space.high v 0
-  cut_in_range = ltb-true cut (get_or space.high v 0) (and_parts (nat_lt cut (get_or space.high v 0)) (nat_le 128 v || nat_lt cut (get_or space.low v 0 + space.left)) open_.above).0
+  cut_in_range = ltb-true cut (get_or space.high v 0) (and_parts (nat_lt cut (get_or space.high v 0))
+      (nat_le 128 v || nat_lt cut (get_or space.low v 0 + space.left)) open_.above).0
 
   pub low_in_range : get_or space.low v 0 ≤ cut
   low_in_range = leb-true (get_or space.low v 0) cut open_.below
 
-  module _ (long : length space.high ≡ 256) (goes : (s : Scenario) → IsInSpace space s → number_of s v ≤ cut → IsInSpace (below_cut space v cut) s) where
+  module _ (long : length space.high ≡ 256)
+      (goes : (s : Scenario) → IsInSpace space s → number_of s v ≤ cut → IsInSpace (below_cut space v cut) s) where
     pub lies_from_below : (s : Scenario) → HasAtMostFaults k s → IsInSpace (below_cut space v cut) s → IsInSpace space s
-    lies_from_below s few lies = reached.by_ranges s few (range_below space v cut there s long (in_range (below_cut space v cut) s lies) cut_in_range)
+    lies_from_below s few lies = reached.by_ranges s few
+        (range_below space v cut there s long (in_range (below_cut space v cut) s lies) cut_in_range)
 
     pub reached_below : IsForkSpace k (below_cut space v cut) n
     reached_below = record {
-      by_ranges = λ s few in_side. goes s (reached.by_ranges s few (range_below space v cut there s long in_side cut_in_range)) (number_below space v cut there s long in_side);
-      few = one_more (below_cut space v cut) (λ u d. ap (λ h. cond (nat_lt u 256 && (nat_lt 0 (get_or space.low u 0) || nat_lt h (top k u))) 1 0) (set_other space.high v cut u d));
+      by_ranges =
+          λ s few in_side. goes s (reached.by_ranges s few (range_below space v cut there s long in_side cut_in_range))
+          (number_below space v cut there s long in_side);
+      few = one_more (below_cut space v cut)
+          (λ u d. ap (λ h. cond (nat_lt u 256 && (nat_lt 0 (get_or space.low u 0) || nat_lt h (top k u))) 1 0)
+          (set_other space.high v cut u d));
     }
 
-  module _ (long : length space.low ≡ 256) (goes : (s : Scenario) → IsInSpace space s → cut < number_of s v → IsInSpace (above_cut space v cut) s) where
+  module _ (long : length space.low ≡ 256)
+      (goes : (s : Scenario) → IsInSpace space s → cut < number_of s v → IsInSpace (above_cut space v cut) s) where
     pub lies_from_above : (s : Scenario) → HasAtMostFaults k s → IsInSpace (above_cut space v cut) s → IsInSpace space s
-    lies_from_above s few lies = reached.by_ranges s few (range_above space v cut there s long (in_range (above_cut space v cut) s lies) low_in_range)
+    lies_from_above s few lies = reached.by_ranges s few
+        (range_above space v cut there s long (in_range (above_cut space v cut) s lies) low_in_range)
 
     pub reached_above : IsForkSpace k (above_cut space v cut) n
     reached_above = record {
-      by_ranges = λ s few in_side. goes s (reached.by_ranges s few (range_above space v cut there s long in_side low_in_range)) (number_above space v cut there s long in_side);
-      few = one_more (above_cut space v cut) (λ u d. ap (λ l. cond (nat_lt u 256 && (nat_lt 0 l || nat_lt (get_or space.high u 0) (top k u))) 1 0) (set_other space.low v (cut + 1) u d));
+      by_ranges =
+          λ s few in_side. goes s (reached.by_ranges s few (range_above space v cut there s long in_side low_in_range))
+          (number_above space v cut there s long in_side);
+      few = one_more (above_cut space v cut)
+          (λ u d. ap (λ l. cond (nat_lt u 256 && (nat_lt 0 l || nat_lt (get_or space.high u 0) (top k u))) 1 0)
+          (set_other space.low v (cut + 1) u d));
     }
 
 -- all scenarios of at most k faults
-pub whole_reached : (k : ℕ) (space : Space) → IsWhole k space → ((s : Scenario) → HasAtMostFaults k s → IsInSpace space s) → IsForkSpace k space 0
+pub whole_reached : (k : ℕ) (space : Space) → IsWhole k space →
+    ((s : Scenario) → HasAtMostFaults k s → IsInSpace space s) →
+    IsForkSpace k space 0
 whole_reached k space whole lies = record {
   by_ranges = λ s few in_side. lies s few;
   few = omega (arith, sum_by_zeros (narrowed k space) (numbers_below 256) (λ v c. wide v (numbers-Contains 256 v c)));
@@ -126,72 +150,100 @@ whole_reached k space whole lies = record {
     ]
 
     not_narrow : (v low high : ℕ) → low ≡ 0 → high ≡ top k v → (nat_lt 0 low || nat_lt high (top k v)) ≡ false
-    not_narrow v low high none all = ap (λ n. nat_lt 0 n || nat_lt high (top k v)) none ∙ le-ltb high (top k v) (omega (arith, all))
+    not_narrow v low high none all =
+        ap (λ n. nat_lt 0 n || nat_lt high (top k v)) none ∙ le-ltb high (top k v) (omega (arith, all))
 
     wide : (v : ℕ) → v < 256 → narrowed k space v ≡ 0
     wide v there = cond-false {A = ℕ} (nat_lt v 256 && is_narrow k space v) 1 0
-        (ap (λ b. nat_lt v 256 && b) (not_narrow v (get_or space.low v 0) (get_or space.high v 0) (whole.lows v there) (high_is v there)) ∙ and-false (nat_lt v 256))
+        (ap (λ b. nat_lt v 256 && b)
+        (not_narrow v (get_or space.low v 0) (get_or space.high v 0) (whole.lows v there) (high_is v there))
+        ∙ and-false (nat_lt v 256))
 
 -- ---- as many literals on narrow variables as there are such variables: none is without
 
-module _ (k : ℕ) (space : Space) (ls : List Literal) (narrow found : ℕ) (rising : IsRising ls) (reached : IsForkSpace k space narrow) (bounds : AreSpaceBounds k space ls found)
+module _ (k : ℕ) (space : Space) (ls : List Literal) (narrow found : ℕ) (rising : IsRising ls)
+    (reached : IsForkSpace k space narrow) (bounds : AreSpaceBounds k space ls found)
     (enough : narrow ≤ found) where
   is_one : (v : ℕ) → v < 256 → is_narrow k space v ≡ true → narrowed k space v ≡ 1
-  is_one v there on = cond-true {A = ℕ} (nat_lt v 256 && is_narrow k space v) 1 0 (and_from (nat_lt v 256) (is_narrow k space v) (lt-ltb v 256 there) on)
+  is_one v there on = cond-true {A = ℕ} (nat_lt v 256 && is_narrow k space v) 1 0
+      (and_from (nat_lt v 256) (is_narrow k space v) (lt-ltb v 256 there) on)
 
   is_none : (v : ℕ) → 256 ≤ v → narrowed k space v ≤ 0
-  is_none v past = omega (arith, cond-false {A = ℕ} (nat_lt v 256 && is_narrow k space v) 1 0 (ap (λ b. b && is_narrow k space v) (le-ltb v 256 past)))
+  is_none v past = omega (
+    arith,
+    cond-false {A = ℕ} (nat_lt v 256 && is_narrow k space v) 1 0
+        (ap (λ b. b && is_narrow k space v) (le-ltb v 256 past)),
+  )
 
-  none_without : (v : ℕ) → v < 256 → is_narrow k space v ≡ true → ((l : Literal) → Contains ls l → l.variable ≡ v → ⊥) → ⊥
+  none_without : (v : ℕ) → v < 256 → is_narrow k space v ≡ true → ((l : Literal) → Contains ls l → l.variable ≡ v → ⊥) →
+      ⊥
   none_without v there on off =
       let f : ℕ → ℕ = narrowed k space in
-      let few = weights_le (λ (l : Literal). f l.variable) 256 (without v f) ls rising (λ l c h. omega (arith, without_other v l.variable f (off l c))) (λ l past. is_none l.variable past) in
-      too_few _ _ _ (without v f v) (f v) narrow found few (sum_changed (without v f) f 256 v there (λ u d. without_other v u f d)) (without_here v f)
+      let few = weights_le (λ (l : Literal). f l.variable) 256 (without v f) ls rising
+      (λ l c h. omega (arith, without_other v l.variable f (off l c))) (λ l past. is_none l.variable past) in
+      too_few _ _ _ (without v f v) (f v) narrow found few
+      (sum_changed (without v f) f 256 v there (λ u d. without_other v u f d)) (without_here v f)
       (is_one v there on) reached.few enough bounds.narrow
 
   has_literal : (v : ℕ) → v < 256 → is_narrow k space v ≡ true → (l : Literal) × Contains ls l × (l.variable ≡ v)
   has_literal v there on = step (list_any (λ (l : Literal). l.variable == v) ls) refl
     where
-      step : (b : Bool) → list_any (λ (l : Literal). l.variable == v) ls ≡ b → (l : Literal) × Contains ls l × (l.variable ≡ v)
-      step true e = let r = list_any_parts (λ (l : Literal). l.variable == v) ls e in (r.0, r.1, eqb-true r.0.variable v r.2)
-      step false e = absurd (none_without v there on (λ l c is. both_ways (l.variable == v) (from_any_false (λ (m : Literal). m.variable == v) ls l e c) (eq-eqb l.variable v is)))
+      step : (b : Bool) → list_any (λ (l : Literal). l.variable == v) ls ≡ b →
+          (l : Literal) × Contains ls l × (l.variable ≡ v)
+      step true e = let r = list_any_parts (λ (l : Literal). l.variable == v) ls e in
+          (r.0, r.1, eqb-true r.0.variable v r.2)
+      step false e = absurd (none_without v there on (λ l c is. both_ways (l.variable == v)
+          (from_any_false (λ (m : Literal). m.variable == v) ls l e c) (eq-eqb l.variable v is)))
 
   module _ (s : Scenario) (few : HasAtMostFaults k s) (all : matches ls s ≡ true) where
-    at_literal : (v : ℕ) (l : Literal) → Contains ls l → l.variable ≡ v → (get_or space.low v 0 ≤ number_of s v) × (number_of s v ≤ get_or space.high v 0)
+    at_literal : (v : ℕ) (l : Literal) → Contains ls l → l.variable ≡ v →
+        (get_or space.low v 0 ≤ number_of s v) × (number_of s v ≤ get_or space.high v 0)
     at_literal v l c is =
         let on = from_all (holds s) ls l all c in
         let inside = bounds.inside l c in
         subst (λ (u : ℕ). (get_or space.low u 0 ≤ number_of s u) × (number_of s u ≤ get_or space.high u 0)) is
         (omega (arith, inside.low, holds-low s l on), omega (arith, inside.high, holds-high s l on))
 
-    at_wide : (v : ℕ) → is_narrow k space v ≡ false → (get_or space.low v 0 ≤ number_of s v) × (number_of s v ≤ get_or space.high v 0)
+    at_wide : (v : ℕ) → is_narrow k space v ≡ false →
+        (get_or space.low v 0 ≤ number_of s v) × (number_of s v ≤ get_or space.high v 0)
     at_wide v off =
-        let parts = or_parts (nat_lt 0 (get_or space.low v 0)) (nat_lt (get_or space.high v 0) (top k v)) off in
-        (omega (arith, not_less 0 (get_or space.low v 0) parts.0), omega (arith, not_less (get_or space.high v 0) (top k v) parts.1, number_le_top k s few v))
+        let parts = or_parts (nat_lt 0 (get_or space.low v 0)) (nat_lt (get_or space.high v 0) (top k v)) off in (
+          omega (arith, not_less 0 (get_or space.low v 0) parts.0),
+          omega (arith, not_less (get_or space.high v 0) (top k v) parts.1, number_le_top k s few v),
+        )
 
-    at_each : (v : ℕ) → v < 256 → (b : Bool) → is_narrow k space v ≡ b → (get_or space.low v 0 ≤ number_of s v) × (number_of s v ≤ get_or space.high v 0)
+    at_each : (v : ℕ) → v < 256 → (b : Bool) → is_narrow k space v ≡ b →
+        (get_or space.low v 0 ≤ number_of s v) × (number_of s v ≤ get_or space.high v 0)
     at_each v there true on = let r = has_literal v there on in at_literal v r.0 r.1 r.2
     at_each v there false off = at_wide v off
 
     comes_here : IsInSpace space s
-    comes_here = reached.by_ranges s few (record { low = λ v l. (at_each v l (is_narrow k space v) refl).0; high = λ v l. (at_each v l (is_narrow k space v) refl).1 })
+    comes_here = reached.by_ranges s few
+        (record { low = λ v l. (at_each v l (is_narrow k space v) refl).0; high = λ v l. (at_each v l (is_narrow k space v) refl).1 })
 
   pub own : IsOwn k space ls
   own = record { hold = λ s few lies. bounds.hold s lies; come = comes_here }
 
-module _ (k : ℕ) (space : Space) (ls : List Literal) (i found : ℕ) (d : Literal) (there : i < length ls) (before : AreSpaceBounds k space (take i ls) found) where
-  pub bounds_more : ((s : Scenario) → IsInSpace space s → holds s (get_or ls i d) ≡ true) → IsInside space (get_or ls i d) → (n : ℕ) → n ≤ found + narrowed k space (get_or ls i d).variable →
+module _ (k : ℕ) (space : Space) (ls : List Literal) (i found : ℕ) (d : Literal) (there : i < length ls)
+    (before : AreSpaceBounds k space (take i ls) found) where
+  pub bounds_more : ((s : Scenario) → IsInSpace space s → holds s (get_or ls i d) ≡ true) →
+      IsInside space (get_or ls i d) → (n : ℕ) →
+      n ≤ found + narrowed k space (get_or ls i d).variable →
       AreSpaceBounds k space (take (i + 1) ls) n
   bounds_more holds_here inside_here n most = record {
     hold = λ s lies. matches_more s ls i d there (before.hold s lies) (holds_here s lies);
-    inside = λ l c. ⊎_elim (λ (b : Contains (take i ls) l). before.inside l b) (λ (q : get_or ls i d ≡ l). subst (IsInside space) q inside_here)
-        (Contains-push_cases (take i ls) (get_or ls i d) l (subst (λ (xs : List Literal). Contains xs l) (take_more ls i d there) c));
-    narrow = omega (arith, before.narrow, most, sum_by_more (λ (l : Literal). narrowed k space l.variable) ls i d there);
+    inside = λ l c. ⊎_elim (λ (b : Contains (take i ls) l). before.inside l b)
+        (λ (q : get_or ls i d ≡ l). subst (IsInside space) q inside_here)
+        (Contains-push_cases (take i ls) (get_or ls i d) l
+        (subst (λ (xs : List Literal). Contains xs l) (take_more ls i d there) c));
+    narrow =
+        omega (arith, before.narrow, most, sum_by_more (λ (l : Literal). narrowed k space l.variable) ls i d there);
   }
 
 -- ---- leaves
 
-pub finds_nowhere : (cubes : List (List Literal)) (k : ℕ) (space : Space) (from to : ℕ) → to ≤ from → FindsMatches cubes k space from to (λ s. None)
+pub finds_nowhere : (cubes : List (List Literal)) (k : ℕ) (space : Space) (from to : ℕ) → to ≤ from →
+    FindsMatches cubes k space from to (λ s. None)
 finds_nowhere cubes k space from to none = record {
   is = λ s i few lies e. cc;
   lies = λ s j few after before m. absurd (omega (arith, none, after, before));
@@ -201,24 +253,32 @@ finds_nowhere cubes k space from to none = record {
 some_is : (i j : ℕ) → Some i ≡ Some j → i ≡ j
 some_is i j e = cc
 
-module _ (cubes : List (List Literal)) (k : ℕ) (space : Space) (from to : ℕ) (there : from < length cubes) (one : to ≤ from + 1) (is_own : IsOwn k space (cube_at cubes from)) where
+module _ (cubes : List (List Literal)) (k : ℕ) (space : Space) (from to : ℕ) (there : from < length cubes)
+    (one : to ≤ from + 1) (is_own : IsOwn k space (cube_at cubes from)) where
   only_place : (j : ℕ) → from ≤ j → j < to → j ≡ from
   only_place j after before = omega (arith, one, after, before)
 
   pub finds_here : FindsMatches cubes k space from to (λ s. Some from)
   finds_here = record {
-    is = λ s i few lies e. subst (λ (j : ℕ). IsMatched cubes s j) (some_is from i e) (record { there = there; matched = is_own.hold s few lies });
-    lies = λ s j few after before m. is_own.come s few (subst (λ (i : ℕ). matches (cube_at cubes i) s ≡ true) (only_place j after before) m.matched);
+    is = λ s i few lies e. subst (λ (j : ℕ). IsMatched cubes s j) (some_is from i e)
+        (record { there = there; matched = is_own.hold s few lies });
+    lies = λ s j few after before m.
+        is_own.come s few (subst (λ (i : ℕ). matches (cube_at cubes i) s ≡ true) (only_place j after before) m.matched);
     comes = λ s j few after before m. ap Some (sym (only_place j after before));
   }
 
 -- ---- a fork
 
-module _ (cubes : List (List Literal)) (k : ℕ) (space one two : Space) (from border to v cut : ℕ) (below above r : TreeNode (Option ℕ)) (fork : IsForkOf v cut below above r)
-    (low : FindsMatches cubes k one from border (value_at below)) (high : FindsMatches cubes k two border to (value_at above))
-    (goes_one : (s : Scenario) → IsInSpace space s → number_of s v ≤ cut → IsInSpace one s) (goes_two : (s : Scenario) → IsInSpace space s → cut < number_of s v → IsInSpace two s)
-    (back_one : (s : Scenario) → HasAtMostFaults k s → IsInSpace one s → IsInSpace space s) (back_two : (s : Scenario) → HasAtMostFaults k s → IsInSpace two s → IsInSpace space s)
-    (at_most : (s : Scenario) → IsInSpace one s → number_of s v ≤ cut) (at_least : (s : Scenario) → IsInSpace two s → cut < number_of s v) where
+module _ (cubes : List (List Literal)) (k : ℕ) (space one two : Space) (from border to v cut : ℕ)
+    (below above r : TreeNode (Option ℕ)) (fork : IsForkOf v cut below above r)
+    (low : FindsMatches cubes k one from border (value_at below))
+    (high : FindsMatches cubes k two border to (value_at above))
+    (goes_one : (s : Scenario) → IsInSpace space s → number_of s v ≤ cut → IsInSpace one s)
+    (goes_two : (s : Scenario) → IsInSpace space s → cut < number_of s v → IsInSpace two s)
+    (back_one : (s : Scenario) → HasAtMostFaults k s → IsInSpace one s → IsInSpace space s)
+    (back_two : (s : Scenario) → HasAtMostFaults k s → IsInSpace two s → IsInSpace space s)
+    (at_most : (s : Scenario) → IsInSpace one s → number_of s v ≤ cut)
+    (at_least : (s : Scenario) → IsInSpace two s → cut < number_of s v) where
   pub finds_parted : FindsMatches cubes k space from to (value_at r)
   finds_parted = record {
     is = λ s i few lies e. elim (cases_lt cut (number_of s v)) [
@@ -237,61 +297,83 @@ module _ (cubes : List (List Literal)) (k : ℕ) (space one two : Space) (from b
 
 -- a fork of a space that forks lead to
 module _ (k : ℕ) (space side : Space) (v cut narrow n : ℕ) (there : v < 256) where
-  module _ (long : length space.high ≡ 256) (reached : IsForkSpace k space narrow) (open_ : IsOpenCut space v cut) (more : narrow + 1 ≤ n + narrowed k space v) (is : side ≡ below_cut space v cut)
+  module _ (long : length space.high ≡ 256) (reached : IsForkSpace k space narrow) (open_ : IsOpenCut space v cut)
+      (more : narrow + 1 ≤ n + narrowed k space v) (is : side ≡ below_cut space v cut)
       (goes : (s : Scenario) → IsInSpace space s → number_of s v ≤ cut → IsInSpace side s) where
     to_under : (s : Scenario) → IsInSpace space s → number_of s v ≤ cut → IsInSpace (below_cut space v cut) s
     to_under s lies h = subst (λ (r : Space). IsInSpace r s) is (goes s lies h)
 
     pub under_reached : IsForkSpace k side n
-    under_reached = subst (λ (r : Space). IsForkSpace k r n) (sym is) (reached_below k space v cut narrow n there reached open_ more long to_under)
+    under_reached = subst (λ (r : Space). IsForkSpace k r n) (sym is)
+        (reached_below k space v cut narrow n there reached open_ more long to_under)
 
     pub back_from_under : (s : Scenario) → HasAtMostFaults k s → IsInSpace side s → IsInSpace space s
-    back_from_under s few lies = lies_from_below k space v cut narrow n there reached open_ more long to_under s few (subst (λ (r : Space). IsInSpace r s) is lies)
+    back_from_under s few lies = lies_from_below k space v cut narrow n there reached open_ more long to_under s few
+        (subst (λ (r : Space). IsInSpace r s) is lies)
 
     under_cut : (s : Scenario) → IsInSpace side s → number_of s v ≤ cut
-    under_cut s lies = number_below space v cut there s long (in_range (below_cut space v cut) s (subst (λ (r : Space). IsInSpace r s) is lies))
+    under_cut s lies = number_below space v cut there s long
+        (in_range (below_cut space v cut) s (subst (λ (r : Space). IsInSpace r s) is lies))
 
-  module _ (long : length space.low ≡ 256) (reached : IsForkSpace k space narrow) (open_ : IsOpenCut space v cut) (more : narrow + 1 ≤ n + narrowed k space v) (is : side ≡ above_cut space v cut)
+  module _ (long : length space.low ≡ 256) (reached : IsForkSpace k space narrow) (open_ : IsOpenCut space v cut)
+      (more : narrow + 1 ≤ n + narrowed k space v) (is : side ≡ above_cut space v cut)
       (goes : (s : Scenario) → IsInSpace space s → cut < number_of s v → IsInSpace side s) where
     to_over : (s : Scenario) → IsInSpace space s → cut < number_of s v → IsInSpace (above_cut space v cut) s
     to_over s lies h = subst (λ (r : Space). IsInSpace r s) is (goes s lies h)
 
     pub over_reached : IsForkSpace k side n
-    over_reached = subst (λ (r : Space). IsForkSpace k r n) (sym is) (reached_above k space v cut narrow n there reached open_ more long to_over)
+    over_reached = subst (λ (r : Space). IsForkSpace k r n) (sym is)
+        (reached_above k space v cut narrow n there reached open_ more long to_over)
 
     pub back_from_over : (s : Scenario) → HasAtMostFaults k s → IsInSpace side s → IsInSpace space s
-    back_from_over s few lies = lies_from_above k space v cut narrow n there reached open_ more long to_over s few (subst (λ (r : Space). IsInSpace r s) is lies)
+    back_from_over s few lies = lies_from_above k space v cut narrow n there reached open_ more long to_over s few
+        (subst (λ (r : Space). IsInSpace r s) is lies)
 
     over_cut : (s : Scenario) → IsInSpace side s → cut < number_of s v
-    over_cut s lies = number_above space v cut there s long (in_range (above_cut space v cut) s (subst (λ (r : Space). IsInSpace r s) is lies))
+    over_cut s lies = number_above space v cut there s long
+        (in_range (above_cut space v cut) s (subst (λ (r : Space). IsInSpace r s) is lies))
 
-module _ (cubes : List (List Literal)) (k : ℕ) (space under over : Space) (from border to v cut narrow n : ℕ) (there : v < 256) (lows : length space.low ≡ 256) (highs : length space.high ≡ 256)
-    (reached : IsForkSpace k space narrow) (open_ : IsOpenCut space v cut) (more : narrow + 1 ≤ n + narrowed k space v) (is_under : under ≡ below_cut space v cut)
+module _ (cubes : List (List Literal)) (k : ℕ) (space under over : Space) (from border to v cut narrow n : ℕ)
+    (there : v < 256) (lows : length space.low ≡ 256) (highs : length space.high ≡ 256)
+    (reached : IsForkSpace k space narrow) (open_ : IsOpenCut space v cut) (more : narrow + 1 ≤ n + narrowed k space v)
+    (is_under : under ≡ below_cut space v cut)
     (is_over : over ≡ above_cut space v cut)
-    (goes_under : (s : Scenario) → IsInSpace space s → number_of s v ≤ cut → IsInSpace under s) (goes_over : (s : Scenario) → IsInSpace space s → cut < number_of s v → IsInSpace over s) where
-  pub slice_tree_parted : (start middle : ℕ) (old half full new : TreeGrowth) → ForksEnd start middle v cut full.items.items new.items.items → new.left ≡ full.left →
-      start ≡ length old.items.items → middle ≡ length half.items.items → AddsSliceTree cubes k under from border old half → AddsSliceTree cubes k over border to half full
+    (goes_under : (s : Scenario) → IsInSpace space s → number_of s v ≤ cut → IsInSpace under s)
+    (goes_over : (s : Scenario) → IsInSpace space s → cut < number_of s v → IsInSpace over s) where
+  pub slice_tree_parted : (start middle : ℕ) (old half full new : TreeGrowth) →
+      ForksEnd start middle v cut full.items.items new.items.items →
+      new.left ≡ full.left →
+      start ≡ length old.items.items → middle ≡ length half.items.items →
+      AddsSliceTree cubes k under from border old half → AddsSliceTree cubes k over border to half full
       → AddsSliceTree cubes k space from to old new
   slice_tree_parted start middle old half full new forks as_full first second low high =
       let lo = low.finds in
       let hi = high.finds in
-      let fork = forks old.items.items lo.0 hi.0 (split_of start middle old.items.items half.items.items full.items.items lo.0 hi.0 lo.1 hi.1 first second) in
+      let fork = forks old.items.items lo.0 hi.0
+      (split_of start middle old.items.items half.items.items full.items.items lo.0 hi.0 lo.1 hi.1 first second) in
       record {
         finds = (
           fork.0,
           fork.1,
-          finds_parted cubes k space under over from border to v cut lo.0 hi.0 fork.0 fork.2.made lo.2 hi.2 goes_under goes_over
-              (back_from_under k space under v cut narrow n there highs reached open_ more is_under goes_under) (back_from_over k space over v cut narrow n there lows reached open_ more is_over
+          finds_parted cubes k space under over from border to v cut lo.0 hi.0 fork.0 fork.2.made lo.2 hi.2
+              goes_under goes_over
+              (back_from_under k space under v cut narrow n there highs reached open_ more is_under goes_under)
+              (back_from_over k space over v cut narrow n there lows reached open_ more is_over
               goes_over)
-              (under_cut k space under v cut narrow n there highs reached open_ more is_under goes_under) (over_cut k space over v cut narrow n there lows reached open_ more is_over goes_over),
+              (under_cut k space under v cut narrow n there highs reached open_ more is_under goes_under)
+              (over_cut k space over v cut narrow n there lows reached open_ more is_over goes_over),
         );
         fewer = omega (arith, low.fewer, high.fewer, as_full);
       }
 
 -- a leaf that leads to its place
-pub slice_tree_leaf : (cubes : List (List Literal)) (k : ℕ) (space : Space) (from to : ℕ) (x : Option ℕ) (old new : TreeGrowth) → FindsMatches cubes k space from to (λ s. x) →
-    new.items.items ≡ old.items.items ++ flat (Leaf x) → new.left ≤ old.left → AddsSliceTree cubes k space from to old new
-slice_tree_leaf cubes k space from to x old new finds added fewer = record { finds = (Leaf x, added, finds); fewer = fewer }
+pub slice_tree_leaf : (cubes : List (List Literal)) (k : ℕ) (space : Space) (from to : ℕ) (x : Option ℕ)
+    (old new : TreeGrowth) →
+    FindsMatches cubes k space from to (λ s. x) →
+    new.items.items ≡ old.items.items ++ flat (Leaf x) → new.left ≤ old.left →
+    AddsSliceTree cubes k space from to old new
+slice_tree_leaf cubes k space from to x old new finds added fewer =
+    record { finds = (Leaf x, added, finds); fewer = fewer }
 
 -- ---- what the literals of a path say
 
@@ -308,7 +390,8 @@ swapped true true c = sym (with_true c)
 swapped true false c = sym (and-false c)
 swapped false b c = refl
 
-met_parts : (n a b c d : ℕ) → (nat_le (max a c) n && nat_le n (min b d)) ≡ ((nat_le a n && nat_le n b) && (nat_le c n && nat_le n d))
+met_parts : (n a b c d : ℕ) →
+    (nat_le (max a c) n && nat_le n (min b d)) ≡ ((nat_le a n && nat_le n b) && (nat_le c n && nat_le n d))
 met_parts n a b c d = grind (arith, nat_tests)
 
 module _ (s : Scenario) (l : Literal) where
@@ -319,13 +402,19 @@ module _ (s : Scenario) (l : Literal) where
   -- one met with it
   met_holds : (m : Literal) → m.variable ≡ l.variable → holds s (met_by m l) ≡ (holds s m && holds s l)
   met_holds m same = met_parts (number_of s m.variable) m.low m.high l.low l.high
-      ∙ ap (λ v. (nat_le m.low (number_of s m.variable) && nat_le (number_of s m.variable) m.high) && (nat_le l.low (number_of s v) && nat_le (number_of s v) l.high)) same
+      ∙ ap (λ v. (nat_le m.low (number_of s m.variable) && nat_le (number_of s m.variable) m.high)
+      && (nat_le l.low (number_of s v) && nat_le (number_of s v) l.high)) same
 
-  matches_met : (ls : List Literal) (i : ℕ) (m : Literal) → i < length ls → get_or ls i m ≡ m → m.variable ≡ l.variable → matches (slice_set ls i (met_by m l)) s ≡ (matches ls s && holds s l)
+  matches_met : (ls : List Literal) (i : ℕ) (m : Literal) → i < length ls → get_or ls i m ≡ m →
+      m.variable ≡ l.variable →
+      matches (slice_set ls i (met_by m l)) s ≡ (matches ls s && holds s l)
   matches_met [] i m there is same = absurd (omega (arith, there))
-  matches_met (x ∷ xs) zero m there is same = ap (λ b. b && matches xs s) (met_holds m same) ∙ swapped (holds s m) (holds s l) (matches xs s) ∙
+  matches_met (x ∷ xs) zero m there is same =
+      ap (λ b. b && matches xs s) (met_holds m same) ∙ swapped (holds s m) (holds s l) (matches xs s) ∙
       ap (λ (y : Literal). (holds s y && matches xs s) && holds s l) (sym is)
-  matches_met (x ∷ xs) (suc i) m there is same = ap (λ b. holds s x && b) (matches_met xs i m (omega (arith, there)) is same) ∙ together (holds s x) (matches xs s) (holds s l)
+  matches_met (x ∷ xs) (suc i) m there is same =
+      ap (λ b. holds s x && b) (matches_met xs i m (omega (arith, there)) is same)
+      ∙ together (holds s x) (matches xs s) (holds s l)
 
 last_back : (ls : List Literal) (i : ℕ) (m l : Literal) → get_or ls i m ≡ m → slice_set (slice_set ls i l) i m ≡ ls
 last_back [] i m l is = refl
@@ -351,35 +440,55 @@ entered_more ls l = record {
   some = omega (arith, length-append ls (l ∷ []));
 }
 
-pub entered_last : (ls new : List Literal) (l m : Literal) → IsLastOn ls l.variable m → new ≡ slice_set ls (length ls - 1) (met_by m l) → IsEntered ls l new (Some m)
+pub entered_last : (ls new : List Literal) (l m : Literal) → IsLastOn ls l.variable m →
+    new ≡ slice_set ls (length ls - 1) (met_by m l) →
+    IsEntered ls l new (Some m)
 entered_last ls new l m last is = subst (λ (xs : List Literal). IsEntered ls l xs (Some m)) (sym is) (record {
   both = λ s. matches_met s l ls (length ls - 1) m (omega (arith, last.some)) last.last last.on;
-  back = ap (λ n. slice_set (slice_set ls (length ls - 1) (met_by m l)) (n - 1) m) (as_long ls (length ls - 1) (met_by m l)) ∙ last_back ls (length ls - 1) m (met_by m l) last.last;
+  back = ap (λ n. slice_set (slice_set ls (length ls - 1) (met_by m l)) (n - 1) m)
+      (as_long ls (length ls - 1) (met_by m l)) ∙ last_back ls (length ls - 1) m (met_by m l) last.last;
   some = omega (arith, as_long ls (length ls - 1) (met_by m l), last.some);
 })
 
 -- a side of a fork
-module _ (k : ℕ) (space side : Space) (v cut narrow n : ℕ) (there : v < 256) (reached : IsForkSpace k space narrow) (open_ : IsOpenCut space v cut) (more : narrow + 1 ≤ n + narrowed k space v)
+module _ (k : ℕ) (space side : Space) (v cut narrow n : ℕ) (there : v < 256) (reached : IsForkSpace k space narrow)
+    (open_ : IsOpenCut space v cut) (more : narrow + 1 ≤ n + narrowed k space v)
     (old new : List Literal) (is_own : IsOwn k space old) where
-  pub own_under : length space.high ≡ 256 → side ≡ below_cut space v cut → ((s : Scenario) → IsInSpace space s → number_of s v ≤ cut → IsInSpace side s)
-      → (l : Literal) → l ≡ record { variable = v; low = 0; high = cut } → ((s : Scenario) → matches new s ≡ (matches old s && holds s l)) → IsOwn k side new
+  pub own_under : length space.high ≡ 256 → side ≡ below_cut space v cut →
+      ((s : Scenario) → IsInSpace space s → number_of s v ≤ cut → IsInSpace side s)
+      → (l : Literal) → l ≡ record {
+        variable = v;
+        low = 0;
+        high = cut;
+      } → ((s : Scenario) → matches new s ≡ (matches old s && holds s l)) → IsOwn k side new
   own_under long is goes l says both = record {
-    hold = λ s few lies. both s ∙ and_from (matches old s) (holds s l) (is_own.hold s few (back_from_under k space side v cut narrow n there long reached open_ more is goes s few lies))
-        (ap (holds s) says ∙ holds-from s (record { variable = v; low = 0; high = cut }) (omega arith) (under_cut k space side v cut narrow n there long reached open_ more is goes s lies));
+    hold = λ s few lies. both s ∙ and_from (matches old s) (holds s l) (is_own.hold s few
+        (back_from_under k space side v cut narrow n there long reached open_ more is goes s few lies))
+        (ap (holds s) says ∙ holds-from s (record { variable = v; low = 0; high = cut }) (omega arith)
+        (under_cut k space side v cut narrow n there long reached open_ more is goes s lies));
     come = λ s few all.
         let parts = and_parts (matches old s) (holds s l) (sym (both s) ∙ all) in
-        goes s (is_own.come s few parts.0) (holds-high s (record { variable = v; low = 0; high = cut }) (ap (holds s) (sym says) ∙ parts.1));
+        goes s (is_own.come s few parts.0)
+        (holds-high s (record { variable = v; low = 0; high = cut }) (ap (holds s) (sym says) ∙ parts.1));
   }
 
-  pub own_over : length space.low ≡ 256 → side ≡ above_cut space v cut → ((s : Scenario) → IsInSpace space s → cut < number_of s v → IsInSpace side s)
-      → (l : Literal) → l ≡ record { variable = v; low = cut + 1; high = top k v } → ((s : Scenario) → matches new s ≡ (matches old s && holds s l)) → IsOwn k side new
+  pub own_over : length space.low ≡ 256 → side ≡ above_cut space v cut →
+      ((s : Scenario) → IsInSpace space s → cut < number_of s v → IsInSpace side s)
+      → (l : Literal) → l ≡ record {
+        variable = v;
+        low = cut + 1;
+        high = top k v;
+      } → ((s : Scenario) → matches new s ≡ (matches old s && holds s l)) → IsOwn k side new
   own_over long is goes l says both = record {
-    hold = λ s few lies. both s ∙ and_from (matches old s) (holds s l) (is_own.hold s few (back_from_over k space side v cut narrow n there long reached open_ more is goes s few lies))
-        (ap (holds s) says ∙ holds-from s (record { variable = v; low = cut + 1; high = top k v }) (omega (arith, over_cut k space side v cut narrow n there long reached open_ more is goes s lies))
+    hold = λ s few lies. both s ∙ and_from (matches old s) (holds s l) (is_own.hold s few
+        (back_from_over k space side v cut narrow n there long reached open_ more is goes s few lies))
+        (ap (holds s) says ∙ holds-from s (record { variable = v; low = cut + 1; high = top k v })
+        (omega (arith, over_cut k space side v cut narrow n there long reached open_ more is goes s lies))
         (number_le_top k s few v));
     come = λ s few all.
         let parts = and_parts (matches old s) (holds s l) (sym (both s) ∙ all) in
-        let low : cut + 1 ≤ number_of s v = holds-low s (record { variable = v; low = cut + 1; high = top k v }) (ap (holds s) (sym says) ∙ parts.1) in
+        let low : cut + 1 ≤ number_of s v =
+        holds-low s (record { variable = v; low = cut + 1; high = top k v }) (ap (holds s) (sym says) ∙ parts.1) in
         goes s (is_own.come s few parts.0) (omega (arith, low));
   }
 
@@ -393,28 +502,36 @@ module _ (space closed after now : Space) (v : ℕ) (same : after ≡ closed) wh
   pub above_again : (high : ℕ) → now ≡ below_cut after v high → below_cut closed v high ≡ space → now ≡ space
   above_again high is back = is ∙ ap (λ (r : Space). below_cut r v high) same ∙ back
 
-  pub below_again : (was : Lifted) → now ≡ reopened_below after v was → reopened_below closed v was ≡ space → now ≡ space
+  pub below_again : (was : Lifted) → now ≡ reopened_below after v was → reopened_below closed v was ≡ space →
+      now ≡ space
   below_again was is back = is ∙ ap (λ (r : Space). reopened_below r v was) same ∙ back
 
 module _ (space again over : Space) (v cut : ℕ) (back : again ≡ space) where
   pub over_again : over ≡ above_cut again v cut → over ≡ above_cut space v cut
   over_again is = is ∙ ap (λ (r : Space). above_cut r v cut) back
 
-  pub goes_again : ((s : Scenario) → IsInSpace again s → cut < number_of s v → IsInSpace over s) → (s : Scenario) → IsInSpace space s → cut < number_of s v → IsInSpace over s
+  pub goes_again : ((s : Scenario) → IsInSpace again s → cut < number_of s v → IsInSpace over s) → (s : Scenario) →
+      IsInSpace space s → cut < number_of s v →
+      IsInSpace over s
   goes_again goes s lies h = goes s (subst (λ (r : Space). IsInSpace r s) (sym back) lies) h
 
 -- ---- all cubes
 
-module _ (cubes : List (List Literal)) (k : ℕ) (space : Space) (s : Scenario) (few : HasAtMostFaults k s) (lies : IsInSpace space s) (to : ℕ) (all : length cubes ≤ to) where
+module _ (cubes : List (List Literal)) (k : ℕ) (space : Space) (s : Scenario) (few : HasAtMostFaults k s)
+    (lies : IsInSpace space s) (to : ℕ) (all : length cubes ≤ to) where
   none_some : (j : ℕ) (x : Option ℕ) → x ≡ None → x ≡ Some j → ⊥
   none_some j x e h = cc
 
-  comes_to : (place : Scenario → Option ℕ) → FindsMatches cubes k space 0 to place → (j : ℕ) → IsMatched cubes s j → place s ≡ Some j
+  comes_to : (place : Scenario → Option ℕ) → FindsMatches cubes k space 0 to place → (j : ℕ) → IsMatched cubes s j →
+      place s ≡ Some j
   comes_to place finds j m = finds.comes s j few (omega arith) (omega (arith, m.there, all)) m
 
-  is_place : (place : Scenario → Option ℕ) → FindsMatches cubes k space 0 to place → (x : Option ℕ) → place s ≡ x → IsPlaceOfMatch cubes x s
+  is_place : (place : Scenario → Option ℕ) → FindsMatches cubes k space 0 to place → (x : Option ℕ) → place s ≡ x →
+      IsPlaceOfMatch cubes x s
   is_place place finds None e = λ j m. none_some j (place s) e (comes_to place finds j m)
-  is_place place finds (Some i) e = (finds.is s i few lies e, λ j m. sym (some_is i j (sym e ∙ comes_to place finds j m)))
+  is_place place finds (Some i) e =
+      (finds.is s i few lies e, λ j m. sym (some_is i j (sym e ∙ comes_to place finds j m)))
 
-  pub is_place_of_match : (n : TreeNode (Option ℕ)) → FindsMatches cubes k space 0 to (value_at n) → IsPlaceOfMatch cubes (value_at n s) s
+  pub is_place_of_match : (n : TreeNode (Option ℕ)) → FindsMatches cubes k space 0 to (value_at n) →
+      IsPlaceOfMatch cubes (value_at n s) s
   is_place_of_match n finds = is_place (value_at n) finds (value_at n s) refl

@@ -1,5 +1,6 @@
 -- What the tree of a row tells of the columns that match.
-use Rattle.std.proofs.Common.{Bor, ℕ, ◌<◌, ◌≡◌, Bool, true, false, List, [], Option, None, Some, Contains, length, get_or, map, take, arith, refl, sym, ap, ◌∙◌, subst}
+use Rattle.std.proofs.Common.{Bor, ℕ, ◌<◌, ◌≡◌, Bool, true, false, List, [], Option, None, Some, Contains, length}
+use Rattle.std.proofs.Common.{get_or, map, take, arith, refl, sym, ap, ◌∙◌, subst}
 use Rattle.std.specs.List.{list_any}
 use Rattle.std.specs.Prelude.{IfSome}
 use Rattle.std.proofs.lemmas.List.{get_or-map, get_or-take, get_or_default, length-map, length-take}
@@ -21,21 +22,31 @@ abbrev cubes_in : List Column → List (List Literal)
 cubes_in columns = map (λ (c : Column). c.cube) columns
 
 -- the tree of references to the cubes is that of the columns
-module _ (lent : List (Bor (List Literal))) (columns : List Column) (same : map (λ (b : Bor (List Literal)). b.now) lent ≡ cubes_in columns) where
+module _ (lent : List (Bor (List Literal))) (columns : List Column)
+    (same : map (λ (b : Bor (List Literal)). b.now) lent ≡ cubes_in columns) where
   pub as_long : length lent ≡ length columns
-  as_long = sym (length-map lent (λ (b : Bor (List Literal)). b.now)) ∙ ap length same ∙ length-map columns (λ (c : Column). c.cube)
+  as_long = sym (length-map lent (λ (b : Bor (List Literal)). b.now)) ∙ ap length same
+      ∙ length-map columns (λ (c : Column). c.cube)
 
   pub row_tree_of : (g : Graph) (k : ℕ) (o : Option PlacesState) → k ≡ g.faults
-      → IfSome o (λ t. (s : Scenario) → HasAtMostFaults k s → IsPlaceOfMatch (map (λ (b : Bor (List Literal)). b.now) lent) (place_at t s) s) → IfSome o (IsRowTree g columns)
+      → IfSome o (λ t. (s : Scenario) → HasAtMostFaults k s →
+      IsPlaceOfMatch (map (λ (b : Bor (List Literal)). b.now) lent) (place_at t s) s) →
+      IfSome o (IsRowTree g columns)
   row_tree_of g k None e h = tt
-  row_tree_of g k (Some t) e h = record { found = λ s law. subst (λ cubes. IsPlaceOfMatch cubes (place_at t s) s) same (h s (subst (λ k. HasAtMostFaults k s) (sym e) (scenario_few g s law))) }
+  row_tree_of g k (Some t) e h = record {
+    found = λ s law. subst (λ cubes. IsPlaceOfMatch cubes (place_at t s) s) same
+        (h s (subst (λ k. HasAtMostFaults k s) (sym e) (scenario_few g s law)));
+  }
 
 module _ (columns : List Column) (s : Scenario) (i : ℕ) where
   cube_here : i < length columns → cube_at (cubes_in columns) i ≡ (column_at columns i).cube
   cube_here l = get_or-map (λ (c : Column). c.cube) columns i (record { time = 0; cube = [] }) [] l
 
   pub matched_at : i < length columns → matches (column_at columns i).cube s ≡ true → IsMatched (cubes_in columns) s i
-  matched_at l m = record { there = omega (arith, l, length-map columns (λ (c : Column). c.cube)); matched = ap (λ c. matches c s) (cube_here l) ∙ m }
+  matched_at l m = record {
+    there = omega (arith, l, length-map columns (λ (c : Column). c.cube));
+    matched = ap (λ c. matches c s) (cube_here l) ∙ m;
+  }
 
   pub there_at : IsMatched (cubes_in columns) s i → i < length columns
   there_at h = omega (arith, h.there, length-map columns (λ (c : Column). c.cube))
@@ -43,13 +54,15 @@ module _ (columns : List Column) (s : Scenario) (i : ℕ) where
   pub matches_at : IsMatched (cubes_in columns) s i → matches (column_at columns i).cube s ≡ true
   matches_at h = sym (ap (λ c. matches c s) (cube_here (there_at h))) ∙ h.matched
 
-module _ {g : Graph} {columns : List Column} {tree : PlacesState} (is : IsRowTree g columns tree) (s : Scenario) (law : IsScenario g s) where
+module _ {g : Graph} {columns : List Column} {tree : PlacesState} (is : IsRowTree g columns tree) (s : Scenario)
+    (law : IsScenario g s) where
   found_as : (o : Option ℕ) → place_at tree s ≡ o → IsPlaceOfMatch (cubes_in columns) o s
   found_as o e = subst (λ p. IsPlaceOfMatch (cubes_in columns) p s) e (is.found s law)
 
   -- if there is no place, no column matches
   pub none_matches : place_at tree s ≡ None → (d : Column) → Contains columns d → matches d.cube s ≡ true → ⊥
-  none_matches e d c m = found_as None e c.0 (matched_at columns s c.0 c.1 (ap (λ (d : Column). matches d.cube s) (get_or_default columns c.0 (record { time = 0; cube = [] }) d c.1 ∙ c.2) ∙ m))
+  none_matches e d c m = found_as None e c.0 (matched_at columns s c.0 c.1 (ap (λ (d : Column). matches d.cube s)
+      (get_or_default columns c.0 (record { time = 0; cube = [] }) d c.1 ∙ c.2) ∙ m))
 
   -- the place is one of the row's, and its column matches
   pub place_there : (i : ℕ) → place_at tree s ≡ Some i → i < length columns
@@ -59,28 +72,34 @@ module _ {g : Graph} {columns : List Column} {tree : PlacesState} (is : IsRowTre
   place_matches i e = matches_at columns s i (found_as (Some i) e).0
 
   -- a column that matches stands at the place
-  pub place_only : (i j : ℕ) → place_at tree s ≡ Some i → j < length columns → matches (column_at columns j).cube s ≡ true → j ≡ i
+  pub place_only : (i j : ℕ) → place_at tree s ≡ Some i → j < length columns →
+      matches (column_at columns j).cube s ≡ true → j ≡ i
   place_only i j e l m = (found_as (Some i) e).1 j (matched_at columns s j l m)
 
   -- no two columns match
-  pub one_place : (i j : ℕ) → i < length columns → j < length columns → matches (column_at columns i).cube s ≡ true → matches (column_at columns j).cube s ≡ true → i ≡ j
+  pub one_place : (i j : ℕ) → i < length columns → j < length columns → matches (column_at columns i).cube s ≡ true →
+      matches (column_at columns j).cube s ≡ true → i ≡ j
   one_place i j k l m n = go (place_at tree s) refl
     where
       go : (o : Option ℕ) → place_at tree s ≡ o → i ≡ j
       go None e = absurd (found_as None e i (matched_at columns s i k m))
       go (Some p) e = place_only p i e k m ∙ sym (place_only p j e l n)
 
-  pub same_column : (c d : Column) → Contains columns c → Contains columns d → matches c.cube s ≡ true → matches d.cube s ≡ true → c ≡ d
+  pub same_column : (c d : Column) → Contains columns c → Contains columns d → matches c.cube s ≡ true →
+      matches d.cube s ≡ true → c ≡ d
   same_column c d k l m n =
       let at_c : column_at columns k.0 ≡ c = get_or_default columns k.0 (record { time = 0; cube = [] }) c k.1 ∙ k.2 in
       let at_d : column_at columns l.0 ≡ d = get_or_default columns l.0 (record { time = 0; cube = [] }) d l.1 ∙ l.2 in
-      sym at_c ∙ ap (column_at columns) (one_place k.0 l.0 k.1 l.1 (ap (λ (x : Column). matches x.cube s) at_c ∙ m) (ap (λ (x : Column). matches x.cube s) at_d ∙ n)) ∙ at_d
+      sym at_c ∙ ap (column_at columns) (one_place k.0 l.0 k.1 l.1 (ap (λ (x : Column). matches x.cube s) at_c ∙ m)
+      (ap (λ (x : Column). matches x.cube s) at_d ∙ n)) ∙ at_d
 
-module _ {g : Graph} {columns : List Column} {tree : PlacesState} (is : IsRowTree g columns tree) (s : Scenario) (law : IsScenario g s) (i : ℕ) (there : i < length columns)
+module _ {g : Graph} {columns : List Column} {tree : PlacesState} (is : IsRowTree g columns tree) (s : Scenario)
+    (law : IsScenario g s) (i : ℕ) (there : i < length columns)
     (m : matches (column_at columns i).cube s ≡ true) where
   -- no earlier column matches if one does
   pub none_earlier : list_any (λ (d : Column). matches d.cube s) (take i columns) ≡ false
-  none_earlier = list_any_false (λ (d : Column). matches d.cube s) (take i columns) (λ d k. false_unless (matches d.cube s) (λ n. apart d k n))
+  none_earlier = list_any_false (λ (d : Column). matches d.cube s) (take i columns)
+      (λ d k. false_unless (matches d.cube s) (λ n. apart d k n))
     where
       false_unless : (b : Bool) → (b ≡ true → ⊥) → b ≡ false
       false_unless true h = absurd (h refl)
@@ -89,11 +108,22 @@ module _ {g : Graph} {columns : List Column} {tree : PlacesState} (is : IsRowTre
       apart : (d : Column) → Contains (take i columns) d → matches d.cube s ≡ true → ⊥
       apart d k n =
           let less : k.0 < i = omega (arith, k.1, length-take i columns) in
-          let at : column_at columns k.0 ≡ d = get_or_default columns k.0 (record { time = 0; cube = [] }) d (omega (arith, less, there)) ∙ sym (get_or-take i columns k.0 d less) ∙ k.2 in
-          omega (arith, less, one_place is s law k.0 i (omega (arith, less, there)) there (ap (λ (x : Column). matches x.cube s) at ∙ n) m)
+          let at : column_at columns k.0 ≡ d =
+          get_or_default columns k.0 (record { time = 0; cube = [] }) d (omega (arith, less, there))
+          ∙ sym (get_or-take i columns k.0 d less) ∙ k.2 in
+          omega (
+            arith,
+            less,
+            one_place is s law k.0 i (omega (arith, less, there)) there
+                (ap (λ (x : Column). matches x.cube s) at ∙ n) m,
+          )
 
 -- the tree of an item's row, if it has one
-pub tree_of_row : (g : Graph) (tables : List NodeTable) (trees : List (Option PlacesState)) (x : ℕ) → AreRowTrees g tables trees → x < item_count g → (o : Option PlacesState) → o ≡ get_or trees x o →
+pub tree_of_row : (g : Graph) (tables : List NodeTable) (trees : List (Option PlacesState)) (x : ℕ) →
+    AreRowTrees g tables trees → x < item_count g → (o : Option PlacesState) →
+    o ≡ get_or trees x o →
     IfSome o (IsRowTree g (columns_of tables x))
-tree_of_row g tables trees x are l o is = subst (λ (p : Option PlacesState). IfSome p (IsRowTree g (columns_of tables x))) (get_or_default trees x None o (omega (arith, l, are.count)) ∙ sym is)
+tree_of_row g tables trees x are l o is =
+    subst (λ (p : Option PlacesState). IfSome p (IsRowTree g (columns_of tables x)))
+    (get_or_default trees x None o (omega (arith, l, are.count)) ∙ sym is)
     (are.each x l)

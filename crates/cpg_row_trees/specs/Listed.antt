@@ -20,7 +20,9 @@ AreRangesAll k space = (s : Scenario) → HasAtMostFaults k s → IsInRanges spa
 -- the scenarios of the space are those of at most k faults that match and have a number of a variable that is in range
 pub record IsOwnOn (k : ℕ) (space : Space) (literals : List Literal) (v : ℕ) : Type 0 where
   pub hold : (s : Scenario) → HasAtMostFaults k s → IsInSpace space s → matches literals s ≡ true
-  pub come : (s : Scenario) → HasAtMostFaults k s → matches literals s ≡ true → get_or space.low v 0 ≤ number_of s v → number_of s v ≤ get_or space.high v 0 → IsInSpace space s
+  pub come : (s : Scenario) → HasAtMostFaults k s → matches literals s ≡ true → get_or space.low v 0 ≤ number_of s v →
+      number_of s v ≤ get_or space.high v 0 →
+      IsInSpace space s
 
 -- a literal holds in the whole space and is inside it, or says where it may be parted
 abbrev pub IsListedStep : Space → Literal → ListedStep → Type 0
@@ -28,10 +30,12 @@ IsListedStep space l Known = ((s : Scenario) → IsInSpace space s → holds s l
 IsListedStep space l (Parts c) = IsOpenCut space c.variable c.most × (c.variable ≡ l.variable)
 IsListedStep space l Nothing = Unit {0}
 
--- a cube's scenarios are those of the space, or its first literals and a range say who is in it, and where that may be parted
+-- a cube's scenarios are those of the space, or its first literals and a range say who is in it, and where that may be
+-- parted
 abbrev pub IsListedTop : ℕ → Space → List Literal → ListedTop → Type 0
 IsListedTop k space literals Own = IsOwn k space literals
-IsListedTop k space literals (Fork p) = IsOpenCut space p.cut.variable p.cut.most × IsOwnOn k space (take p.depth literals) p.cut.variable
+IsListedTop k space literals (Fork p) =
+    IsOpenCut space p.cut.variable p.cut.most × IsOwnOn k space (take p.depth literals) p.cut.variable
 IsListedTop k space literals Unknown = Unit {0}
 
 -- there is a cube at a place, and its first literals are those of another

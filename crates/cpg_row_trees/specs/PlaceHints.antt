@@ -33,7 +33,8 @@ IsMatchAmong cubes places (Some i) s = IsOnlyMatch cubes places s i
 
 -- those of a list of places that such scenarios match are in another list, too
 abbrev pub KeepsWhere : List (List Literal) → (Scenario → Type 0) → List ℕ → List ℕ → Type 0
-KeepsWhere cubes fits places kept = (s : Scenario) (i : ℕ) → fits s → Contains places i → IsMatched cubes s i → Contains kept i
+KeepsWhere cubes fits places kept =
+    (s : Scenario) (i : ℕ) → fits s → Contains places i → IsMatched cubes s i → Contains kept i
 
 -- a place is among others, if there is such a scenario, with all that were there before
 pub record KeepsPlace (fits : Scenario → Type 0) (place : ℕ) (before now : List PlaceHint) : Type 0 where
@@ -57,6 +58,7 @@ IsPlacesTop cubes space places (Fork c) = IsOpenCut space c.variable c.most
 IsPlacesTop cubes space places Unknown = Unit {0}
 
 -- a tree that tells of the places is added, with no more items left than there were
-pub record AddsPlaceTree (cubes : List (List Literal)) (space : Space) (places : List ℕ) (old new : TreeGrowth) : Type 0 where
+pub record AddsPlaceTree (cubes : List (List Literal)) (space : Space) (places : List ℕ)
+    (old new : TreeGrowth) : Type 0 where
   pub found : AddsTree (HoldsInSpace (IsMatchAmong cubes places) space) old.items.items new.items.items
   pub fewer : new.left ≤ old.left

@@ -1,5 +1,6 @@
 -- Cubes that stand as a tree lists them, in slices.
-use Rattle.std.specs.Prelude.{ℕ, ◌+◌, ◌-◌, ◌≡◌, ◌≤◌, ◌<◌, Bool, ◌&&◌, ◌||◌, nat_lt, true, if◌then◌else◌, List, Option, None, Some, get_or, length, max, min, slice_set, sum_by, take, Contains}
+use Rattle.std.specs.Prelude.{ℕ, ◌+◌, ◌-◌, ◌≡◌, ◌≤◌, ◌<◌, Bool, ◌&&◌, ◌||◌, nat_lt, true, if◌then◌else◌, List, Option}
+use Rattle.std.specs.Prelude.{None, Some, get_or, length, max, min, slice_set, sum_by, take, Contains}
 use Rattle.cpg_base.specs.Numbers.{numbers_below}
 use Rattle.cpg_base.specs.Variable.{top}
 use Rattle.cpg_base.specs.Scenario.{Scenario, number_of}
@@ -29,7 +30,8 @@ is_narrow k space v = nat_lt 0 (get_or space.low v 0) || nat_lt (get_or space.hi
 abbrev pub narrowed : ℕ → Space → ℕ → ℕ
 narrowed k space v = if nat_lt v 256 && is_narrow k space v then 1 else 0
 
--- a space that forks lead to: the ranges alone tell of at most k faults who lies in it, and no more of them than so many are narrow
+-- a space that forks lead to: the ranges alone tell of at most k faults who lies in it, and no more of them than so
+-- many are narrow
 pub record IsForkSpace (k : ℕ) (space : Space) (narrow : ℕ) : Type 0 where
   pub by_ranges : (s : Scenario) → HasAtMostFaults k s → IsInRanges space s → IsInSpace space s
   pub few : sum_by (narrowed k space) (numbers_below 256) ≤ narrow
@@ -50,8 +52,10 @@ pub record IsOwn (k : ℕ) (space : Space) (literals : List Literal) : Type 0 wh
   pub hold : (s : Scenario) → HasAtMostFaults k s → IsInSpace space s → matches literals s ≡ true
   pub come : (s : Scenario) → HasAtMostFaults k s → matches literals s ≡ true → IsInSpace space s
 
--- places by scenarios: a place has a cube that the scenario matches, and who matches a cube of the slice lies in the space and comes to its place
-pub record FindsMatches (cubes : List (List Literal)) (k : ℕ) (space : Space) (from to : ℕ) (place : Scenario → Option ℕ) : Type 0 where
+-- places by scenarios: a place has a cube that the scenario matches, and who matches a cube of the slice lies in the
+-- space and comes to its place
+pub record FindsMatches (cubes : List (List Literal)) (k : ℕ) (space : Space) (from to : ℕ)
+    (place : Scenario → Option ℕ) : Type 0 where
   pub is : (s : Scenario) (i : ℕ) → HasAtMostFaults k s → IsInSpace space s → place s ≡ Some i → IsMatched cubes s i
   pub lies : (s : Scenario) (j : ℕ) → HasAtMostFaults k s → from ≤ j → j < to → IsMatched cubes s j → IsInSpace space s
   pub comes : (s : Scenario) (j : ℕ) → HasAtMostFaults k s → from ≤ j → j < to → IsMatched cubes s j → place s ≡ Some j
@@ -63,7 +67,8 @@ IsSliceTop cubes k space from to (Fork p) = IsOpenCut space p.cut.variable p.cut
 IsSliceTop cubes k space from to Unknown = Unit {0}
 
 -- a tree that leads to the places of a slice is added, with no more items left than there were
-pub record AddsSliceTree (cubes : List (List Literal)) (k : ℕ) (space : Space) (from to : ℕ) (old new : TreeGrowth) : Type 0 where
+pub record AddsSliceTree (cubes : List (List Literal)) (k : ℕ) (space : Space) (from to : ℕ)
+    (old new : TreeGrowth) : Type 0 where
   pub finds : AddsTree (λ n. FindsMatches cubes k space from to (value_at n)) old.items.items new.items.items
   pub fewer : new.left ≤ old.left
 

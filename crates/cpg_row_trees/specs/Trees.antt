@@ -12,7 +12,8 @@ pub record IsRowTree (g : Graph) (columns : List Column) (tree : PlacesState) : 
   pub found : (s : Scenario) → IsScenario g s → IsPlaceOfMatch (map (λ c. c.cube) columns) (place_at tree s) s
 
 -- one for each of the first items; if there is a tree, it is that of the item's row
-pub record AreFirstTrees (g : Graph) (tables : List NodeTable) (items : ℕ) (trees : List (Option PlacesState)) : Type 0 where
+pub record AreFirstTrees (g : Graph) (tables : List NodeTable) (items : ℕ)
+    (trees : List (Option PlacesState)) : Type 0 where
   pub count : length trees ≡ items
   pub each : (x : ℕ) → x < items → IfSome (get_or trees x None) (IsRowTree g (columns_of tables x))
 

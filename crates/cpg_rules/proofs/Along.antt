@@ -1,5 +1,6 @@
 -- Going along an order: what is left of it from a place on.
-use Rattle.std.proofs.Common.{ℕ, suc, ◌+◌, ◌<◌, ◌≡◌, List, [], ◌∷◌, length, get_or, take, drop, Contains, arith, sym, ap, ◌∙◌, subst, length-drop, add-one, add-zero}
+use Rattle.std.proofs.Common.{ℕ, suc, ◌+◌, ◌<◌, ◌≡◌, List, [], ◌∷◌, length, get_or, take, drop, Contains, arith, sym}
+use Rattle.std.proofs.Common.{ap, ◌∙◌, subst, length-drop, add-one, add-zero}
 use Rattle.std.proofs.Math.Seq.{drop-cons}
 use Rattle.std.proofs.lemmas.List.{get_or-drop, get_or-take, get_or_default, length-take}
 use Rattle.std.proofs.lemmas.List.Elements.{Contains-get_or}
@@ -15,14 +16,16 @@ module _ (g : Graph) (order : List ℕ) (topological : IsTopological g order) wh
       let k : Contains order (get_or order i 0) = Contains-get_or order i 0 l in
       let m = place-lt order (get_or order i 0) k in (
         from_order (process_count g) order topological.all (get_or order i 0) k,
-        one_place (process_count g) order topological.all (place order (get_or order i 0)) i 0 m l (get_or-place order (get_or order i 0) 0 k),
+        one_place (process_count g) order topological.all (place order (get_or order i 0)) i 0 m l
+            (get_or-place order (get_or order i 0) 0 k),
       )
 
   -- the first of what is left from a place on is at that place
   pub rest_first : (k p : ℕ) (ps : List ℕ) → drop k order ≡ p ∷ ps → (p < process_count g) × (place order p ≡ k)
   rest_first k p ps e =
       let l : k < length order = omega (arith, ap length e, length-drop k order) in
-      let is : get_or order k 0 ≡ p = ap (λ i. get_or order i 0) (sym (add-zero k)) ∙ sym (get_or-drop k order 0 0) ∙ ap (λ xs. get_or xs 0 0) e in
+      let is : get_or order k 0 ≡ p =
+      ap (λ i. get_or order i 0) (sym (add-zero k)) ∙ sym (get_or-drop k order 0 0) ∙ ap (λ xs. get_or xs 0 0) e in
       let r = at_index k l in
       (subst (λ q. q < process_count g) is r.0, subst (λ q. place order q ≡ k) is r.1)
 
@@ -43,6 +46,7 @@ module _ (g : Graph) (order : List ℕ) (topological : IsTopological g order) wh
   in_take k r c =
       let l : c.0 < length (take k order) = c.1 in
       let short = length-take k order in
-      let is : get_or order c.0 0 ≡ r = get_or_default order c.0 0 r (omega arith) ∙ sym (get_or-take k order c.0 r (omega arith)) ∙ c.2 in
+      let is : get_or order c.0 0 ≡ r =
+      get_or_default order c.0 0 r (omega arith) ∙ sym (get_or-take k order c.0 r (omega arith)) ∙ c.2 in
       let r' = at_index c.0 (omega arith) in
       (subst (λ q. q < process_count g) is r'.0, subst (λ q. place order q < k) is (omega arith))

@@ -34,13 +34,19 @@ module _ (g : Graph) (order : List ℕ) (topological : IsTopological g order) wh
 
   tests_below : (k : ℕ) (t : Guard) → IsOrderedFrom g order k t → TestsBelow (condition_count g) t
   tests_below k (Leaf a) h = tt
-  tests_below k (Test c off on) h = (h.0, tests_below (place order (process_of g c) + 1) off h.2, tests_below (place order (process_of g c) + 1) on h.3)
+  tests_below k (Test c off on) h = (
+    h.0,
+    tests_below (place order (process_of g c) + 1) off h.2,
+    tests_below (place order (process_of g c) + 1) on h.3,
+  )
 
   pub guards_below : (guards : Guards) → AreGuardsOf g order guards → AreBelow guards
   guards_below guards are = record {
     trees = All-from_get_or (TestsBelow guards.conditions) guards.trees (Leaf Inactive)
-        (λ p l. subst (λ n. TestsBelow n (tree_of guards p)) (sym are.conditions) (tests_below 0 (tree_of guards p) (are.trees p (omega (arith, are.count))).ordered));
+        (λ p l. subst (λ n. TestsBelow n (tree_of guards p)) (sym are.conditions)
+        (tests_below 0 (tree_of guards p) (are.trees p (omega (arith, are.count))).ordered));
     edges = subst (λ n. All (IsEdgeBelow n guards.conditions) guards.edges) (sym are.count)
         (subst (λ n. All (IsEdgeBelow (process_count g) n) guards.edges) (sym are.conditions)
-        (subst (All (IsEdgeBelow (process_count g) (condition_count g))) (sym are.edges) (edges_below g order topological)));
+        (subst (All (IsEdgeBelow (process_count g) (condition_count g))) (sym are.edges)
+        (edges_below g order topological)));
   }

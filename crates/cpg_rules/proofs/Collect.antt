@@ -5,13 +5,18 @@ use Rattle.cpg_base.specs.Numbers.{numbers_below}
 use Rattle.cpg_base.proofs.Lists.{filter_below_takes, filter_below_skips}
 
 -- one more number, which passes
-pub collects : {X : Type 0} (f : ℕ → X) (p : ℕ → Bool) (xs ys : List X) (x : X) (n : ℕ) → xs ≡ map f (filter p (numbers_below n)) → p n ≡ true → x ≡ f n → ys ≡ xs ++ x ∷ [] →
+pub collects : {X : Type 0} (f : ℕ → X) (p : ℕ → Bool) (xs ys : List X) (x : X) (n : ℕ) →
+    xs ≡ map f (filter p (numbers_below n)) → p n ≡ true → x ≡ f n →
+    ys ≡ xs ++ x ∷ [] →
     ys ≡ map f (filter p (numbers_below (n + 1)))
 collects f p xs ys x n h t e is =
     is ∙ ap (λ zs. zs ++ x ∷ []) h ∙ ap (λ z. map f (filter p (numbers_below n)) ++ z ∷ []) e
     ∙ sym (map-append f (filter p (numbers_below n)) (n ∷ []))
-    ∙ ap (map f) (filter_below_takes p (filter p (numbers_below n)) (filter p (numbers_below n) ++ n ∷ []) n refl t refl)
+    ∙ ap (map f)
+    (filter_below_takes p (filter p (numbers_below n)) (filter p (numbers_below n) ++ n ∷ []) n refl t refl)
 
 -- one more number, which doesn't
-pub passes_over : {X : Type 0} (f : ℕ → X) (p : ℕ → Bool) (xs : List X) (n : ℕ) → xs ≡ map f (filter p (numbers_below n)) → p n ≡ false → xs ≡ map f (filter p (numbers_below (n + 1)))
+pub passes_over : {X : Type 0} (f : ℕ → X) (p : ℕ → Bool) (xs : List X) (n : ℕ) →
+    xs ≡ map f (filter p (numbers_below n)) → p n ≡ false →
+    xs ≡ map f (filter p (numbers_below (n + 1)))
 passes_over f p xs n h t = h ∙ ap (map f) (filter_below_skips p (filter p (numbers_below n)) n refl t)

@@ -1,5 +1,6 @@
 -- The trees that are composed along an order are the guards of the processes.
-use Rattle.std.proofs.Common.{ℕ, ◌+◌, ◌<◌, ◌≤◌, ◌≡◌, Bool, true, false, ◌&&◌, if◌then◌else◌, List, [], ◌∷◌, length, get_or, set, map, drop, filter, replicate, Option, Some, None, Contains, arith}
+use Rattle.std.proofs.Common.{ℕ, ◌+◌, ◌<◌, ◌≤◌, ◌≡◌, Bool, true, false, ◌&&◌, if◌then◌else◌, List, [], ◌∷◌, length}
+use Rattle.std.proofs.Common.{get_or, set, map, drop, filter, replicate, Option, Some, None, Contains, arith}
 use Rattle.std.proofs.Common.{refl, sym, ap, ap₂, ◌∙◌, subst, inl, inr, get_or-set_other, get_or-set_same, length-set}
 use Rattle.std.specs.List.{list_all}
 use Rattle.std.proofs.lemmas.Bool.{cases_eq}
@@ -7,7 +8,8 @@ use Rattle.std.proofs.lemmas.List.{length-map, length-replicate}
 use Rattle.std.proofs.lemmas.List.FromFn.{length-range_with_len}
 use Rattle.cpg_base.specs.declared.activation.Activation.TheVariants.{Inactive, Plain}
 use Rattle.cpg_base.specs.Numbers.{numbers_below}
-use Rattle.cpg_base.specs.Graph.{Graph, process_count, condition_count, edge_count, process_at, edge_at, source, inputs, process_of, condition_of}
+use Rattle.cpg_base.specs.Graph.{Graph, process_count, condition_count, edge_count, process_at, edge_at, source, inputs}
+use Rattle.cpg_base.specs.Graph.{process_of, condition_of}
 use Rattle.cpg_base.specs.Activity.{is_active, by_first, activation_by, activation, live}
 use Rattle.cpg_base.specs.Order.{place}
 use Rattle.cpg_base.proofs.ConditionProcesses.{process_of_condition_of, condition_of_below}
@@ -23,7 +25,8 @@ use Rattle.cpg_rules.specs.Guards.{test_of}
 use Rattle.cpg_rules.specs.Steps.{input_of, step_of}
 use Rattle.cpg_rules.specs.Composing.{rank, by_input, input_tree, composed, composed_along}
 use Rattle.cpg_rules.proofs.Along.{rest_first, rest_more, rest_none}
-use Rattle.cpg_rules.proofs.Meeting.{first_settling, live_tree_at, met_at, IsRanked, IsRankedTest, live_tree_ranked, met_ranked, live_tree_reduced, met_reduced}
+use Rattle.cpg_rules.proofs.Meeting.{first_settling, live_tree_at, met_at, IsRanked, IsRankedTest, live_tree_ranked}
+use Rattle.cpg_rules.proofs.Meeting.{met_ranked, live_tree_reduced, met_reduced}
 use Rattle.cpg_rules.proofs.EdgeGuards.{passed}
 use Rattle.cpg_rules.proofs.Standings.{place_differs}
 
@@ -46,9 +49,11 @@ module _ (g : Graph) (order : List ℕ) (topological : IsTopological g order) wh
   rank_is c l = get_or-map-below (λ d. place order (process_of g d)) (condition_count g) c 0 l
 
   length_ranks : length (place_ranks g order) ≡ condition_count g
-  length_ranks = length-map (numbers_below (condition_count g)) (λ d. place order (process_of g d)) ∙ length-range_with_len 0 (condition_count g)
+  length_ranks = length-map (numbers_below (condition_count g)) (λ d. place order (process_of g d))
+      ∙ length-range_with_len 0 (condition_count g)
 
-  ranks_apart : (c d : ℕ) → c < length (place_ranks g order) → d < length (place_ranks g order) → rank (place_ranks g order) c ≡ rank (place_ranks g order) d → c ≡ d
+  ranks_apart : (c d : ℕ) → c < length (place_ranks g order) → d < length (place_ranks g order) →
+      rank (place_ranks g order) c ≡ rank (place_ranks g order) d → c ≡ d
   ranks_apart c d l m e =
       let h : c < condition_count g = omega (arith, length_ranks) in
       let k : d < condition_count g = omega (arith, length_ranks) in
@@ -64,7 +69,8 @@ module _ (g : Graph) (order : List ℕ) (topological : IsTopological g order) wh
       let is = rank_is c within in (
         within,
         subst (λ n. k ≤ n) is r.1,
-        subst (λ n. IsOrderedFrom g order (n + 1) off) is (ordered_by_rank (rank (place_ranks g order) c + 1) m off r.3),
+        subst (λ n. IsOrderedFrom g order (n + 1) off) is
+            (ordered_by_rank (rank (place_ranks g order) c + 1) m off r.3),
         subst (λ n. IsOrderedFrom g order (n + 1) on) is (ordered_by_rank (rank (place_ranks g order) c + 1) m on r.4),
       )
 
@@ -74,7 +80,8 @@ module _ (g : Graph) (order : List ℕ) (topological : IsTopological g order) wh
     ranked : IsRanked (place_ranks g order) 0 (place order p) t
     reduced : IsReduced t
 
-  module _ (p : ℕ) (trees : List Guard) (made : (q : ℕ) → q < process_count g → place order q < place order p → IsComposed q (get_or trees q (Leaf Inactive))) (join : Bool) where
+  module _ (p : ℕ) (trees : List Guard) (made : (q : ℕ) → q < process_count g → place order q < place order p →
+      IsComposed q (get_or trees q (Leaf Inactive))) (join : Bool) where
     module _ (e : ℕ) (input : Contains (inputs g p) e) where
       within : e < edge_count g
       within = (inputs_parts g p e input).0
@@ -85,29 +92,39 @@ module _ (g : Graph) (order : List ℕ) (topological : IsTopological g order) wh
       sooner : place order (source g e) < place order p
       sooner = input_goes_up g order topological p e input
 
-      input_at : (o : List Bool) → length o ≡ condition_count g → outcome_at (input_tree g join trees (input_of g e)) o ≡ (if live g o e then by_input join e else Inactive)
-      input_at o long = live_tree_at o (by_input join e) (test_of (condition_of g (source g e)) (edge_at g e).when) (get_or trees (source g e) (Leaf Inactive))
-          ∙ ap₂ (λ a b. if a && b then by_input join e else Inactive) (ap is_active ((made (source g e) from sooner).is o long))
+      input_at : (o : List Bool) → length o ≡ condition_count g →
+          outcome_at (input_tree g join trees (input_of g e)) o ≡ (if live g o e then by_input join e else Inactive)
+      input_at o long = live_tree_at o (by_input join e) (test_of (condition_of g (source g e)) (edge_at g e).when)
+          (get_or trees (source g e) (Leaf Inactive))
+          ∙ ap₂ (λ a b. if a && b then by_input join e else Inactive)
+          (ap is_active ((made (source g e) from sooner).is o long))
           (passed g order topological o e within (condition_of g (source g e)) refl (edge_at g e).when refl)
 
-      its_test : IsRankedTest (place_ranks g order) (place order (source g e)) (place order p) (test_of (condition_of g (source g e)) (edge_at g e).when)
+      its_test : IsRankedTest (place_ranks g order) (place order (source g e)) (place order p)
+          (test_of (condition_of g (source g e)) (edge_at g e).when)
       its_test = record {
-        within = λ t h. let its = test_parts (condition_of g (source g e)) (edge_at g e).when t h in omega (arith, condition_of_below g (source g e) t.condition its, length_ranks);
+        within = λ t h. let its = test_parts (condition_of g (source g e)) (edge_at g e).when t h in
+            omega (arith, condition_of_below g (source g e) t.condition its, length_ranks);
         from = λ t h. omega (arith, at t h);
         to = λ t h. omega (arith, at t h, sooner);
       }
         where
-          at : (t : ValueTest) → test_of (condition_of g (source g e)) (edge_at g e).when ≡ Some t → rank (place_ranks g order) t.condition ≡ place order (source g e)
+          at : (t : ValueTest) → test_of (condition_of g (source g e)) (edge_at g e).when ≡ Some t →
+              rank (place_ranks g order) t.condition ≡ place order (source g e)
           at t h =
               let its = test_parts (condition_of g (source g e)) (edge_at g e).when t h in
-              rank_is t.condition (condition_of_below g (source g e) t.condition its) ∙ ap (place order) (process_of_condition_of g (source g e) t.condition its)
+              rank_is t.condition (condition_of_below g (source g e) t.condition its)
+              ∙ ap (place order) (process_of_condition_of g (source g e) t.condition its)
 
       input_ranked : IsRanked (place_ranks g order) 0 (place order p) (input_tree g join trees (input_of g e))
-      input_ranked = live_tree_ranked (place_ranks g order) 0 (place order (source g e)) (place order p) (by_input join e) (test_of (condition_of g (source g e)) (edge_at g e).when)
-          (get_or trees (source g e) (Leaf Inactive)) its_test (omega arith) (omega (arith, sooner)) (made (source g e) from sooner).ranked
+      input_ranked = live_tree_ranked (place_ranks g order) 0 (place order (source g e)) (place order p)
+          (by_input join e) (test_of (condition_of g (source g e)) (edge_at g e).when)
+          (get_or trees (source g e) (Leaf Inactive)) its_test (omega arith) (omega (arith, sooner))
+          (made (source g e) from sooner).ranked
 
       input_reduced : IsReduced (input_tree g join trees (input_of g e))
-      input_reduced = live_tree_reduced (by_input join e) (test_of (condition_of g (source g e)) (edge_at g e).when) (get_or trees (source g e) (Leaf Inactive))
+      input_reduced = live_tree_reduced (by_input join e) (test_of (condition_of g (source g e)) (edge_at g e).when)
+          (get_or trees (source g e) (Leaf Inactive))
 
     -- what holds of a tree that is composed of these inputs
     record IsComposedOf (es : List ℕ) (t : Guard) : Type 0 where
@@ -115,19 +132,23 @@ module _ (g : Graph) (order : List ℕ) (topological : IsTopological g order) wh
       ranked : IsRanked (place_ranks g order) 0 (place order p) t
       reduced : IsReduced t
 
-    by_last : (b j : Bool) (e : ℕ) (f : ℕ → Bool) → f e ≡ b → (if b then by_input j e else Inactive) ≡ activation_by j (e ∷ []) f
+    by_last : (b j : Bool) (e : ℕ) (f : ℕ → Bool) → f e ≡ b →
+        (if b then by_input j e else Inactive) ≡ activation_by j (e ∷ []) f
     by_last true true e f h = ap (λ b. by_first (if b then e ∷ [] else [])) (sym h)
     by_last false true e f h = ap (λ b. by_first (if b then e ∷ [] else [])) (sym h)
     by_last true false e f h = ap (λ b. if b && true then Plain else Inactive) (sym h)
     by_last false false e f h = ap (λ b. if b && true then Plain else Inactive) (sym h)
 
-    by_more : (b j : Bool) (e d : ℕ) (es : List ℕ) (f : ℕ → Bool) → f e ≡ b → first_settling j (if b then by_input j e else Inactive) (activation_by j (d ∷ es) f) ≡ activation_by j (e ∷ d ∷ es) f
+    by_more : (b j : Bool) (e d : ℕ) (es : List ℕ) (f : ℕ → Bool) → f e ≡ b →
+        first_settling j (if b then by_input j e else Inactive) (activation_by j (d ∷ es) f)
+        ≡ activation_by j (e ∷ d ∷ es) f
     by_more true true e d es f h = ap (λ b. by_first (if b then e ∷ filter f (d ∷ es) else filter f (d ∷ es))) (sym h)
     by_more false true e d es f h = ap (λ b. by_first (if b then e ∷ filter f (d ∷ es) else filter f (d ∷ es))) (sym h)
     by_more true false e d es f h = ap (λ b. if b && list_all f (d ∷ es) then Plain else Inactive) (sym h)
     by_more false false e d es f h = ap (λ b. if b && list_all f (d ∷ es) then Plain else Inactive) (sym h)
 
-    composed_of : (es : List ℕ) → ((e : ℕ) → Contains es e → Contains (inputs g p) e) → IsComposedOf es (composed g join (place_ranks g order) trees (map (input_of g) es))
+    composed_of : (es : List ℕ) → ((e : ℕ) → Contains es e → Contains (inputs g p) e) →
+        IsComposedOf es (composed g join (place_ranks g order) trees (map (input_of g) es))
     composed_of [] f = record { is = λ o long. refl; ranked = tt; reduced = tt }
     composed_of (e ∷ []) f =
         let c = f e (Contains-first e []) in
@@ -140,12 +161,16 @@ module _ (g : Graph) (order : List ℕ) (topological : IsTopological g order) wh
         let c = f e (Contains-first e (d ∷ es)) in
         let later = composed_of (d ∷ es) (λ x k. f x (Contains-rest e (d ∷ es) x k)) in
         record {
-          is = λ o long. met_at o join (place_ranks g order) (input_tree g join trees (input_of g e)) (composed g join (place_ranks g order) trees (map (input_of g) (d ∷ es)))
-              ∙ ap₂ (first_settling join) (input_at e c o long) (later.is o long) ∙ by_more (live g o e) join e d es (live g o) refl;
-          ranked = met_ranked (place_ranks g order) ranks_apart (place order p) join 0 (input_tree g join trees (input_of g e))
+          is = λ o long. met_at o join (place_ranks g order) (input_tree g join trees (input_of g e))
+              (composed g join (place_ranks g order) trees (map (input_of g) (d ∷ es)))
+              ∙ ap₂ (first_settling join) (input_at e c o long) (later.is o long)
+              ∙ by_more (live g o e) join e d es (live g o) refl;
+          ranked = met_ranked (place_ranks g order) ranks_apart (place order p) join 0
+              (input_tree g join trees (input_of g e))
               (composed g join (place_ranks g order) trees (map (input_of g) (d ∷ es)))
               (input_ranked e c) later.ranked;
-          reduced = met_reduced join (place_ranks g order) (input_tree g join trees (input_of g e)) (composed g join (place_ranks g order) trees (map (input_of g) (d ∷ es)))
+          reduced = met_reduced join (place_ranks g order) (input_tree g join trees (input_of g e))
+              (composed g join (place_ranks g order) trees (map (input_of g) (d ∷ es)))
               (input_reduced e c) later.reduced;
         }
 
@@ -155,13 +180,15 @@ module _ (g : Graph) (order : List ℕ) (topological : IsTopological g order) wh
     made : (p : ℕ) → p < process_count g → place order p < k → IsComposed p (get_or trees p (Leaf Inactive))
 
   one_more_composed : (k p : ℕ) (trees : List Guard) → AreComposed k trees → p < process_count g → place order p ≡ k
-      → AreComposed (k + 1) (set trees p (composed g (process_at g p).join (place_ranks g order) trees (map (input_of g) (inputs g p))))
+      → AreComposed (k + 1)
+      (set trees p (composed g (process_at g p).join (place_ranks g order) trees (map (input_of g) (inputs g p))))
   one_more_composed k p trees are h at = record {
     long = length-set trees p tree ∙ are.long;
     made = λ q l m. elim (cases_eq q p) [
       | inl e ↦ subst (λ x. IsComposed x (get_or (set trees p tree) x (Leaf Inactive))) (sym e)
           (subst (IsComposed p) (sym (get_or-set_same trees p tree (Leaf Inactive) (omega (arith, are.long)))) its)
-      | inr n ↦ subst (IsComposed q) (sym (get_or-set_other trees p q tree (Leaf Inactive) n)) (are.made q l (let d = place_differs g order topological q p l h n in omega (arith, at)))
+      | inr n ↦ subst (IsComposed q) (sym (get_or-set_other trees p q tree (Leaf Inactive) n))
+          (are.made q l (let d = place_differs g order topological q p l h n in omega (arith, at)))
     ];
   }
     where
@@ -170,25 +197,35 @@ module _ (g : Graph) (order : List ℕ) (topological : IsTopological g order) wh
 
       its : IsComposed p tree
       its =
-          let of = composed_of p trees (λ q l m. are.made q l (omega (arith, at))) (process_at g p).join (inputs g p) (λ e c. c) in
-          record { is = λ o long. of.is o long ∙ sym (activation_is g order topological o p (omega arith)); ranked = of.ranked; reduced = of.reduced }
+          let of = composed_of p trees (λ q l m. are.made q l (omega (arith, at))) (process_at g p).join
+          (inputs g p) (λ e c. c) in
+          record {
+            is = λ o long. of.is o long ∙ sym (activation_is g order topological o p (omega arith));
+            ranked = of.ranked;
+            reduced = of.reduced;
+          }
 
   -- along what is left of the order
   composed_to_end : (ps : List ℕ) (k : ℕ) (trees : List Guard) → drop k order ≡ ps → AreComposed k trees
       → (length (composed_along g (place_ranks g order) (map (step_of g) ps) trees) ≡ process_count g)
-      × ((p : ℕ) → p < process_count g → IsComposed p (get_or (composed_along g (place_ranks g order) (map (step_of g) ps) trees) p (Leaf Inactive)))
+      × ((p : ℕ) → p < process_count g →
+      IsComposed p (get_or (composed_along g (place_ranks g order) (map (step_of g) ps) trees) p (Leaf Inactive)))
   composed_to_end [] k trees e are = (are.long, λ p l. are.made p l (rest_none g order topological k e p l))
   composed_to_end (p ∷ ps) k trees e are =
       let r = rest_first g order topological k p ps e in
-      composed_to_end ps (k + 1) (set trees p (composed g (process_at g p).join (place_ranks g order) trees (map (input_of g) (inputs g p)))) (rest_more g order topological k p ps e)
+      composed_to_end ps (k + 1)
+      (set trees p (composed g (process_at g p).join (place_ranks g order) trees (map (input_of g) (inputs g p))))
+      (rest_more g order topological k p ps e)
       (one_more_composed k p trees are r.0 r.1)
 
   -- from the start
   abbrev pub whole : List Guard
   whole = composed_along g (place_ranks g order) (map (step_of g) order) (replicate (process_count g) (Leaf Inactive))
 
-  all_composed : (length whole ≡ process_count g) × ((p : ℕ) → p < process_count g → IsComposed p (get_or whole p (Leaf Inactive)))
-  all_composed = composed_to_end order 0 (replicate (process_count g) (Leaf Inactive)) refl (record { long = length-replicate (process_count g) (Leaf Inactive); made = λ p l m. absurd (omega arith) })
+  all_composed : (length whole ≡ process_count g) ×
+      ((p : ℕ) → p < process_count g → IsComposed p (get_or whole p (Leaf Inactive)))
+  all_composed = composed_to_end order 0 (replicate (process_count g) (Leaf Inactive)) refl
+      (record { long = length-replicate (process_count g) (Leaf Inactive); made = λ p l m. absurd (omega arith) })
 
   pub length_composed : length whole ≡ process_count g
   length_composed = all_composed.0
@@ -196,4 +233,8 @@ module _ (g : Graph) (order : List ℕ) (topological : IsTopological g order) wh
   pub composed_guards : (p : ℕ) → p < process_count g → IsGuardOf g order p (get_or whole p (Leaf Inactive))
   composed_guards p h =
       let made = all_composed.1 p h in
-      record { is = made.is; ordered = ordered_by_rank 0 (place order p) (get_or whole p (Leaf Inactive)) made.ranked; reduced = made.reduced }
+      record {
+        is = made.is;
+        ordered = ordered_by_rank 0 (place order p) (get_or whole p (Leaf Inactive)) made.ranked;
+        reduced = made.reduced;
+      }

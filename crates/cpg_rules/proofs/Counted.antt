@@ -1,5 +1,6 @@
 -- The ways along an order are as many as the graph has tracks.
-use Rattle.std.proofs.Common.{ℕ, ◌+◌, ◌<◌, ◌≤◌, ◌≡◌, Bool, true, false, ◌&&◌, if◌then◌else◌, List, [], ◌∷◌, ◌++◌, length, get_or, set, map, drop, replicate, sum_by, Option, Some, None, arith, refl}
+use Rattle.std.proofs.Common.{ℕ, ◌+◌, ◌<◌, ◌≤◌, ◌≡◌, Bool, true, false, ◌&&◌, if◌then◌else◌, List, [], ◌∷◌, ◌++◌}
+use Rattle.std.proofs.Common.{length, get_or, set, map, drop, replicate, sum_by, Option, Some, None, arith, refl}
 use Rattle.std.proofs.Common.{sym, ap, ap₂, ◌∙◌, subst, get_or-set_other, get_or-set_same, length-set}
 use Rattle.std.specs.Option.{option_to_list}
 use Rattle.std.proofs.lemmas.List.{get_or-replicate, length-replicate}
@@ -35,7 +36,8 @@ module _ (g : Graph) (order : List ℕ) (topological : IsTopological g order) (f
   abbrev many : List ℕ → List Bool → ℕ
   many cs o = sum_by (λ q. 1) (chosen g (all_values g) cs o)
 
-  module _ (k p : ℕ) (s : List (Option Bool)) (are : AreSettled g order k s) (h : p < process_count g) (at : place order p ≡ k) (o : List Bool) (on : IsOnWay k s o) where
+  module _ (k p : ℕ) (s : List (Option Bool)) (are : AreSettled g order k s) (h : p < process_count g)
+      (at : place order p ≡ k) (o : List Bool) (on : IsOnWay k s o) where
     -- the activation of the process
     abbrev here : Activation
     here = activation_in s (step_of g p)
@@ -44,7 +46,8 @@ module _ (g : Graph) (order : List ℕ) (topological : IsTopological g order) (f
     stays : IsOnWay (k + 1) (settled s (step_of g p) false) o
     stays = record {
       count = on.count;
-      follows = follows_on g order topological k s are p h few at false o on.follows (λ c l e a. on.rest c l (let f = ap (place order) e in omega arith));
+      follows = follows_on g order topological k s are p h few at false o on.follows
+          (λ c l e a. on.rest c l (let f = ap (place order) e in omega arith));
       rest = λ c l m. on.rest c l (omega arith);
     }
 
@@ -53,8 +56,11 @@ module _ (g : Graph) (order : List ℕ) (topological : IsTopological g order) (f
     turns c its = record {
       count = length-set o c true ∙ on.count;
       follows = follows_on g order topological k s are p h few at true (set o c true) moved
-          (λ d l e a. subst (λ x. get_or (set o c true) x false ≡ true) (sym (same_condition g d c l within (e ∙ sym of_it))) (get_or-set_same o c true false (omega (arith, within, on.count))));
-      rest = λ d l m. get_or-set_other o c d true false (λ e. let f = ap (λ x. place order (process_of g x)) e in let j = ap (place order) of_it in omega arith) ∙ on.rest d l (omega arith);
+          (λ d l e a.
+          subst (λ x. get_or (set o c true) x false ≡ true) (sym (same_condition g d c l within (e ∙ sym of_it)))
+          (get_or-set_same o c true false (omega (arith, within, on.count))));
+      rest = λ d l m. get_or-set_other o c d true false (λ e. let f = ap (λ x. place order (process_of g x)) e in
+          let j = ap (place order) of_it in omega arith) ∙ on.rest d l (omega arith);
     }
       where
         within : c < condition_count g
@@ -65,19 +71,23 @@ module _ (g : Graph) (order : List ℕ) (topological : IsTopological g order) (f
 
         moved : Follows g order k s (set o c true)
         moved = record {
-          takes = λ d l m v e. get_or-set_other o c d true false (λ x. let f = ap (λ y. place order (process_of g y)) x in let j = ap (place order) of_it in omega arith) ∙ on.follows.takes d l m v e;
+          takes =
+              λ d l m v e. get_or-set_other o c d true false (λ x. let f = ap (λ y. place order (process_of g y)) x in
+              let j = ap (place order) of_it in omega arith) ∙ on.follows.takes d l m v e;
         }
 
     -- the value of its condition is free exactly if it is active
     free_here : (c : ℕ) → condition_of g p ≡ Some c → is_value_free g (all_values g) o c ≡ is_active here
     free_here c its =
         ap (λ b. b && active g o (process_of g c))
-        (is_in_from (all_values g) (value_variable c) (Contains-map value_variable (numbers_below (condition_count g)) c (Contains-numbers (condition_count g) c (condition_of_below g p c its))))
+        (is_in_from (all_values g) (value_variable c) (Contains-map value_variable (numbers_below (condition_count g)) c
+        (Contains-numbers (condition_count g) c (condition_of_below g p c its))))
         ∙ ap (active g o) (process_of_condition_of g p c its)
         ∙ ap is_active (sym (activation_here g order topological k s are o on.follows p h at))
 
     -- the ways from here are those with the condition false, and those with it true
-    ways_here : (cs : List ℕ) (x : Option ℕ) → condition_of g p ≡ x → (m n : ℕ) → m ≡ many cs o → ((c : ℕ) → x ≡ Some c → n ≡ many cs (set o c true))
+    ways_here : (cs : List ℕ) (x : Option ℕ) → condition_of g p ≡ x → (m n : ℕ) → m ≡ many cs o →
+        ((c : ℕ) → x ≡ Some c → n ≡ many cs (set o c true))
         → m + if_both (choice here x) n ≡ many (option_to_list x ++ cs) o
     ways_here cs None its m n e f = ap (λ y. m + y) (none here) ∙ omega arith
       where
@@ -94,16 +104,20 @@ module _ (g : Graph) (order : List ℕ) (topological : IsTopological g order) (f
         go Plain = f c refl
         go (By i) = f c refl
 
-  counted : (ps : List ℕ) (k : ℕ) (s : List (Option Bool)) (o : List Bool) → drop k order ≡ ps → AreSettled g order k s → IsOnWay k s o
+  counted : (ps : List ℕ) (k : ℕ) (s : List (Option Bool)) (o : List Bool) → drop k order ≡ ps →
+      AreSettled g order k s → IsOnWay k s o
       → tracks_from (map (step_of g) ps) s ≡ many (conditions_along g ps) o
   counted [] k s o e are on = refl
   counted (p ∷ ps) k s o e are on =
       let r = rest_first g order topological k p ps e in
       let f = rest_more g order topological k p ps e in
       ways_here k p s are r.0 r.1 o on (conditions_along g ps) (condition_of g p) refl
-      (tracks_from (map (step_of g) ps) (settled s (step_of g p) false)) (tracks_from (map (step_of g) ps) (settled s (step_of g p) true))
-      (counted ps (k + 1) (settled s (step_of g p) false) o f (settled_next g order topological k s are p r.0 few r.1 false) (stays k p s are r.0 r.1 o on))
-      (λ c its. counted ps (k + 1) (settled s (step_of g p) true) (set o c true) f (settled_next g order topological k s are p r.0 few r.1 true) (turns k p s are r.0 r.1 o on c its))
+      (tracks_from (map (step_of g) ps) (settled s (step_of g p) false))
+      (tracks_from (map (step_of g) ps) (settled s (step_of g p) true))
+      (counted ps (k + 1) (settled s (step_of g p) false) o f
+      (settled_next g order topological k s are p r.0 few r.1 false) (stays k p s are r.0 r.1 o on))
+      (λ c its. counted ps (k + 1) (settled s (step_of g p) true) (set o c true) f
+      (settled_next g order topological k s are p r.0 few r.1 true) (turns k p s are r.0 r.1 o on c its))
 
   pub tracks_counted : tracks_from (map (step_of g) order) (replicate 128 None) ≡ track_count g
   tracks_counted = counted order 0 (replicate 128 None) (all_false g) refl (none_settled g order topological few)

@@ -1,5 +1,6 @@
 -- The guards of edges, and that they say when an edge is live.
-use Rattle.std.proofs.Common.{ℕ, ◌+◌, ◌<◌, ◌≡◌, Bool, false, ◌&&◌, List, [], ◌∷◌, ◌++◌, length, get_or, map, unwrap_or, Option, Some, None, All, IfSome, arith, refl, sym, ap, ap₂, ◌∙◌, subst}
+use Rattle.std.proofs.Common.{ℕ, ◌+◌, ◌<◌, ◌≡◌, Bool, false, ◌&&◌, List, [], ◌∷◌, ◌++◌, length, get_or, map, unwrap_or}
+use Rattle.std.proofs.Common.{Option, Some, None, All, IfSome, arith, refl, sym, ap, ap₂, ◌∙◌, subst}
 use Rattle.std.proofs.lemmas.List.{length-map}
 use Rattle.std.proofs.lemmas.List.Elements.{All-from_get_or}
 use Rattle.std.proofs.lemmas.List.FromFn.{length-range_with_len}
@@ -13,11 +14,13 @@ use Rattle.cpg_order.proofs.Acyclic.{source_in_order}
 use Rattle.cpg_base.proofs.ConditionProcesses.{condition_of_edge, condition_of_process_of, condition_of_below}
 use Rattle.cpg_rules.specs.declared.edges.ValueTest.{ValueTest}
 use Rattle.cpg_rules.specs.declared.edges.EdgeGuard.{EdgeGuard}
-use Rattle.cpg_rules.specs.Guards.{Guards, test_of, edge_guard_of, is_passed, active_by, live_by, AreGuardsOf, IsEdgeBelow}
+use Rattle.cpg_rules.specs.Guards.{Guards, test_of, edge_guard_of, is_passed, active_by, live_by, AreGuardsOf}
+use Rattle.cpg_rules.specs.Guards.{IsEdgeBelow}
 
 -- ---- collecting them
 
-module _ (g : Graph) (edges : List Edge) (are : edges ≡ g.edges) (n : ℕ) (xs : List EdgeGuard) (so_far : xs ≡ map (edge_guard_of g) (numbers_below n)) where
+module _ (g : Graph) (edges : List Edge) (are : edges ≡ g.edges) (n : ℕ) (xs : List EdgeGuard)
+    (so_far : xs ≡ map (edge_guard_of g) (numbers_below n)) where
   -- the edge of the number
   abbrev here : Edge
   here = get_or edges n (record { from = 0; to = 0; size = 0; when = None; frozen = false })
@@ -25,48 +28,69 @@ module _ (g : Graph) (edges : List Edge) (are : edges ≡ g.edges) (n : ℕ) (xs
   at : here ≡ edge_at g n
   at = ap (λ es. get_or es n (record { from = 0; to = 0; size = 0; when = None; frozen = false })) are
 
-  pub one_more_edge : (condition : Option ℕ) (test : Option ValueTest) (ys : List EdgeGuard) → condition ≡ condition_of g here.from → test ≡ test_of condition here.when
-      → ys ≡ xs ++ (record { source = here.from; test = test }) ∷ [] → ys ≡ map (edge_guard_of g) (numbers_below (n + 1))
-  one_more_edge condition test ys c t is = map_below_push (edge_guard_of g) xs ys (record { source = here.from; test = test }) n so_far
+  pub one_more_edge : (condition : Option ℕ) (test : Option ValueTest) (ys : List EdgeGuard) →
+      condition ≡ condition_of g here.from →
+      test ≡ test_of condition here.when
+      → ys ≡ xs ++ (record { source = here.from; test = test }) ∷ [] →
+      ys ≡ map (edge_guard_of g) (numbers_below (n + 1))
+  one_more_edge condition test ys c t is =
+      map_below_push (edge_guard_of g) xs ys (record { source = here.from; test = test }) n so_far
       (ap (λ t. let e : EdgeGuard = record { source = here.from; test = t } in e) (t ∙ ap (λ c. test_of c here.when) c)
-      ∙ ap (λ (d : Edge). let e : EdgeGuard = record { source = d.from; test = test_of (condition_of g d.from) d.when } in e) at)
+      ∙ ap (λ (d : Edge).
+      let e : EdgeGuard = record { source = d.from; test = test_of (condition_of g d.from) d.when } in e) at)
       is
 
 -- ---- what they say
 
 module _ (g : Graph) (order : List ℕ) (topological : IsTopological g order) where
   -- they speak of what there is
-  pub edges_below : All (IsEdgeBelow (process_count g) (condition_count g)) (map (edge_guard_of g) (numbers_below (edge_count g)))
-  edges_below = All-from_get_or (IsEdgeBelow (process_count g) (condition_count g)) (map (edge_guard_of g) (numbers_below (edge_count g))) (record { source = 0; test = None })
-      (λ e l. let within : e < edge_count g = omega (arith, length-map (numbers_below (edge_count g)) (edge_guard_of g), length-range_with_len 0 (edge_count g)) in
-      subst (IsEdgeBelow (process_count g) (condition_count g)) (sym (get_or-map-below (edge_guard_of g) (edge_count g) e (record { source = 0; test = None }) within))
+  pub edges_below : All (IsEdgeBelow (process_count g) (condition_count g))
+      (map (edge_guard_of g) (numbers_below (edge_count g)))
+  edges_below = All-from_get_or (IsEdgeBelow (process_count g) (condition_count g))
+      (map (edge_guard_of g) (numbers_below (edge_count g))) (record { source = 0; test = None })
+      (λ e l. let within : e < edge_count g = omega (
+        arith,
+        length-map (numbers_below (edge_count g)) (edge_guard_of g),
+        length-range_with_len 0 (edge_count g),
+      ) in
+      subst (IsEdgeBelow (process_count g) (condition_count g))
+      (sym (get_or-map-below (edge_guard_of g) (edge_count g) e (record { source = 0; test = None }) within))
       (record { source = source_in_order g order topological e within; test = below (condition_of g (source g e)) (edge_at g e).when (λ c is. condition_of_below g (source g e) c is) }))
     where
-      below : (x : Option ℕ) (w : Option Bool) → ((c : ℕ) → x ≡ Some c → c < condition_count g) → IfSome (test_of x w) (λ t. t.condition < condition_count g)
+      below : (x : Option ℕ) (w : Option Bool) → ((c : ℕ) → x ≡ Some c → c < condition_count g) →
+          IfSome (test_of x w) (λ t. t.condition < condition_count g)
       below None w f = tt
       below (Some c) None f = tt
       below (Some c) (Some v) f = f c refl
 
   -- a test passes if the edge takes the value
-  pub passed : (values : List Bool) (e : ℕ) → e < edge_count g → (x : Option ℕ) → condition_of g (source g e) ≡ x → (w : Option Bool) → (edge_at g e).when ≡ w →
+  pub passed : (values : List Bool) (e : ℕ) → e < edge_count g → (x : Option ℕ) → condition_of g (source g e) ≡ x →
+      (w : Option Bool) →
+      (edge_at g e).when ≡ w →
       is_passed (test_of x w) values ≡ takes w (value_of g values (source g e))
   passed values e h None is None when = refl
   passed values e h (Some c) is None when = refl
   passed values e h None is (Some v) when =
       let d = condition_of_edge g e v h (source_in_order g order topological e h) when in
-      let there : condition_of g (source g e) ≡ Some d.0 = subst (λ q. condition_of g q ≡ Some d.0) d.2 (condition_of_process_of g d.0 d.1) in
+      let there : condition_of g (source g e) ≡ Some d.0 =
+      subst (λ q. condition_of g q ≡ Some d.0) d.2 (condition_of_process_of g d.0 d.1) in
       let never : None ≡ Some d.0 = sym is ∙ there in cc
   passed values e h (Some c) is (Some v) when = ap (λ x. same_bool v (get_or values (unwrap_or x 0) false)) (sym is)
 
-  module _ (guards : Guards) (are : AreGuardsOf g order guards) (values : List Bool) (long : length values ≡ condition_count g) where
+  module _ (guards : Guards) (are : AreGuardsOf g order guards) (values : List Bool)
+      (long : length values ≡ condition_count g) where
     pub active_by-is : (p : ℕ) → p < process_count g → active_by guards values p ≡ active g values p
     active_by-is p h = ap is_active ((are.trees p h).is values long)
 
     pub live_by-is : (e : ℕ) → e < edge_count g → live_by guards values e ≡ live g values e
     live_by-is e h =
         ap (λ x. active_by guards values x.source && is_passed x.test values)
-        (ap (λ xs. get_or xs e (record { source = 0; test = None })) are.edges ∙ get_or-map-below (edge_guard_of g) (edge_count g) e (record { source = 0; test = None }) h)
-        ∙ ap₂ ◌&&◌ (active_by-is (source g e) (source_in_order g order topological e h)) (passed values e h (condition_of g (source g e)) refl (edge_at g e).when refl)
+        (ap (λ xs. get_or xs e (record { source = 0; test = None })) are.edges
+        ∙ get_or-map-below (edge_guard_of g) (edge_count g) e (record { source = 0; test = None }) h)
+        ∙ ap₂ ◌&&◌ (active_by-is (source g e) (source_in_order g order topological e h))
+        (passed values e h (condition_of g (source g e)) refl (edge_at g e).when refl)
 
-pub length-edges : (g : Graph) (order : List ℕ) (guards : Guards) → AreGuardsOf g order guards → length guards.edges ≡ edge_count g
-length-edges g order guards are = ap length are.edges ∙ length-map (numbers_below (edge_count g)) (edge_guard_of g) ∙ length-range_with_len 0 (edge_count g)
+pub length-edges : (g : Graph) (order : List ℕ) (guards : Guards) → AreGuardsOf g order guards →
+    length guards.edges ≡ edge_count g
+length-edges g order guards are = ap length are.edges ∙ length-map (numbers_below (edge_count g)) (edge_guard_of g)
+    ∙ length-range_with_len 0 (edge_count g)

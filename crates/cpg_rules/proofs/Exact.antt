@@ -1,9 +1,11 @@
 -- A graph that keeps all rules shows no fault but that memory runs out.
-use Rattle.std.proofs.Common.{ℕ, ◌<◌, ◌≤◌, ◌≡◌, Bool, true, false, not, ◌&&◌, ◌==◌, List, length, filter, refl, ap, ◌∙◌, subst, arith, inl, inr, eqb-true, ltb-true}
+use Rattle.std.proofs.Common.{ℕ, ◌<◌, ◌≤◌, ◌≡◌, Bool, true, false, not, ◌&&◌, ◌==◌, List, length, filter, refl, ap, ◌∙◌}
+use Rattle.std.proofs.Common.{subst, arith, inl, inr, eqb-true, ltb-true}
 use Rattle.std.specs.Prelude.{nat_lt, IfSome}
 use Rattle.std.proofs.lemmas.Bool.{and_parts, or_cases, both_ways}
 use Rattle.cpg_base.specs.Numbers.{numbers_below}
-use Rattle.cpg_base.specs.Graph.{Graph, edge_count, condition_count, inputs, source, node_of, process_of, producer_of_item, is_message, is_sent_item, message_item, broadcast_item}
+use Rattle.cpg_base.specs.Graph.{Graph, edge_count, condition_count, inputs, source, node_of, process_of}
+use Rattle.cpg_base.specs.Graph.{producer_of_item, is_message, is_sent_item, message_item, broadcast_item}
 use Rattle.cpg_base.specs.Activity.{live}
 use Rattle.cpg_base.specs.WellFormed.{HasSenderSlots}
 use Rattle.cpg_base.proofs.Items.{item_at-message, item_at-broadcast}
@@ -12,20 +14,24 @@ use Rattle.cpg_order.specs.Urgency.{IsTopological}
 use Rattle.cpg_order.proofs.Cycles.{no_cycle}
 use Rattle.cpg_rules.specs.Guards.{Guards}
 use Rattle.cpg_rules.specs.declared.admission.RuleFault.{RuleFault}
-use Rattle.cpg_rules.specs.declared.admission.RuleFault.TheVariants.{Cycle, TooManyTracks, TwoAlternatives, NoSlot, TooBig, BadOrder, OutOfMemory}
+use Rattle.cpg_rules.specs.declared.admission.RuleFault.TheVariants.{Cycle, TooManyTracks, TwoAlternatives, NoSlot}
+use Rattle.cpg_rules.specs.declared.admission.RuleFault.TheVariants.{TooBig, BadOrder, OutOfMemory}
 use Rattle.cpg_rules.specs.Rules.{is_message_of, sends_message, decides, is_sender, has_slot, lacks_slot}
 use Rattle.cpg_rules.specs.Admission.{IsAdmitted}
 use Rattle.cpg_rules.specs.Faults.{ShowsFault}
 use Rattle.cpg_rules.proofs.GivenOrders.{none_bad}
 
 module _ (g : Graph) (senders : HasSenderSlots g) (node : ℕ) where
-  slot_of_message : (e : ℕ) → e < edge_count g → is_message g e ≡ true → node_of g (source g e) ≡ node → has_slot g node ≡ true
+  slot_of_message : (e : ℕ) → e < edge_count g → is_message g e ≡ true → node_of g (source g e) ≡ node →
+      has_slot g node ≡ true
   slot_of_message e l is at =
       let item = item_at-message g e l in
       let slot = senders (message_item g e) (omega arith) (ap (is_sent_item g) item ∙ is) in
       subst (λ n. has_slot g n ≡ true) (ap (λ i. node_of g (producer_of_item g i)) item ∙ at) slot
 
-  slot_of_broadcast : (c : ℕ) → c < condition_count g → nat_lt 1 (length g.nodes) ≡ true → node_of g (process_of g c) ≡ node → has_slot g node ≡ true
+  slot_of_broadcast : (c : ℕ) → c < condition_count g → nat_lt 1 (length g.nodes) ≡ true →
+      node_of g (process_of g c) ≡ node →
+      has_slot g node ≡ true
   slot_of_broadcast c l some at =
       let item = item_at-broadcast g c in
       let slot = senders (broadcast_item g c) (omega arith) (ap (is_sent_item g) item ∙ some) in
@@ -35,10 +41,12 @@ module _ (g : Graph) (senders : HasSenderSlots g) (node : ℕ) where
   slot_of_sender sends = elim (or_cases (sends_message g node) (nat_lt 1 (length g.nodes) && decides g node) sends) [
     | inl m ↦ (let r = list_any_parts (λ e. is_message_of g e node) (numbers_below (edge_count g)) m in
         let p = and_parts (is_message g r.0) (node_of g (source g r.0) == node) r.2 in
-        slot_of_message r.0 (numbers-Contains (edge_count g) r.0 r.1) p.0 (eqb-true (node_of g (source g r.0)) node p.1))
+        slot_of_message r.0 (numbers-Contains (edge_count g) r.0 r.1) p.0
+        (eqb-true (node_of g (source g r.0)) node p.1))
     | inr b ↦ (let q = and_parts (nat_lt 1 (length g.nodes)) (decides g node) b in
         let r = list_any_parts (λ c. node_of g (process_of g c) == node) (numbers_below (condition_count g)) q.1 in
-        slot_of_broadcast r.0 (numbers-Contains (condition_count g) r.0 r.1) q.0 (eqb-true (node_of g (process_of g r.0)) node r.2))
+        slot_of_broadcast r.0 (numbers-Contains (condition_count g) r.0 r.1) q.0
+        (eqb-true (node_of g (process_of g r.0)) node r.2))
   ]
 
   pub no_lack : lacks_slot g node ≡ true → ⊥
@@ -53,12 +61,15 @@ module _ (g : Graph) (senders : HasSenderSlots g) (node : ℕ) where
 two_live : (n : ℕ) → n ≤ 1 → nat_lt 1 n ≡ true → ⊥
 two_live n l t = let h = ltb-true 1 n t in omega arith
 
-pub no_fault : (g : Graph) (order : List ℕ) (trees : Guards) → IsAdmitted g order trees → (fault : RuleFault) → ShowsFault g fault → fault ≡ OutOfMemory
+pub no_fault : (g : Graph) (order : List ℕ) (trees : Guards) → IsAdmitted g order trees → (fault : RuleFault) →
+    ShowsFault g fault →
+    fault ≡ OutOfMemory
 no_fault g order trees is (Cycle walk) shows = absurd (no_cycle g order is.topological (walk, shows))
 no_fault g order trees is TooManyTracks shows = absurd (let l = is.tracks in let m = shows.2 in omega (arith, l, m))
 no_fault g order trees is (TwoAlternatives p s) shows =
     let a = shows.2 in
-    absurd (two_live (length (filter (live g s.values) (inputs g p))) (is.joins p s.values a.within a.join a.least.lawful.values) a.least.holds)
+    absurd (two_live (length (filter (live g s.values) (inputs g p)))
+    (is.joins p s.values a.within a.join a.least.lawful.values) a.least.holds)
 no_fault g order trees is (NoSlot node) shows = absurd (no_lack g is.slots node shows.2.lacks)
 no_fault g order trees is (TooBig e) shows = absurd (both_ways _ (is.sizes e shows.2.within) shows.2.above)
 no_fault g order trees is (BadOrder p) shows =

@@ -1,5 +1,7 @@
--- The order that a graph gives is topological exactly if no process shows that it isn't, and one process at most shows that.
-use Rattle.std.proofs.Common.{ℕ, ◌<◌, ◌≤◌, ◌≡◌, true, false, ◌==◌, List, Some, IfSome, length, get_or, take, Contains, IsPermutation, arith, refl, sym, ap, ◌∙◌, subst, ◌⊎◌, inl, inr, eq-eqb, eqb-true}
+-- The order that a graph gives is topological exactly if no process shows that it isn't, and one process at most shows
+-- that.
+use Rattle.std.proofs.Common.{ℕ, ◌<◌, ◌≤◌, ◌≡◌, true, false, ◌==◌, List, Some, IfSome, length, get_or, take, Contains}
+use Rattle.std.proofs.Common.{IsPermutation, arith, refl, sym, ap, ◌∙◌, subst, ◌⊎◌, inl, inr, eq-eqb, eqb-true}
 use Rattle.std.proofs.lemmas.Bool.{both_ways, cases_eq, cases_lt}
 use Rattle.std.proofs.lemmas.List.{take_all, length-take, get_or-take, get_or_default}
 use Rattle.std.proofs.lemmas.List.Elements.{Contains-get_or}
@@ -8,9 +10,11 @@ use Rattle.cpg_base.specs.Graph.{Graph, process_count, edge_count, source, targe
 use Rattle.cpg_base.specs.Limits.{IsWithinLimits, IsOrderWithin}
 use Rattle.cpg_base.specs.Order.{place, comes_before, IsOrder}
 use Rattle.cpg_base.proofs.Inputs.{inputs_parts}
-use Rattle.cpg_base.proofs.Lists.{Contains-filter, Contains-numbers, numbers-Contains, list_any_true, list_any_false, list_any_parts, from_any_false}
+use Rattle.cpg_base.proofs.Lists.{Contains-filter, Contains-numbers, numbers-Contains, list_any_true, list_any_false}
+use Rattle.cpg_base.proofs.Lists.{list_any_parts, from_any_false}
 use Rattle.cpg_base.proofs.Pairs.{permutation_of_same, numbers_apart}
-use Rattle.cpg_base.proofs.Places.{apart, comes_before_from, places_from_comes_before, before_contains, place-le, get_or-place, length_order, Contains-order, from_order}
+use Rattle.cpg_base.proofs.Places.{apart, comes_before_from, places_from_comes_before, before_contains, place-le}
+use Rattle.cpg_base.proofs.Places.{get_or-place, length_order, Contains-order, from_order}
 use Rattle.cpg_order.specs.Reach.{is_in}
 use Rattle.cpg_order.specs.Urgency.{IsTopological}
 use Rattle.cpg_order.proofs.Acyclic.{edge_goes_up, input_goes_up}
@@ -20,7 +24,8 @@ use Rattle.cpg_rules.specs.Given.{GivesTopological, LacksNone, IsLacking, is_ear
 -- an edge is an input of its target
 input_of_target : (g : Graph) (e : ℕ) → e < edge_count g → Contains (inputs g (target g e)) e
 input_of_target g e l =
-    Contains-filter (λ f. target g f == target g e) (numbers_below (edge_count g)) e (eq-eqb (target g e) (target g e) refl) (Contains-numbers (edge_count g) e l)
+    Contains-filter (λ f. target g f == target g e) (numbers_below (edge_count g)) e
+    (eq-eqb (target g e) (target g e) refl) (Contains-numbers (edge_count g) e l)
 
 module _ (g : Graph) (list : List ℕ) where
   there : LacksNone g list → (p : ℕ) → p < process_count g → Contains list p
@@ -28,12 +33,17 @@ module _ (g : Graph) (list : List ℕ) where
 
   -- ---- what is found edge by edge
 
-  pub early_by : (p e : ℕ) → e < edge_count g → target g e ≡ p → comes_before list p (source g e) ≡ true → is_early g list p ≡ true
+  pub early_by : (p e : ℕ) → e < edge_count g → target g e ≡ p → comes_before list p (source g e) ≡ true →
+      is_early g list p ≡ true
   early_by p e l at before =
-      list_any_true (λ f. comes_before list p (source g f)) (inputs g p) e (subst (λ q. Contains (inputs g q) e) at (input_of_target g e l)) before
+      list_any_true (λ f. comes_before list p (source g f)) (inputs g p) e
+      (subst (λ q. Contains (inputs g q) e) at (input_of_target g e l)) before
 
-  pub early_by_none : (p : ℕ) → ((e : ℕ) → e < edge_count g → target g e ≡ p → comes_before list p (source g e) ≡ false) → is_early g list p ≡ false
-  early_by_none p none = list_any_false (λ f. comes_before list p (source g f)) (inputs g p) (λ e c. let r = inputs_parts g p e c in none e r.0 r.1)
+  pub early_by_none : (p : ℕ) →
+      ((e : ℕ) → e < edge_count g → target g e ≡ p → comes_before list p (source g e) ≡ false) →
+      is_early g list p ≡ false
+  early_by_none p none = list_any_false (λ f. comes_before list p (source g f)) (inputs g p)
+      (λ e c. let r = inputs_parts g p e c in none e r.0 r.1)
 
   -- ---- what is found place by place
 
@@ -42,9 +52,13 @@ module _ (g : Graph) (list : List ℕ) where
     in_list p l = Contains-order (length list) list lawful.all p (omega (arith, long, l))
 
     pub at_place : (i : ℕ) → i < length list → get_or list i 0 < process_count g
-    at_place i l = let below = from_order (length list) list lawful.all (get_or list i 0) (Contains-get_or list i 0 l) in omega (arith, below, long)
+    at_place i l =
+        let below = from_order (length list) list lawful.all (get_or list i 0) (Contains-get_or list i 0 l) in
+        omega (arith, below, long)
 
-    pub early_first : (i : ℕ) → i < length list → ((q : ℕ) → Contains (take i list) q → is_early g list q ≡ false) → is_early g list (get_or list i 0) ≡ true → IsFirstEarly g list (get_or list i 0)
+    pub early_first : (i : ℕ) → i < length list → ((q : ℕ) → Contains (take i list) q → is_early g list q ≡ false) →
+        is_early g list (get_or list i 0) ≡ true →
+        IsFirstEarly g list (get_or list i 0)
     early_first i l before early = record {
       all = λ p m. is_in_from list p (in_list p m);
       within = at_place i l;
@@ -57,10 +71,15 @@ module _ (g : Graph) (list : List ℕ) where
             let c = before_contains list q (get_or list i 0) earlier in
             let first = places_from_comes_before list q (get_or list i 0) earlier in
             let here = place-le list (get_or list i 0) i l (get_or_default list i (get_or list i 0) 0 l) in
-            let cut = length-take i list in
-            (place list q, omega (arith, first, here, l, cut), get_or-take i list (place list q) q (omega (arith, first, here)) ∙ get_or-place list q q c)
+            let cut = length-take i list in (
+              place list q,
+              omega (arith, first, here, l, cut),
+              get_or-take i list (place list q) q (omega (arith, first, here)) ∙ get_or-place list q q c,
+            )
 
-    pub early_nowhere : (i : ℕ) → length list ≤ i → ((q : ℕ) → Contains (take i list) q → is_early g list q ≡ false) → (p : ℕ) → p < process_count g → is_early g list p ≡ false
+    pub early_nowhere : (i : ℕ) → length list ≤ i → ((q : ℕ) → Contains (take i list) q → is_early g list q ≡ false) →
+        (p : ℕ) → p < process_count g →
+        is_early g list p ≡ false
     early_nowhere i past before p l = before p (subst (λ xs. Contains xs p) (sym (take_all i list past)) (in_list p l))
 
   -- ---- a list that shows none is topological
@@ -75,9 +94,14 @@ module _ (g : Graph) (list : List ℕ) where
     whole_long = length_order (process_count g) list each_once
 
     pub order_lawful : IsWithinLimits g → IsOrder list
-    order_lawful limits = record { few = omega (arith, whole_long, limits.few_processes); all = subst (λ n. IsPermutation (numbers_below n) list) (sym whole_long) each_once }
+    order_lawful limits = record {
+      few = omega (arith, whole_long, limits.few_processes);
+      all = subst (λ n. IsPermutation (numbers_below n) list) (sym whole_long) each_once;
+    }
 
-    pub none_early : (order : List ℕ) → IsTopological g order → IsWithinLimits g → ((p : ℕ) → p < process_count g → is_early g list p ≡ false) → IsTopological g list
+    pub none_early : (order : List ℕ) → IsTopological g order → IsWithinLimits g →
+        ((p : ℕ) → p < process_count g → is_early g list p ≡ false) →
+        IsTopological g list
     none_early order topological limits late = record {
       all = each_once;
       forward = λ e c. first e (numbers-Contains (edge_count g) e c);
@@ -87,17 +111,20 @@ module _ (g : Graph) (list : List ℕ) where
         first e l =
             let ends = limits.edges e _ l in
             let up = edge_goes_up g order topological e l in
-            elim (apart list (source g e) (target g e) (there all (source g e) ends.from) (there all (target g e) ends.to) (λ same. let s = ap (place order) same in omega (arith, up, s))) [
+            elim (apart list (source g e) (target g e) (there all (source g e) ends.from)
+            (there all (target g e) ends.to) (λ same. let s = ap (place order) same in omega (arith, up, s))) [
               | inl c ↦ comes_before_from list (source g e) (target g e) c
               | inr c ↦ absurd (both_ways (comes_before list (target g e) (source g e))
-                  (from_any_false (λ f. comes_before list (target g e) (source g f)) (inputs g (target g e)) e (late (target g e) ends.to) (input_of_target g e l))
+                  (from_any_false (λ f. comes_before list (target g e) (source g f)) (inputs g (target g e)) e
+                  (late (target g e) ends.to) (input_of_target g e l))
                   (comes_before_from list (target g e) (source g e) c))
             ]
 
   -- ---- and a topological one shows none
 
   pub none_bad : IsTopological g list → (p : ℕ) → IsLacking g list p ⊎ IsFirstEarly g list p → ⊥
-  none_bad topological p (inl lacking) = both_ways (is_in list p) lacking.lacks (is_in_from list p (Contains-order (process_count g) list topological.all p lacking.within))
+  none_bad topological p (inl lacking) = both_ways (is_in list p) lacking.lacks
+      (is_in_from list p (Contains-order (process_count g) list topological.all p lacking.within))
   none_bad topological p (inr early) =
       let r = list_any_parts (λ e. comes_before list p (source g e)) (inputs g p) early.early in
       let up = input_goes_up g list topological p r.0 r.1 in
@@ -124,7 +151,8 @@ module _ (g : Graph) (list : List ℕ) where
     ]
   ]
 
-  one_of_list : (p q : ℕ) → IsLacking g list p ⊎ IsFirstEarly g list p → IsLacking g list q ⊎ IsFirstEarly g list q → p ≡ q
+  one_of_list : (p q : ℕ) → IsLacking g list p ⊎ IsFirstEarly g list p → IsLacking g list q ⊎ IsFirstEarly g list q →
+      p ≡ q
   one_of_list p q (inl a) (inl b) = one_lacking p q a b
   one_of_list p q (inl a) (inr b) = absurd (both_ways (is_in list p) a.lacks (b.all p a.within))
   one_of_list p q (inr a) (inl b) = absurd (both_ways (is_in list q) b.lacks (a.all q b.within))

@@ -10,18 +10,23 @@ use Rattle.cpg_rules.specs.Composing.{composed_along}
 use Rattle.cpg_rules.specs.Guards.{Guards, edge_guard_of, AreGuardsOf}
 use Rattle.cpg_rules.proofs.Composed.{place_ranks, length_composed, composed_guards}
 
-pub made : (g : Graph) (order : List ℕ) → IsTopological g order → (ranks : List ℕ) → ranks ≡ place_ranks g order → (steps : List ActivationStep) → steps ≡ map (step_of g) order
+pub made : (g : Graph) (order : List ℕ) → IsTopological g order → (ranks : List ℕ) → ranks ≡ place_ranks g order →
+    (steps : List ActivationStep) →
+    steps ≡ map (step_of g) order
     → (seeds : List Guard) → seeds ≡ replicate (process_count g) (Leaf Inactive)
     → (guards : Guards) → guards.conditions ≡ condition_count g → guards.trees ≡ composed_along g ranks steps seeds
     → guards.edges ≡ map (edge_guard_of g) (numbers_below (edge_count g))
     → AreGuardsOf g order guards
 made g order topological ranks by_place steps along seeds inactive guards conditions trees edges =
-    let is : guards.trees ≡ composed_along g (place_ranks g order) (map (step_of g) order) (replicate (process_count g) (Leaf Inactive)) =
-    trees ∙ ap (composed_along g ranks steps) inactive ∙ ap (λ r. composed_along g r steps (replicate (process_count g) (Leaf Inactive))) by_place
+    let is : guards.trees
+    ≡ composed_along g (place_ranks g order) (map (step_of g) order) (replicate (process_count g) (Leaf Inactive)) =
+    trees ∙ ap (composed_along g ranks steps) inactive
+    ∙ ap (λ r. composed_along g r steps (replicate (process_count g) (Leaf Inactive))) by_place
     ∙ ap (λ s. composed_along g (place_ranks g order) s (replicate (process_count g) (Leaf Inactive))) along in
     record {
       conditions = conditions;
       count = ap length is ∙ length_composed g order topological;
-      trees = λ p h. subst (λ ts. IsGuardOf g order p (get_or ts p (Leaf Inactive))) (sym is) (composed_guards g order topological p h);
+      trees = λ p h. subst (λ ts. IsGuardOf g order p (get_or ts p (Leaf Inactive))) (sym is)
+          (composed_guards g order topological p h);
       edges = edges;
     }

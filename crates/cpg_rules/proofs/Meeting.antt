@@ -1,5 +1,6 @@
 -- What composed trees come to, in which order they test, and that they are reduced.
-use Rattle.std.proofs.Common.{ℕ, ◌+◌, ◌<◌, ◌≤◌, ◌≡◌, ◌≢◌, Bool, true, false, ◌&&◌, ◌==◌, if◌then◌else◌, List, length, get_or, Option, Some, None, arith, refl, sym, ap, ◌∙◌, subst, eqb-true, ltb-true}
+use Rattle.std.proofs.Common.{ℕ, ◌+◌, ◌<◌, ◌≤◌, ◌≡◌, ◌≢◌, Bool, true, false, ◌&&◌, ◌==◌, if◌then◌else◌, List, length}
+use Rattle.std.proofs.Common.{get_or, Option, Some, None, arith, refl, sym, ap, ◌∙◌, subst, eqb-true, ltb-true}
 use Rattle.std.proofs.Common.{ltb-false}
 use Rattle.std.specs.Bool.{nat_lt}
 use Rattle.std.proofs.lemmas.Bool.{both_ways, eqb-false}
@@ -21,18 +22,22 @@ abbrev pub first_settling : Bool → Activation → Activation → Activation
 first_settling join a b = if settles join a then a else b
 
 module _ (o : List Bool) where
-  tested_at : (c : ℕ) (off on : Guard) → outcome_at (tested c off on) o ≡ (if get_or o c false then outcome_at on o else outcome_at off o)
+  tested_at : (c : ℕ) (off on : Guard) →
+      outcome_at (tested c off on) o ≡ (if get_or o c false then outcome_at on o else outcome_at off o)
   tested_at c off on = go (same_guard off on) refl
     where
       one_tree : off ≡ on → (v : Bool) → outcome_at off o ≡ (if v then outcome_at on o else outcome_at off o)
       one_tree e true = ap (λ t. outcome_at t o) e
       one_tree e false = refl
 
-      go : (b : Bool) → same_guard off on ≡ b → outcome_at (if b then off else Test c off on) o ≡ (if get_or o c false then outcome_at on o else outcome_at off o)
+      go : (b : Bool) → same_guard off on ≡ b →
+          outcome_at (if b then off else Test c off on) o
+          ≡ (if get_or o c false then outcome_at on o else outcome_at off o)
       go true e = one_tree (same_guard-is off on e) (get_or o c false)
       go false e = refl
 
-  passing_at : (a : Activation) (x : Option ValueTest) → outcome_at (passing a x) o ≡ (if is_passed x o then a else Inactive)
+  passing_at : (a : Activation) (x : Option ValueTest) →
+      outcome_at (passing a x) o ≡ (if is_passed x o then a else Inactive)
   passing_at a None = refl
   passing_at a (Some t) = go t.value
     where
@@ -44,22 +49,29 @@ module _ (o : List Bool) where
       no_at true = refl
       no_at false = refl
 
-      go : (w : Bool) → outcome_at (if w then tested t.condition (Leaf Inactive) (Leaf a) else tested t.condition (Leaf a) (Leaf Inactive)) o ≡
+      go : (w : Bool) →
+          outcome_at (if w then tested t.condition (Leaf Inactive) (Leaf a)
+          else tested t.condition (Leaf a) (Leaf Inactive)) o ≡
           (if same_bool w (get_or o t.condition false) then a else Inactive)
       go true = tested_at t.condition (Leaf Inactive) (Leaf a) ∙ yes_at (get_or o t.condition false)
       go false = tested_at t.condition (Leaf a) (Leaf Inactive) ∙ no_at (get_or o t.condition false)
 
-  pub live_tree_at : (a : Activation) (x : Option ValueTest) (t : Guard) → outcome_at (live_tree a x t) o ≡ (if is_active (outcome_at t o) && is_passed x o then a else Inactive)
+  pub live_tree_at : (a : Activation) (x : Option ValueTest) (t : Guard) →
+      outcome_at (live_tree a x t) o ≡ (if is_active (outcome_at t o) && is_passed x o then a else Inactive)
   live_tree_at a x (Leaf b) = go (is_active b)
     where
-      go : (v : Bool) → outcome_at (if v then passing a x else Leaf Inactive) o ≡ (if v && is_passed x o then a else Inactive)
+      go : (v : Bool) →
+          outcome_at (if v then passing a x else Leaf Inactive) o ≡ (if v && is_passed x o then a else Inactive)
       go true = passing_at a x
       go false = refl
-  live_tree_at a x (Test c off on) = tested_at c (live_tree a x off) (live_tree a x on) ∙ go (get_or o c false) (live_tree_at a x off) (live_tree_at a x on)
+  live_tree_at a x (Test c off on) = tested_at c (live_tree a x off) (live_tree a x on)
+      ∙ go (get_or o c false) (live_tree_at a x off) (live_tree_at a x on)
     where
-      go : (v : Bool) → outcome_at (live_tree a x off) o ≡ (if is_active (outcome_at off o) && is_passed x o then a else Inactive)
+      go : (v : Bool) →
+          outcome_at (live_tree a x off) o ≡ (if is_active (outcome_at off o) && is_passed x o then a else Inactive)
           → outcome_at (live_tree a x on) o ≡ (if is_active (outcome_at on o) && is_passed x o then a else Inactive)
-          → (if v then outcome_at (live_tree a x on) o else outcome_at (live_tree a x off) o) ≡ (if is_active (if v then outcome_at on o else outcome_at off o) && is_passed x o then a else Inactive)
+          → (if v then outcome_at (live_tree a x on) o else outcome_at (live_tree a x off) o)
+          ≡ (if is_active (if v then outcome_at on o else outcome_at off o) && is_passed x o then a else Inactive)
       go true h k = k
       go false h k = h
 
@@ -71,16 +83,24 @@ module _ (o : List Bool) where
       abbrev mine : Activation
       mine = if get_or o c false then high else low
 
-      own : (t : Guard) → (v : Bool) → (if v then outcome_at (on t) o else outcome_at (off t) o) ≡ first_settling join (if v then high else low) (outcome_at t o)
+      own : (t : Guard) → (v : Bool) →
+          (if v then outcome_at (on t) o else outcome_at (off t) o)
+          ≡ first_settling join (if v then high else low) (outcome_at t o)
       own t true = at_on t
       own t false = at_off t
 
       at_once : (d : ℕ) (s t : Guard) → c ≡ d → (v : Bool) → get_or o c false ≡ v
-          → (if v then outcome_at (on t) o else outcome_at (off s) o) ≡ first_settling join (if v then high else low) (if get_or o d false then outcome_at t o else outcome_at s o)
-      at_once d s t e true is = at_on t ∙ ap (λ w. first_settling join high (if w then outcome_at t o else outcome_at s o)) (sym is ∙ ap (λ x. get_or o x false) e)
-      at_once d s t e false is = at_off s ∙ ap (λ w. first_settling join low (if w then outcome_at t o else outcome_at s o)) (sym is ∙ ap (λ x. get_or o x false) e)
+          → (if v then outcome_at (on t) o else outcome_at (off s) o) ≡ first_settling join (if v then high else low)
+          (if get_or o d false then outcome_at t o else outcome_at s o)
+      at_once d s t e true is =
+          at_on t ∙ ap (λ w. first_settling join high (if w then outcome_at t o else outcome_at s o))
+          (sym is ∙ ap (λ x. get_or o x false) e)
+      at_once d s t e false is =
+          at_off s ∙ ap (λ w. first_settling join low (if w then outcome_at t o else outcome_at s o))
+          (sym is ∙ ap (λ x. get_or o x false) e)
 
-      sooner : (x y p q : Activation) → x ≡ first_settling join mine p → y ≡ first_settling join mine q → (w : Bool) → (if w then y else x) ≡ first_settling join mine (if w then q else p)
+      sooner : (x y p q : Activation) → x ≡ first_settling join mine p → y ≡ first_settling join mine q → (w : Bool) →
+          (if w then y else x) ≡ first_settling join mine (if w then q else p)
       sooner x y p q h k true = k
       sooner x y p q h k false = h
 
@@ -88,29 +108,35 @@ module _ (o : List Bool) where
       against_at (Leaf b) = tested_at c (off (Leaf b)) (on (Leaf b)) ∙ own (Leaf b) (get_or o c false)
       against_at (Test d s t) = go (c == d) (nat_lt (rank ranks d) (rank ranks c)) refl (against_at s) (against_at t)
         where
-          go : (a b : Bool) → (c == d) ≡ a → outcome_at (against ranks c off on s) o ≡ first_settling join mine (outcome_at s o) →
+          go : (a b : Bool) → (c == d) ≡ a →
+              outcome_at (against ranks c off on s) o ≡ first_settling join mine (outcome_at s o) →
               outcome_at (against ranks c off on t) o ≡ first_settling join mine (outcome_at t o)
-              → outcome_at (if a then tested c (off s) (on t) else (if b then tested d (against ranks c off on s) (against ranks c off on t) else tested c (off (Test d s t)) (on (Test d s t)))) o
+              → outcome_at (if a then tested c (off s) (on t) else (if b then tested d (against ranks c off on s)
+              (against ranks c off on t) else tested c (off (Test d s t)) (on (Test d s t)))) o
               ≡ first_settling join mine (if get_or o d false then outcome_at t o else outcome_at s o)
           go true b e h k = tested_at c (off s) (on t) ∙ at_once d s t (eqb-true c d e) (get_or o c false) refl
           go false true e h k = tested_at d (against ranks c off on s) (against ranks c off on t)
-              ∙ sooner (outcome_at (against ranks c off on s) o) (outcome_at (against ranks c off on t) o) (outcome_at s o) (outcome_at t o) h k (get_or o d false)
+              ∙ sooner (outcome_at (against ranks c off on s) o) (outcome_at (against ranks c off on t) o)
+              (outcome_at s o) (outcome_at t o) h k (get_or o d false)
           go false false e h k = tested_at c (off (Test d s t)) (on (Test d s t)) ∙ own (Test d s t) (get_or o c false)
 
-    pub met_at : (s t : Guard) → outcome_at (met join ranks s t) o ≡ first_settling join (outcome_at s o) (outcome_at t o)
+    pub met_at : (s t : Guard) →
+        outcome_at (met join ranks s t) o ≡ first_settling join (outcome_at s o) (outcome_at t o)
     met_at (Leaf a) t = go (settles join a)
       where
         go : (v : Bool) → outcome_at (if v then Leaf a else t) o ≡ (if v then a else outcome_at t o)
         go true = refl
         go false = refl
-    met_at (Test c off on) t = against_at c (met join ranks off) (met join ranks on) (outcome_at off o) (outcome_at on o) (λ u. met_at off u) (λ u. met_at on u) t
+    met_at (Test c off on) t = against_at c (met join ranks off) (met join ranks on) (outcome_at off o)
+        (outcome_at on o) (λ u. met_at off u) (λ u. met_at on u) t
 
 -- ---- the order of their tests
 
 -- the tests are of conditions with ranks from one below another, greater ones further down
 abbrev pub IsRanked : List ℕ → ℕ → ℕ → Guard → Type 0
 IsRanked ranks k m (Leaf a) = Unit {0}
-IsRanked ranks k m (Test c off on) = (c < length ranks) × (k ≤ rank ranks c) × (rank ranks c < m) × IsRanked ranks (rank ranks c + 1) m off × IsRanked ranks (rank ranks c + 1) m on
+IsRanked ranks k m (Test c off on) = (c < length ranks) × (k ≤ rank ranks c) × (rank ranks c < m) ×
+    IsRanked ranks (rank ranks c + 1) m off × IsRanked ranks (rank ranks c + 1) m on
 
 module _ (ranks : List ℕ) where
   ranked_from : (k l m : ℕ) (t : Guard) → k ≤ l → IsRanked ranks l m t → IsRanked ranks k m t
@@ -119,9 +145,17 @@ module _ (ranks : List ℕ) where
 
   pub ranked_to : (k m n : ℕ) (t : Guard) → m ≤ n → IsRanked ranks k m t → IsRanked ranks k n t
   ranked_to k m n (Leaf a) h r = tt
-  ranked_to k m n (Test c off on) h r = (r.0, r.1, (let a = r.2 in omega arith), ranked_to (rank ranks c + 1) m n off h r.3, ranked_to (rank ranks c + 1) m n on h r.4)
+  ranked_to k m n (Test c off on) h r = (
+    r.0,
+    r.1,
+    (let a = r.2 in omega arith),
+    ranked_to (rank ranks c + 1) m n off h r.3,
+    ranked_to (rank ranks c + 1) m n on h r.4,
+  )
 
-  tested_ranked : (k m c : ℕ) (off on : Guard) → c < length ranks → k ≤ rank ranks c → rank ranks c < m → IsRanked ranks (rank ranks c + 1) m off → IsRanked ranks (rank ranks c + 1) m on
+  tested_ranked : (k m c : ℕ) (off on : Guard) → c < length ranks → k ≤ rank ranks c → rank ranks c < m →
+      IsRanked ranks (rank ranks c + 1) m off →
+      IsRanked ranks (rank ranks c + 1) m on
       → IsRanked ranks k m (tested c off on)
   tested_ranked k m c off on within h l r q = go (same_guard off on)
     where
@@ -135,18 +169,23 @@ module _ (ranks : List ℕ) where
     pub from : (t : ValueTest) → x ≡ Some t → m ≤ rank ranks t.condition
     pub to : (t : ValueTest) → x ≡ Some t → rank ranks t.condition < n
 
-  passing_ranked : (k m n : ℕ) (a : Activation) (x : Option ValueTest) → IsRankedTest m n x → k ≤ m → IsRanked ranks k n (passing a x)
+  passing_ranked : (k m n : ℕ) (a : Activation) (x : Option ValueTest) → IsRankedTest m n x → k ≤ m →
+      IsRanked ranks k n (passing a x)
   passing_ranked k m n a None r h = tt
   passing_ranked k m n a (Some t) r h = go t.value
     where
       low : k ≤ rank ranks t.condition
       low = let f = r.from t refl in omega arith
 
-      go : (w : Bool) → IsRanked ranks k n (if w then tested t.condition (Leaf Inactive) (Leaf a) else tested t.condition (Leaf a) (Leaf Inactive))
+      go : (w : Bool) →
+          IsRanked ranks k n
+          (if w then tested t.condition (Leaf Inactive) (Leaf a) else tested t.condition (Leaf a) (Leaf Inactive))
       go true = tested_ranked k n t.condition (Leaf Inactive) (Leaf a) (r.within t refl) low (r.to t refl) tt tt
       go false = tested_ranked k n t.condition (Leaf a) (Leaf Inactive) (r.within t refl) low (r.to t refl) tt tt
 
-  pub live_tree_ranked : (k m n : ℕ) (a : Activation) (x : Option ValueTest) (t : Guard) → IsRankedTest m n x → k ≤ m → m ≤ n → IsRanked ranks k m t → IsRanked ranks k n (live_tree a x t)
+  pub live_tree_ranked : (k m n : ℕ) (a : Activation) (x : Option ValueTest) (t : Guard) → IsRankedTest m n x → k ≤ m →
+      m ≤ n → IsRanked ranks k m t →
+      IsRanked ranks k n (live_tree a x t)
   live_tree_ranked k m n a x (Leaf b) r h l s = go (is_active b)
     where
       go : (v : Bool) → IsRanked ranks k n (if v then passing a x else Leaf Inactive)
@@ -162,8 +201,10 @@ module _ (ranks : List ℕ) where
     module _ (c : ℕ) (within : c < length ranks) (below : rank ranks c < m) (off on : Guard → Guard)
         (of_off : (t : Guard) → IsRanked ranks (rank ranks c + 1) m t → IsRanked ranks (rank ranks c + 1) m (off t))
         (of_on : (t : Guard) → IsRanked ranks (rank ranks c + 1) m t → IsRanked ranks (rank ranks c + 1) m (on t)) where
-      against_ranked : (k : ℕ) (t : Guard) → k ≤ rank ranks c → IsRanked ranks k m t → IsRanked ranks k m (against ranks c off on t)
-      against_ranked k (Leaf b) h r = tested_ranked k m c (off (Leaf b)) (on (Leaf b)) within h below (of_off (Leaf b) tt) (of_on (Leaf b) tt)
+      against_ranked : (k : ℕ) (t : Guard) → k ≤ rank ranks c → IsRanked ranks k m t →
+          IsRanked ranks k m (against ranks c off on t)
+      against_ranked k (Leaf b) h r =
+          tested_ranked k m c (off (Leaf b)) (on (Leaf b)) within h below (of_off (Leaf b) tt) (of_on (Leaf b) tt)
       against_ranked k (Test d s t) h r = go (c == d) (nat_lt (rank ranks d) (rank ranks c)) refl refl
           (λ l. against_ranked (rank ranks d + 1) s l r.3) (λ l. against_ranked (rank ranks d + 1) t l r.4)
         where
@@ -171,7 +212,8 @@ module _ (ranks : List ℕ) where
               → (rank ranks d + 1 ≤ rank ranks c → IsRanked ranks (rank ranks d + 1) m (against ranks c off on s)) →
               (rank ranks d + 1 ≤ rank ranks c → IsRanked ranks (rank ranks d + 1) m (against ranks c off on t))
               → IsRanked ranks k m (if a then tested c (off s) (on t) else
-              (if b then tested d (against ranks c off on s) (against ranks c off on t) else tested c (off (Test d s t)) (on (Test d s t))))
+              (if b then tested d (against ranks c off on s) (against ranks c off on t)
+              else tested c (off (Test d s t)) (on (Test d s t))))
           go true b e f low high =
               let same = eqb-true c d e in
               tested_ranked k m c (off s) (on t) within h below
@@ -179,21 +221,26 @@ module _ (ranks : List ℕ) where
               (of_on t (subst (λ x. IsRanked ranks (rank ranks x + 1) m t) (sym same) r.4))
           go false true e f low high =
               let l : rank ranks d < rank ranks c = ltb-true (rank ranks d) (rank ranks c) f in
-              tested_ranked k m d (against ranks c off on s) (against ranks c off on t) r.0 r.1 r.2 (low (omega arith)) (high (omega arith))
+              tested_ranked k m d (against ranks c off on s) (against ranks c off on t) r.0 r.1 r.2 (low (omega arith))
+              (high (omega arith))
           go false false e f low high =
               let l : rank ranks c ≤ rank ranks d = ltb-false (rank ranks d) (rank ranks c) f in
               let differ : rank ranks c ≢ rank ranks d = λ same. eqb-false c d e (apart c d within r.0 same) in
-              let later : IsRanked ranks (rank ranks c + 1) m (Test d s t) = (r.0, omega (arith, differ), r.2, r.3, r.4) in
-              tested_ranked k m c (off (Test d s t)) (on (Test d s t)) within h below (of_off (Test d s t) later) (of_on (Test d s t) later)
+              let later : IsRanked ranks (rank ranks c + 1) m (Test d s t) =
+              (r.0, omega (arith, differ), r.2, r.3, r.4) in
+              tested_ranked k m c (off (Test d s t)) (on (Test d s t)) within h below (of_off (Test d s t) later)
+              (of_on (Test d s t) later)
 
-    pub met_ranked : (join : Bool) (k : ℕ) (s t : Guard) → IsRanked ranks k m s → IsRanked ranks k m t → IsRanked ranks k m (met join ranks s t)
+    pub met_ranked : (join : Bool) (k : ℕ) (s t : Guard) → IsRanked ranks k m s → IsRanked ranks k m t →
+        IsRanked ranks k m (met join ranks s t)
     met_ranked join k (Leaf a) t r q = go (settles join a)
       where
         go : (v : Bool) → IsRanked ranks k m (if v then Leaf a else t)
         go true = tt
         go false = q
     met_ranked join k (Test c off on) t r q = against_ranked c r.0 r.2 (met join ranks off) (met join ranks on)
-        (λ u h. met_ranked join (rank ranks c + 1) off u r.3 h) (λ u h. met_ranked join (rank ranks c + 1) on u r.4 h) k t r.1 q
+        (λ u h. met_ranked join (rank ranks c + 1) off u r.3 h)
+        (λ u h. met_ranked join (rank ranks c + 1) on u r.4 h) k t r.1 q
 
 -- ---- they are reduced
 
@@ -202,13 +249,19 @@ tested_reduced c off on h j = go (same_guard off on) refl
   where
     go : (b : Bool) → same_guard off on ≡ b → IsReduced (if b then off else Test c off on)
     go true e = h
-    go false e = (λ same. both_ways (same_guard off on) e (subst (λ t. same_guard off t ≡ true) same (same_guard-refl off)), h, j)
+    go false e = (
+      λ same. both_ways (same_guard off on) e (subst (λ t. same_guard off t ≡ true) same (same_guard-refl off)),
+      h,
+      j,
+    )
 
 passing_reduced : (a : Activation) (x : Option ValueTest) → IsReduced (passing a x)
 passing_reduced a None = tt
 passing_reduced a (Some t) = go t.value
   where
-    go : (w : Bool) → IsReduced (if w then tested t.condition (Leaf Inactive) (Leaf a) else tested t.condition (Leaf a) (Leaf Inactive))
+    go : (w : Bool) →
+        IsReduced (if w then tested t.condition (Leaf Inactive) (Leaf a)
+        else tested t.condition (Leaf a) (Leaf Inactive))
     go true = tested_reduced t.condition (Leaf Inactive) (Leaf a) tt tt
     go false = tested_reduced t.condition (Leaf a) (Leaf Inactive) tt tt
 
@@ -218,24 +271,31 @@ live_tree_reduced a x (Leaf b) = go (is_active b)
     go : (v : Bool) → IsReduced (if v then passing a x else Leaf Inactive)
     go true = passing_reduced a x
     go false = tt
-live_tree_reduced a x (Test c off on) = tested_reduced c (live_tree a x off) (live_tree a x on) (live_tree_reduced a x off) (live_tree_reduced a x on)
+live_tree_reduced a x (Test c off on) =
+    tested_reduced c (live_tree a x off) (live_tree a x on) (live_tree_reduced a x off) (live_tree_reduced a x on)
 
-module _ (ranks : List ℕ) (c : ℕ) (off on : Guard → Guard) (of_off : (t : Guard) → IsReduced t → IsReduced (off t)) (of_on : (t : Guard) → IsReduced t → IsReduced (on t)) where
+module _ (ranks : List ℕ) (c : ℕ) (off on : Guard → Guard) (of_off : (t : Guard) → IsReduced t → IsReduced (off t))
+    (of_on : (t : Guard) → IsReduced t → IsReduced (on t)) where
   against_reduced : (t : Guard) → IsReduced t → IsReduced (against ranks c off on t)
   against_reduced (Leaf b) r = tested_reduced c (off (Leaf b)) (on (Leaf b)) (of_off (Leaf b) tt) (of_on (Leaf b) tt)
-  against_reduced (Test d s t) r = go (c == d) (nat_lt (rank ranks d) (rank ranks c)) (against_reduced s r.1) (against_reduced t r.2)
+  against_reduced (Test d s t) r =
+      go (c == d) (nat_lt (rank ranks d) (rank ranks c)) (against_reduced s r.1) (against_reduced t r.2)
     where
       go : (a b : Bool) → IsReduced (against ranks c off on s) → IsReduced (against ranks c off on t)
-          → IsReduced (if a then tested c (off s) (on t) else (if b then tested d (against ranks c off on s) (against ranks c off on t) else tested c (off (Test d s t)) (on (Test d s t))))
+          → IsReduced (if a then tested c (off s) (on t) else (if b then tested d (against ranks c off on s)
+          (against ranks c off on t) else tested c (off (Test d s t)) (on (Test d s t))))
       go true b h k = tested_reduced c (off s) (on t) (of_off s r.1) (of_on t r.2)
       go false true h k = tested_reduced d (against ranks c off on s) (against ranks c off on t) h k
-      go false false h k = tested_reduced c (off (Test d s t)) (on (Test d s t)) (of_off (Test d s t) r) (of_on (Test d s t) r)
+      go false false h k =
+          tested_reduced c (off (Test d s t)) (on (Test d s t)) (of_off (Test d s t) r) (of_on (Test d s t) r)
 
-pub met_reduced : (join : Bool) (ranks : List ℕ) (s t : Guard) → IsReduced s → IsReduced t → IsReduced (met join ranks s t)
+pub met_reduced : (join : Bool) (ranks : List ℕ) (s t : Guard) → IsReduced s → IsReduced t →
+    IsReduced (met join ranks s t)
 met_reduced join ranks (Leaf a) t r q = go (settles join a)
   where
     go : (v : Bool) → IsReduced (if v then Leaf a else t)
     go true = tt
     go false = q
-met_reduced join ranks (Test c off on) t r q = against_reduced ranks c (met join ranks off) (met join ranks on) (λ u h. met_reduced join ranks off u r.1 h)
+met_reduced join ranks (Test c off on) t r q =
+    against_reduced ranks c (met join ranks off) (met join ranks on) (λ u h. met_reduced join ranks off u r.1 h)
     (λ u h. met_reduced join ranks on u r.2 h) t q

@@ -1,6 +1,8 @@
 -- A walk along the steps that it rests on finds what a walk along all steps finds.
-use Rattle.std.proofs.Common.{ℕ, zero, suc, ◌+◌, ◌<◌, ◌≤◌, ◌≡◌, Bool, true, false, ◌&&◌, ◌||◌, ◌==◌, if◌then◌else◌, List, [], ◌∷◌, All, length, get_or, set, map, filter, drop, replicate, Option, Some}
-use Rattle.std.proofs.Common.{None, is_some, arith, refl, sym, ap, ap₂, ◌∙◌, subst, inl, inr, eq-eqb, get_or-set_other, get_or-set_same, length-set}
+use Rattle.std.proofs.Common.{ℕ, zero, suc, ◌+◌, ◌<◌, ◌≤◌, ◌≡◌, Bool, true, false, ◌&&◌, ◌||◌, ◌==◌, if◌then◌else◌}
+use Rattle.std.proofs.Common.{List, [], ◌∷◌, All, length, get_or, set, map, filter, drop, replicate, Option, Some}
+use Rattle.std.proofs.Common.{None, is_some, arith, refl, sym, ap, ap₂, ◌∙◌, subst, inl, inr, eq-eqb, get_or-set_other}
+use Rattle.std.proofs.Common.{get_or-set_same, length-set}
 use Rattle.std.specs.Bool.{nat_lt}
 use Rattle.std.specs.Prelude.{count_by}
 use Rattle.std.specs.List.{list_any, list_all}
@@ -19,8 +21,10 @@ use Rattle.cpg_rules.specs.declared.steps.Aim.{Aim}
 use Rattle.cpg_rules.specs.declared.steps.Aim.TheVariants.{Process, Conditions}
 use Rattle.cpg_rules.specs.Steps.{ActivationStep, step_of}
 use Rattle.cpg_rules.specs.Rested.{reads, are_reading, is_rested, rested}
-use Rattle.cpg_rules.specs.Growing.{is_taken, is_live_in, first_live, activation_from, activation_in, standing, settled, choice, if_both, tracks_from}
-use Rattle.cpg_rules.specs.Alternatives.{are_two_live, first_some, if_other, found_from, is_set, scenario_of, has_two_live}
+use Rattle.cpg_rules.specs.Growing.{is_taken, is_live_in, first_live, activation_from, activation_in, standing, settled}
+use Rattle.cpg_rules.specs.Growing.{choice, if_both, tracks_from}
+use Rattle.cpg_rules.specs.Alternatives.{are_two_live, first_some, if_other, found_from, is_set, scenario_of}
+use Rattle.cpg_rules.specs.Alternatives.{has_two_live}
 use Rattle.cpg_rules.proofs.Parts.{all_parts}
 use Rattle.cpg_rules.proofs.Along.{rest_first, rest_more}
 use Rattle.cpg_rules.proofs.Searched.{search_none, search_some}
@@ -37,10 +41,13 @@ module _ (s u : List (Option Bool)) where
   AreLiveAlike [] = Unit {0}
   AreLiveAlike (i ∷ is) = (is_live_in s i ≡ is_live_in u i) × AreLiveAlike is
 
-  live_alike : (is : List Input) → ((q : ℕ) → list_any (λ (i : Input). i.source == q) is ≡ true → get_or s q None ≡ get_or u q None) → AreLiveAlike is
+  live_alike : (is : List Input) →
+      ((q : ℕ) → list_any (λ (i : Input). i.source == q) is ≡ true → get_or s q None ≡ get_or u q None) →
+      AreLiveAlike is
   live_alike [] h = tt
   live_alike (i ∷ is) h = (
-    ap (is_taken i.when) (h i.source (or_left (i.source == i.source) (list_any (λ (j : Input). j.source == i.source) is) (eq-eqb i.source i.source refl))),
+    ap (is_taken i.when) (h i.source (or_left (i.source == i.source) (list_any (λ (j : Input). j.source == i.source) is)
+        (eq-eqb i.source i.source refl))),
     live_alike is (λ q r. h q (or_right (i.source == q) (list_any (λ (j : Input). j.source == q) is) r)),
   )
 
@@ -57,9 +64,11 @@ module _ (s u : List (Option Bool)) where
   filter_alike (i ∷ is) h = ap₂ (λ b r. if b then i ∷ r else r) h.0 (filter_alike is h.1)
 
   count_alike : (is : List Input) → AreLiveAlike is → count_by (is_live_in s) is ≡ count_by (is_live_in u) is
-  count_alike is h = sym (length-filter (is_live_in s) is) ∙ ap length (filter_alike is h) ∙ length-filter (is_live_in u) is
+  count_alike is h =
+      sym (length-filter (is_live_in s) is) ∙ ap length (filter_alike is h) ∙ length-filter (is_live_in u) is
 
-  activation_alike : (join : Bool) (is : List Input) → AreLiveAlike is → activation_from join s is ≡ activation_from join u is
+  activation_alike : (join : Bool) (is : List Input) → AreLiveAlike is →
+      activation_from join s is ≡ activation_from join u is
   activation_alike join [] h = refl
   activation_alike true (i ∷ is) h = first_alike (i ∷ is) h
   activation_alike false (i ∷ is) h = ap (λ b. if b then Plain else Inactive) (all_alike (i ∷ is) h)
@@ -70,12 +79,16 @@ record IsAlike (steps : List ActivationStep) (s u : List (Option Bool)) : Type 0
   long : length s ≡ length u
   same : (q : ℕ) → are_reading steps q ≡ true → get_or s q None ≡ get_or u q None
 
-set_alike : (s u : List (Option Bool)) (p q : ℕ) (x : Option Bool) → length s ≡ length u → get_or s q None ≡ get_or u q None → get_or (set s p x) q None ≡ get_or (set u p x) q None
+set_alike : (s u : List (Option Bool)) (p q : ℕ) (x : Option Bool) → length s ≡ length u →
+    get_or s q None ≡ get_or u q None →
+    get_or (set s p x) q None ≡ get_or (set u p x) q None
 set_alike s u p q x long same = elim (cases_eq q p) [
   | inl e ↦ elim (cases_lt p (length s)) [
-    | inl l ↦ subst (λ r. get_or (set s p x) r None ≡ get_or (set u p x) r None) (sym e) (get_or-set_same s p x None l ∙ sym (get_or-set_same u p x None (omega (arith, long))))
+    | inl l ↦ subst (λ r. get_or (set s p x) r None ≡ get_or (set u p x) r None) (sym e)
+        (get_or-set_same s p x None l ∙ sym (get_or-set_same u p x None (omega (arith, long))))
     | inr l ↦ subst (λ r. get_or (set s p x) r None ≡ get_or (set u p x) r None) (sym e)
-        (get_or_past (set s p x) p None (omega (arith, length-set s p x)) ∙ sym (get_or_past (set u p x) p None (omega (arith, long, length-set u p x))))
+        (get_or_past (set s p x) p None (omega (arith, length-set s p x))
+        ∙ sym (get_or_past (set u p x) p None (omega (arith, long, length-set u p x))))
   ]
   | inr n ↦ get_or-set_other s p q x None n ∙ same ∙ sym (get_or-set_other u p q x None n)
 ]
@@ -91,17 +104,21 @@ module _ (step : ActivationStep) (kept : List ActivationStep) (s u : List (Optio
   -- after a step that is kept
   next_alike : IsAlike (step ∷ kept) s u → (v : Bool) → IsAlike kept (settled s step v) (settled u step v)
   next_alike alike v = record {
-    long = length-set s step.process (standing (activation_in s step) v) ∙ alike.long ∙ sym (length-set u step.process (standing (activation_in u step) v));
+    long = length-set s step.process (standing (activation_in s step) v) ∙ alike.long
+        ∙ sym (length-set u step.process (standing (activation_in u step) v));
     same = λ q r. ap (λ a. get_or (set s step.process (standing a v)) q None) (here_alike alike)
-        ∙ set_alike s u step.process q (standing (activation_in u step) v) alike.long (alike.same q (or_right (reads q step) (are_reading kept q) r));
+        ∙ set_alike s u step.process q (standing (activation_in u step) v) alike.long
+        (alike.same q (or_right (reads q step) (are_reading kept q) r));
   }
 
   -- after one that isn't
-  passed_alike : IsAlike kept s u → are_reading kept step.process ≡ false → (v : Bool) → IsAlike kept (settled s step v) u
+  passed_alike : IsAlike kept s u → are_reading kept step.process ≡ false → (v : Bool) →
+      IsAlike kept (settled s step v) u
   passed_alike alike unread v = record {
     long = length-set s step.process (standing (activation_in s step) v) ∙ alike.long;
     same = λ q r. get_or-set_other s step.process q (standing (activation_in s step) v) None
-        (λ e. true_false (are_reading kept step.process) (subst (λ x. are_reading kept x ≡ true) e r) unread) ∙ alike.same q r;
+        (λ e. true_false (are_reading kept step.process) (subst (λ x. are_reading kept x ≡ true) e r) unread)
+        ∙ alike.same q r;
   }
 
 -- ---- as many tracks
@@ -113,50 +130,63 @@ not_chosen Plain (Some c) n h = cc
 not_chosen (By e) None n h = refl
 not_chosen (By e) (Some c) n h = cc
 
-tracks_alike : (steps : List ActivationStep) (s u : List (Option Bool)) → IsAlike (rested Conditions steps) s u → tracks_from steps s ≡ tracks_from (rested Conditions steps) u
+tracks_alike : (steps : List ActivationStep) (s u : List (Option Bool)) → IsAlike (rested Conditions steps) s u →
+    tracks_from steps s ≡ tracks_from (rested Conditions steps) u
 tracks_alike [] s u alike = refl
-tracks_alike (step ∷ steps) s u alike = go (is_rested Conditions step (rested Conditions steps)) refl alike (λ t w a. tracks_alike steps t w a)
+tracks_alike (step ∷ steps) s u alike =
+    go (is_rested Conditions step (rested Conditions steps)) refl alike (λ t w a. tracks_alike steps t w a)
   where
-    go : (b : Bool) → is_rested Conditions step (rested Conditions steps) ≡ b → IsAlike (if b then step ∷ rested Conditions steps else rested Conditions steps) s u
-        → ((t w : List (Option Bool)) → IsAlike (rested Conditions steps) t w → tracks_from steps t ≡ tracks_from (rested Conditions steps) w)
-        → tracks_from (step ∷ steps) s ≡ tracks_from (if b then step ∷ rested Conditions steps else rested Conditions steps) u
+    go : (b : Bool) → is_rested Conditions step (rested Conditions steps) ≡ b →
+        IsAlike (if b then step ∷ rested Conditions steps else rested Conditions steps) s u
+        → ((t w : List (Option Bool)) → IsAlike (rested Conditions steps) t w →
+        tracks_from steps t ≡ tracks_from (rested Conditions steps) w)
+        → tracks_from (step ∷ steps) s
+        ≡ tracks_from (if b then step ∷ rested Conditions steps else rested Conditions steps) u
     go true e alike later = ap₂ (λ m n. m + n)
-        (later (settled s step false) (settled u step false) (next_alike step (rested Conditions steps) s u alike false))
+        (later (settled s step false) (settled u step false)
+        (next_alike step (rested Conditions steps) s u alike false))
         (ap₂ (λ a n. if_both (choice a step.condition) n) (here_alike step (rested Conditions steps) s u alike)
         (later (settled s step true) (settled u step true) (next_alike step (rested Conditions steps) s u alike true)))
     go false e alike later =
         let none = or_parts (is_some step.condition) (are_reading (rested Conditions steps) step.process) e in
-        let same = later (settled s step false) u (passed_alike step (rested Conditions steps) s u alike none.1 false) in
+        let same =
+        later (settled s step false) u (passed_alike step (rested Conditions steps) s u alike none.1 false) in
         let zero = not_chosen (activation_in s step) step.condition (tracks_from steps (settled s step true)) none.0 in
         omega (arith, same, zero)
 
-pub tracks_rested : (steps : List ActivationStep) (s : List (Option Bool)) → tracks_from (rested Conditions steps) s ≡ tracks_from steps s
+pub tracks_rested : (steps : List ActivationStep) (s : List (Option Bool)) →
+    tracks_from (rested Conditions steps) s ≡ tracks_from steps s
 tracks_rested steps s = sym (tracks_alike steps s s (record { long = refl; same = λ q r. refl }))
 
 -- ---- the steps that are kept are among the steps
 
-all_cons : (P : ActivationStep → Type 0) (step : ActivationStep) (steps : List ActivationStep) → P step → All P steps → All P (step ∷ steps)
+all_cons : (P : ActivationStep → Type 0) (step : ActivationStep) (steps : List ActivationStep) → P step → All P steps →
+    All P (step ∷ steps)
 all_cons P step steps h t zero d l = h
 all_cons P step steps h t (suc k) d l = t k d (omega arith)
 
-pub all_rested : (P : ActivationStep → Type 0) (aim : Aim) (steps : List ActivationStep) → All P steps → All P (rested aim steps)
+pub all_rested : (P : ActivationStep → Type 0) (aim : Aim) (steps : List ActivationStep) → All P steps →
+    All P (rested aim steps)
 all_rested P aim [] h = h
 all_rested P aim (step ∷ steps) h =
     let parts = all_parts P step (step ∷ steps) steps refl h in
     go (is_rested aim step (rested aim steps)) parts.0 (all_rested P aim steps parts.1)
   where
-    go : (b : Bool) → P step → All P (rested aim steps) → All P (if b then step ∷ rested aim steps else rested aim steps)
+    go : (b : Bool) → P step → All P (rested aim steps) →
+        All P (if b then step ∷ rested aim steps else rested aim steps)
     go true first more = all_cons P step (rested aim steps) first more
     go false first more = more
 
 -- ---- two live inputs are found alike
 
-some_passed : (c : Option ℕ) (x y z : Option (List (Option Bool))) → is_some x ≡ is_some z → is_some y ≡ is_some z → is_some (first_some x (if_other c y)) ≡ is_some z
+some_passed : (c : Option ℕ) (x y z : Option (List (Option Bool))) → is_some x ≡ is_some z → is_some y ≡ is_some z →
+    is_some (first_some x (if_other c y)) ≡ is_some z
 some_passed c (Some f) y z h k = h
 some_passed None None y z h k = h
 some_passed (Some c) None y z h k = k
 
-some_kept : (c : Option ℕ) (x y z w : Option (List (Option Bool))) → is_some x ≡ is_some z → is_some y ≡ is_some w → is_some (first_some x (if_other c y)) ≡ is_some (first_some z (if_other c w))
+some_kept : (c : Option ℕ) (x y z w : Option (List (Option Bool))) → is_some x ≡ is_some z → is_some y ≡ is_some w →
+    is_some (first_some x (if_other c y)) ≡ is_some (first_some z (if_other c w))
 some_kept c (Some f) y (Some g) w h k = refl
 some_kept c (Some f) y None w h k = cc
 some_kept c None y (Some g) w h k = cc
@@ -170,14 +200,16 @@ AreFoundAlike (Some f) (Some g) = (q : ℕ) → is_set (get_or f q None) ≡ is_
 AreFoundAlike None (Some g) = ⊥
 AreFoundAlike (Some f) None = ⊥
 
-found_passed : (c : Option ℕ) (x y z : Option (List (Option Bool))) → AreFoundAlike x z → is_some y ≡ is_some z → AreFoundAlike (first_some x (if_other c y)) z
+found_passed : (c : Option ℕ) (x y z : Option (List (Option Bool))) → AreFoundAlike x z → is_some y ≡ is_some z →
+    AreFoundAlike (first_some x (if_other c y)) z
 found_passed c (Some f) y z h k = h
 found_passed None None y z h k = h
 found_passed (Some c) None None None h k = tt
 found_passed (Some c) None (Some f) None h k = cc
 found_passed (Some c) None y (Some g) h k = absurd h
 
-found_kept : (c : Option ℕ) (x y z w : Option (List (Option Bool))) → AreFoundAlike x z → AreFoundAlike y w → AreFoundAlike (first_some x (if_other c y)) (first_some z (if_other c w))
+found_kept : (c : Option ℕ) (x y z w : Option (List (Option Bool))) → AreFoundAlike x z → AreFoundAlike y w →
+    AreFoundAlike (first_some x (if_other c y)) (first_some z (if_other c w))
 found_kept c (Some f) y (Some g) w h k = h
 found_kept c (Some f) y None w h k = absurd h
 found_kept c None y (Some g) w h k = absurd h
@@ -185,37 +217,55 @@ found_kept None None y None w h k = tt
 found_kept (Some c) None y None w h k = k
 
 module _ (p : ℕ) where
-  two_alike : (step : ActivationStep) (kept : List ActivationStep) (s u : List (Option Bool)) → IsAlike (step ∷ kept) s u → are_two_live s step.inputs ≡ are_two_live u step.inputs
+  two_alike : (step : ActivationStep) (kept : List ActivationStep) (s u : List (Option Bool)) →
+      IsAlike (step ∷ kept) s u →
+      are_two_live s step.inputs ≡ are_two_live u step.inputs
   two_alike step kept s u alike = ap (nat_lt 1) (count_alike s u step.inputs (inputs_alike step kept s u alike))
 
   -- if one is found
-  some_alike : (steps : List ActivationStep) (s u : List (Option Bool)) → IsAlike (rested (Process p) steps) s u → is_some (found_from p steps s) ≡ is_some (found_from p (rested (Process p) steps) u)
+  some_alike : (steps : List ActivationStep) (s u : List (Option Bool)) → IsAlike (rested (Process p) steps) s u →
+      is_some (found_from p steps s) ≡ is_some (found_from p (rested (Process p) steps) u)
   some_alike [] s u alike = refl
-  some_alike (step ∷ steps) s u alike = go (step.process == p) (are_reading (rested (Process p) steps) step.process) refl refl alike (λ t w a. some_alike steps t w a)
+  some_alike (step ∷ steps) s u alike = go (step.process == p)
+      (are_reading (rested (Process p) steps) step.process) refl refl alike (λ t w a. some_alike steps t w a)
     where
       go : (a b : Bool) → (step.process == p) ≡ a → are_reading (rested (Process p) steps) step.process ≡ b
           → IsAlike (if a || b then step ∷ rested (Process p) steps else rested (Process p) steps) s u
-          → ((t w : List (Option Bool)) → IsAlike (rested (Process p) steps) t w → is_some (found_from p steps t) ≡ is_some (found_from p (rested (Process p) steps) w))
-          → is_some (if a then (if are_two_live s step.inputs then Some s else None) else first_some (found_from p steps (settled s step false))
+          → ((t w : List (Option Bool)) → IsAlike (rested (Process p) steps) t w →
+          is_some (found_from p steps t) ≡ is_some (found_from p (rested (Process p) steps) w))
+          → is_some (if a then (if are_two_live s step.inputs then Some s else None)
+          else first_some (found_from p steps (settled s step false))
           (if_other (choice (activation_in s step) step.condition) (found_from p steps (settled s step true))))
           ≡ is_some (found_from p (if a || b then step ∷ rested (Process p) steps else rested (Process p) steps) u)
-      go true b e f alike later = ap₂ (λ two at. is_some (if two then Some s else None)) (two_alike step (rested (Process p) steps) s u alike) e ∙ is_u (are_two_live u step.inputs)
-          ∙ ap (λ at. is_some (if at then (if are_two_live u step.inputs then Some u else None) else first_some (found_from p (rested (Process p) steps) (settled u step false))
-          (if_other (choice (activation_in u step) step.condition) (found_from p (rested (Process p) steps) (settled u step true))))) (sym e)
+      go true b e f alike later =
+          ap₂ (λ two at. is_some (if two then Some s else None)) (two_alike step (rested (Process p) steps) s u alike) e
+          ∙ is_u (are_two_live u step.inputs)
+          ∙ ap (λ at. is_some (if at then (if are_two_live u step.inputs then Some u else None)
+          else first_some (found_from p (rested (Process p) steps) (settled u step false))
+          (if_other (choice (activation_in u step) step.condition)
+          (found_from p (rested (Process p) steps) (settled u step true))))) (sym e)
         where
           is_u : (two : Bool) → is_some (if two then Some s else None) ≡ is_some (if two then Some u else None)
           is_u true = refl
           is_u false = refl
       go false true e f alike later =
-          ap (λ a. is_some (first_some (found_from p steps (settled s step false)) (if_other (choice a step.condition) (found_from p steps (settled s step true)))))
+          ap (λ a. is_some (first_some (found_from p steps (settled s step false))
+          (if_other (choice a step.condition) (found_from p steps (settled s step true)))))
           (here_alike step (rested (Process p) steps) s u alike)
-          ∙ some_kept (choice (activation_in u step) step.condition) (found_from p steps (settled s step false)) (found_from p steps (settled s step true))
-          (found_from p (rested (Process p) steps) (settled u step false)) (found_from p (rested (Process p) steps) (settled u step true))
-          (later (settled s step false) (settled u step false) (next_alike step (rested (Process p) steps) s u alike false))
-          (later (settled s step true) (settled u step true) (next_alike step (rested (Process p) steps) s u alike true))
-          ∙ ap (λ at. is_some (if at then (if are_two_live u step.inputs then Some u else None) else first_some (found_from p (rested (Process p) steps) (settled u step false))
-          (if_other (choice (activation_in u step) step.condition) (found_from p (rested (Process p) steps) (settled u step true))))) (sym e)
-      go false false e f alike later = some_passed (choice (activation_in s step) step.condition) (found_from p steps (settled s step false)) (found_from p steps (settled s step true))
+          ∙ some_kept (choice (activation_in u step) step.condition) (found_from p steps (settled s step false))
+          (found_from p steps (settled s step true))
+          (found_from p (rested (Process p) steps) (settled u step false))
+          (found_from p (rested (Process p) steps) (settled u step true))
+          (later (settled s step false) (settled u step false)
+          (next_alike step (rested (Process p) steps) s u alike false))
+          (later (settled s step true) (settled u step true)
+          (next_alike step (rested (Process p) steps) s u alike true))
+          ∙ ap (λ at. is_some (if at then (if are_two_live u step.inputs then Some u else None)
+          else first_some (found_from p (rested (Process p) steps) (settled u step false))
+          (if_other (choice (activation_in u step) step.condition)
+          (found_from p (rested (Process p) steps) (settled u step true))))) (sym e)
+      go false false e f alike later = some_passed (choice (activation_in s step) step.condition)
+          (found_from p steps (settled s step false)) (found_from p steps (settled s step true))
           (found_from p (rested (Process p) steps) u)
           (later (settled s step false) u (passed_alike step (rested (Process p) steps) s u alike f false))
           (later (settled s step true) u (passed_alike step (rested (Process p) steps) s u alike f true))
@@ -232,55 +282,76 @@ module _ (g : Graph) (order : List ℕ) (topological : IsTopological g order) (f
   unset Plain = refl
   unset (By e) = refl
 
-  module _ (k q : ℕ) (h : q < process_count g) (at : place order q ≡ k) (s u : List (Option Bool)) (sets : AreSetAlike k s u) where
+  module _ (k q : ℕ) (h : q < process_count g) (at : place order q ≡ k) (s u : List (Option Bool))
+      (sets : AreSetAlike k s u) where
     sets_passed : AreSetAlike (k + 1) (settled s (step_of g q) false) u
     sets_passed = record {
       long = length-set s q (standing (activation_in s (step_of g q)) false) ∙ sets.long;
       sets = λ r. elim (cases_eq r q) [
         | inl e ↦ ap (λ x. is_set (get_or (settled s (step_of g q) false) x None)) e
-            ∙ ap is_set (get_or-set_same s q (standing (activation_in s (step_of g q)) false) None (omega (arith, sets.long))) ∙ unset (activation_in s (step_of g q))
+            ∙ ap is_set
+            (get_or-set_same s q (standing (activation_in s (step_of g q)) false) None (omega (arith, sets.long)))
+            ∙ unset (activation_in s (step_of g q))
             ∙ sym (ap (λ x. is_set (get_or u x None)) e ∙ ap is_set (sets.fresh q h (omega (arith, at))))
-        | inr n ↦ ap is_set (get_or-set_other s q r (standing (activation_in s (step_of g q)) false) None n) ∙ sets.sets r
+        | inr n ↦
+            ap is_set (get_or-set_other s q r (standing (activation_in s (step_of g q)) false) None n) ∙ sets.sets r
       ];
       fresh = λ r l m. sets.fresh r l (omega arith);
     }
 
-    sets_kept : length u ≡ 128 → (v : Bool) → activation_in s (step_of g q) ≡ activation_in u (step_of g q) → AreSetAlike (k + 1) (settled s (step_of g q) v) (settled u (step_of g q) v)
+    sets_kept : length u ≡ 128 → (v : Bool) → activation_in s (step_of g q) ≡ activation_in u (step_of g q) →
+        AreSetAlike (k + 1) (settled s (step_of g q) v) (settled u (step_of g q) v)
     sets_kept long v same = record {
       long = length-set s q (standing (activation_in s (step_of g q)) v) ∙ sets.long;
       sets = λ r. elim (cases_eq r q) [
         | inl e ↦ ap (λ x. is_set (get_or (settled s (step_of g q) v) x None)) e
-            ∙ ap is_set (get_or-set_same s q (standing (activation_in s (step_of g q)) v) None (omega (arith, sets.long)) ∙ ap (λ a. standing a v) same ∙
+            ∙ ap is_set (get_or-set_same s q (standing (activation_in s (step_of g q)) v) None
+            (omega (arith, sets.long)) ∙ ap (λ a. standing a v) same ∙
             sym (get_or-set_same u q (standing (activation_in u (step_of g q)) v) None (omega (arith, long))))
             ∙ sym (ap (λ x. is_set (get_or (settled u (step_of g q) v) x None)) e)
         | inr n ↦ ap is_set (get_or-set_other s q r (standing (activation_in s (step_of g q)) v) None n) ∙ sets.sets r ∙
             sym (ap is_set (get_or-set_other u q r (standing (activation_in u (step_of g q)) v) None n))
       ];
-      fresh = λ r l m. get_or-set_other u q r (standing (activation_in u (step_of g q)) v) None (λ e. let f = ap (place order) e in omega (arith, at)) ∙ sets.fresh r l (omega arith);
+      fresh = λ r l m. get_or-set_other u q r (standing (activation_in u (step_of g q)) v) None
+          (λ e. let f = ap (place order) e in omega (arith, at)) ∙ sets.fresh r l (omega arith);
     }
 
   -- what is found
-  found_alike : (qs : List ℕ) (k : ℕ) (s u : List (Option Bool)) → drop k order ≡ qs → IsAlike (rested (Process p) (map (step_of g) qs)) s u → AreSetAlike k s u
+  found_alike : (qs : List ℕ) (k : ℕ) (s u : List (Option Bool)) → drop k order ≡ qs →
+      IsAlike (rested (Process p) (map (step_of g) qs)) s u →
+      AreSetAlike k s u
       → AreFoundAlike (found_from p (map (step_of g) qs) s) (found_from p (rested (Process p) (map (step_of g) qs)) u)
   found_alike [] k s u d alike sets = tt
   found_alike (q ∷ qs) k s u d alike sets =
       let r = rest_first g order topological k q qs d in
       let more = rest_more g order topological k q qs d in
-      go r.0 r.1 ((step_of g q).process == p) (are_reading (rested (Process p) (map (step_of g) qs)) q) refl refl alike (λ t w a b. found_alike qs (k + 1) t w more a b)
+      go r.0 r.1 ((step_of g q).process == p) (are_reading (rested (Process p) (map (step_of g) qs)) q) refl refl alike
+      (λ t w a b. found_alike qs (k + 1) t w more a b)
     where
-      go : q < process_count g → place order q ≡ k → (a b : Bool) → (q == p) ≡ a → are_reading (rested (Process p) (map (step_of g) qs)) q ≡ b
-          → IsAlike (if a || b then (step_of g q) ∷ (rested (Process p) (map (step_of g) qs)) else (rested (Process p) (map (step_of g) qs))) s u
-          → ((t w : List (Option Bool)) → IsAlike (rested (Process p) (map (step_of g) qs)) t w → AreSetAlike (k + 1) t w →
-          AreFoundAlike (found_from p (map (step_of g) qs) t) (found_from p (rested (Process p) (map (step_of g) qs)) w))
-          → AreFoundAlike (if a then (if are_two_live s (step_of g q).inputs then Some s else None) else first_some (found_from p (map (step_of g) qs) (settled s (step_of g q) false))
-          (if_other (choice (activation_in s (step_of g q)) (step_of g q).condition) (found_from p (map (step_of g) qs) (settled s (step_of g q) true))))
-          (found_from p (if a || b then (step_of g q) ∷ (rested (Process p) (map (step_of g) qs)) else (rested (Process p) (map (step_of g) qs))) u)
+      go : q < process_count g → place order q ≡ k → (a b : Bool) → (q == p) ≡ a →
+          are_reading (rested (Process p) (map (step_of g) qs)) q ≡ b
+          → IsAlike (if a || b then (step_of g q) ∷ (rested (Process p) (map (step_of g) qs))
+          else (rested (Process p) (map (step_of g) qs))) s u
+          → ((t w : List (Option Bool)) → IsAlike (rested (Process p) (map (step_of g) qs)) t w →
+          AreSetAlike (k + 1) t w →
+          AreFoundAlike (found_from p (map (step_of g) qs) t)
+          (found_from p (rested (Process p) (map (step_of g) qs)) w))
+          → AreFoundAlike (if a then (if are_two_live s (step_of g q).inputs then Some s else None)
+          else first_some (found_from p (map (step_of g) qs) (settled s (step_of g q) false))
+          (if_other (choice (activation_in s (step_of g q)) (step_of g q).condition)
+          (found_from p (map (step_of g) qs) (settled s (step_of g q) true))))
+          (found_from p (if a || b then (step_of g q) ∷ (rested (Process p) (map (step_of g) qs))
+          else (rested (Process p) (map (step_of g) qs))) u)
       go h at true b e f alike later =
           subst (λ a. AreFoundAlike (if are_two_live s (step_of g q).inputs then Some s else None)
-          (if a then (if are_two_live u (step_of g q).inputs then Some u else None) else first_some (found_from p (rested (Process p) (map (step_of g) qs)) (settled u (step_of g q) false))
-          (if_other (choice (activation_in u (step_of g q)) (step_of g q).condition) (found_from p (rested (Process p) (map (step_of g) qs)) (settled u (step_of g q) true))))) (sym e)
-          (subst (λ two. AreFoundAlike (if two then Some s else None) (if are_two_live u (step_of g q).inputs then Some u else None))
-          (sym (two_alike p (step_of g q) (rested (Process p) (map (step_of g) qs)) s u alike)) (at_join (are_two_live u (step_of g q).inputs)))
+          (if a then (if are_two_live u (step_of g q).inputs then Some u else None)
+          else first_some (found_from p (rested (Process p) (map (step_of g) qs)) (settled u (step_of g q) false))
+          (if_other (choice (activation_in u (step_of g q)) (step_of g q).condition)
+          (found_from p (rested (Process p) (map (step_of g) qs)) (settled u (step_of g q) true))))) (sym e)
+          (subst (λ two. AreFoundAlike (if two then Some s else None)
+          (if are_two_live u (step_of g q).inputs then Some u else None))
+          (sym (two_alike p (step_of g q) (rested (Process p) (map (step_of g) qs)) s u alike))
+          (at_join (are_two_live u (step_of g q).inputs)))
         where
           at_join : (two : Bool) → AreFoundAlike (if two then Some s else None) (if two then Some u else None)
           at_join true = sets.sets
@@ -289,25 +360,38 @@ module _ (g : Graph) (order : List ℕ) (topological : IsTopological g order) (f
           let here = here_alike (step_of g q) (rested (Process p) (map (step_of g) qs)) s u alike in
           let long : length u ≡ 128 = sym alike.long ∙ sets.long in
           subst (λ a. AreFoundAlike (first_some (found_from p (map (step_of g) qs) (settled s (step_of g q) false))
-          (if_other (choice (activation_in s (step_of g q)) (step_of g q).condition) (found_from p (map (step_of g) qs) (settled s (step_of g q) true))))
-          (if a then (if are_two_live u (step_of g q).inputs then Some u else None) else first_some (found_from p (rested (Process p) (map (step_of g) qs)) (settled u (step_of g q) false))
-          (if_other (choice (activation_in u (step_of g q)) (step_of g q).condition) (found_from p (rested (Process p) (map (step_of g) qs)) (settled u (step_of g q) true))))) (sym e)
+          (if_other (choice (activation_in s (step_of g q)) (step_of g q).condition)
+          (found_from p (map (step_of g) qs) (settled s (step_of g q) true))))
+          (if a then (if are_two_live u (step_of g q).inputs then Some u else None)
+          else first_some (found_from p (rested (Process p) (map (step_of g) qs)) (settled u (step_of g q) false))
+          (if_other (choice (activation_in u (step_of g q)) (step_of g q).condition)
+          (found_from p (rested (Process p) (map (step_of g) qs)) (settled u (step_of g q) true))))) (sym e)
           (subst (λ a. AreFoundAlike (first_some (found_from p (map (step_of g) qs) (settled s (step_of g q) false))
-          (if_other (choice a (step_of g q).condition) (found_from p (map (step_of g) qs) (settled s (step_of g q) true))))
+          (if_other (choice a (step_of g q).condition)
+          (found_from p (map (step_of g) qs) (settled s (step_of g q) true))))
           (first_some (found_from p (rested (Process p) (map (step_of g) qs)) (settled u (step_of g q) false))
-          (if_other (choice (activation_in u (step_of g q)) (step_of g q).condition) (found_from p (rested (Process p) (map (step_of g) qs)) (settled u (step_of g q) true))))) (sym here)
-          (found_kept (choice (activation_in u (step_of g q)) (step_of g q).condition) (found_from p (map (step_of g) qs) (settled s (step_of g q) false))
-          (found_from p (map (step_of g) qs) (settled s (step_of g q) true)) (found_from p (rested (Process p) (map (step_of g) qs)) (settled u (step_of g q) false))
+          (if_other (choice (activation_in u (step_of g q)) (step_of g q).condition)
+          (found_from p (rested (Process p) (map (step_of g) qs)) (settled u (step_of g q) true))))) (sym here)
+          (found_kept (choice (activation_in u (step_of g q)) (step_of g q).condition)
+          (found_from p (map (step_of g) qs) (settled s (step_of g q) false))
+          (found_from p (map (step_of g) qs) (settled s (step_of g q) true))
+          (found_from p (rested (Process p) (map (step_of g) qs)) (settled u (step_of g q) false))
           (found_from p (rested (Process p) (map (step_of g) qs)) (settled u (step_of g q) true))
-          (later (settled s (step_of g q) false) (settled u (step_of g q) false) (next_alike (step_of g q) (rested (Process p) (map (step_of g) qs)) s u alike false)
+          (later (settled s (step_of g q) false) (settled u (step_of g q) false)
+          (next_alike (step_of g q) (rested (Process p) (map (step_of g) qs)) s u alike false)
           (sets_kept k q h at s u sets long false here))
-          (later (settled s (step_of g q) true) (settled u (step_of g q) true) (next_alike (step_of g q) (rested (Process p) (map (step_of g) qs)) s u alike true)
+          (later (settled s (step_of g q) true) (settled u (step_of g q) true)
+          (next_alike (step_of g q) (rested (Process p) (map (step_of g) qs)) s u alike true)
           (sets_kept k q h at s u sets long true here))))
       go h at false false e f alike later =
-          found_passed (choice (activation_in s (step_of g q)) (step_of g q).condition) (found_from p (map (step_of g) qs) (settled s (step_of g q) false))
-          (found_from p (map (step_of g) qs) (settled s (step_of g q) true)) (found_from p (rested (Process p) (map (step_of g) qs)) u)
-          (later (settled s (step_of g q) false) u (passed_alike (step_of g q) (rested (Process p) (map (step_of g) qs)) s u alike f false) (sets_passed k q h at s u sets))
-          (some_alike p (map (step_of g) qs) (settled s (step_of g q) true) u (passed_alike (step_of g q) (rested (Process p) (map (step_of g) qs)) s u alike f true))
+          found_passed (choice (activation_in s (step_of g q)) (step_of g q).condition)
+          (found_from p (map (step_of g) qs) (settled s (step_of g q) false))
+          (found_from p (map (step_of g) qs) (settled s (step_of g q) true))
+          (found_from p (rested (Process p) (map (step_of g) qs)) u)
+          (later (settled s (step_of g q) false) u (passed_alike (step_of g q)
+          (rested (Process p) (map (step_of g) qs)) s u alike f false) (sets_passed k q h at s u sets))
+          (some_alike p (map (step_of g) qs) (settled s (step_of g q) true) u
+          (passed_alike (step_of g q) (rested (Process p) (map (step_of g) qs)) s u alike f true))
 
   -- ---- from the start
 
@@ -320,7 +404,8 @@ module _ (g : Graph) (order : List ℕ) (topological : IsTopological g order) (f
     | inr l ↦ get_or_past start q None (omega (arith, length-replicate {A = Option Bool} 128 None))
   ]
 
-  pub rested_alike : AreFoundAlike (found_from p (map (step_of g) order) start) (found_from p (rested (Process p) (map (step_of g) order)) start)
+  pub rested_alike : AreFoundAlike (found_from p (map (step_of g) order) start)
+      (found_from p (rested (Process p) (map (step_of g) order)) start)
   rested_alike = found_alike order 0 start start refl (record { long = refl; same = λ q r. refl })
       (record { long = length-replicate {A = Option Bool} 128 None; sets = λ q. refl; fresh = λ q l m. start_none q })
 
@@ -329,19 +414,29 @@ module _ (g : Graph) (order : List ℕ) (topological : IsTopological g order) (f
   searched = found_from p (rested (Process p) (map (step_of g) order)) start
 
   pub rested_none : p < process_count g → searched ≡ None → (o : List Bool) → has_two_live g o p ≡ false
-  rested_none within e o = go (found_from p (map (step_of g) order) start) refl (subst (AreFoundAlike (found_from p (map (step_of g) order) start)) e rested_alike)
+  rested_none within e o = go (found_from p (map (step_of g) order) start) refl
+      (subst (AreFoundAlike (found_from p (map (step_of g) order) start)) e rested_alike)
     where
-      go : (x : Option (List (Option Bool))) → found_from p (map (step_of g) order) start ≡ x → AreFoundAlike x None → has_two_live g o p ≡ false
+      go : (x : Option (List (Option Bool))) → found_from p (map (step_of g) order) start ≡ x → AreFoundAlike x None →
+          has_two_live g o p ≡ false
       go None f a = search_none g order topological few p within f o
       go (Some found) f a = absurd a
 
-  pub rested_some : p < process_count g → (found : List (Option Bool)) → searched ≡ Some found → IsLeast g order (λ t. has_two_live g t.values p ≡ true) (scenario_of g found)
-  rested_some within found e = go (found_from p (map (step_of g) order) start) refl (subst (AreFoundAlike (found_from p (map (step_of g) order) start)) e rested_alike)
+  pub rested_some : p < process_count g → (found : List (Option Bool)) → searched ≡ Some found →
+      IsLeast g order (λ t. has_two_live g t.values p ≡ true) (scenario_of g found)
+  rested_some within found e = go (found_from p (map (step_of g) order) start) refl
+      (subst (AreFoundAlike (found_from p (map (step_of g) order) start)) e rested_alike)
     where
-      same : (other : List (Option Bool)) → AreFoundAlike (Some other) (Some found) → scenario_of g other ≡ scenario_of g found
-      same other a = ap (λ f. let s : Scenario = record { values = map f (numbers_below (condition_count g)); faults = replicate (process_count g) 0 } in s) (λ i c. a (process_of g c) i)
+      same : (other : List (Option Bool)) → AreFoundAlike (Some other) (Some found) →
+          scenario_of g other ≡ scenario_of g found
+      same other a = ap (λ f. let s : Scenario = record {
+        values = map f (numbers_below (condition_count g));
+        faults = replicate (process_count g) 0;
+      } in s) (λ i c. a (process_of g c) i)
 
-      go : (x : Option (List (Option Bool))) → found_from p (map (step_of g) order) start ≡ x → AreFoundAlike x (Some found) →
+      go : (x : Option (List (Option Bool))) → found_from p (map (step_of g) order) start ≡ x →
+          AreFoundAlike x (Some found) →
           IsLeast g order (λ t. has_two_live g t.values p ≡ true) (scenario_of g found)
       go None f a = absurd a
-      go (Some other) f a = subst (IsLeast g order (λ t. has_two_live g t.values p ≡ true)) (same other a) (search_some g order topological few p within other f)
+      go (Some other) f a = subst (IsLeast g order (λ t. has_two_live g t.values p ≡ true)) (same other a)
+          (search_some g order topological few p within other f)

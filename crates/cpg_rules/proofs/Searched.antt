@@ -1,6 +1,8 @@
 -- The search along an order finds the least scenario in which two inputs of a process are live, or there is none.
-use Rattle.std.proofs.Common.{ℕ, ◌+◌, ◌<◌, ◌≤◌, ◌≡◌, ◌≢◌, Bool, true, false, ◌==◌, if◌then◌else◌, List, [], ◌∷◌, ◌++◌, length, get_or, map, filter, drop, take, replicate, sum, Option, Some, None}
-use Rattle.std.proofs.Common.{Contains, arith, refl, sym, ap, ◌∙◌, subst, inl, inr, ◌⊎◌, eqb-true, get_or-set_other, get_or-set_same}
+use Rattle.std.proofs.Common.{ℕ, ◌+◌, ◌<◌, ◌≤◌, ◌≡◌, ◌≢◌, Bool, true, false, ◌==◌, if◌then◌else◌, List, [], ◌∷◌, ◌++◌}
+use Rattle.std.proofs.Common.{length, get_or, map, filter, drop, take, replicate, sum, Option, Some, None}
+use Rattle.std.proofs.Common.{Contains, arith, refl, sym, ap, ◌∙◌, subst, inl, inr, ◌⊎◌, eqb-true, get_or-set_other}
+use Rattle.std.proofs.Common.{get_or-set_same}
 use Rattle.std.specs.Bool.{nat_lt}
 use Rattle.std.proofs.lemmas.Bool.{cases_lt, both_ways, eqb-false}
 use Rattle.std.proofs.lemmas.List.{get_or-replicate, get_or_past, length-replicate, length-map, take-append-drop}
@@ -12,7 +14,8 @@ use Rattle.cpg_base.specs.declared.activation.Activation.TheVariants.{Inactive, 
 use Rattle.cpg_base.specs.Numbers.{numbers_below, is_below}
 use Rattle.cpg_base.specs.Graph.{Graph, process_count, condition_count, process_of, condition_of, inputs}
 use Rattle.cpg_base.specs.Activity.{is_active, live}
-use Rattle.cpg_base.specs.Scenario.{Scenario, IsScenario, fault_of, number_of_value, IsLeast, value_in_key, key, is_before}
+use Rattle.cpg_base.specs.Scenario.{Scenario, IsScenario, fault_of, number_of_value, IsLeast, value_in_key, key}
+use Rattle.cpg_base.specs.Scenario.{is_before}
 use Rattle.cpg_base.proofs.Below.{not_below-cons, below-cons_less, below_one_way}
 use Rattle.cpg_base.proofs.Items.{process_of_below}
 use Rattle.cpg_base.proofs.Lists.{same_filter, get_or-map-below, Contains-first, Contains-rest}
@@ -24,9 +27,11 @@ use Rattle.cpg_base.proofs.ScenarioOrder.{not_before_by_parts}
 use Rattle.cpg_rules.specs.Steps.{input_of, step_of}
 use Rattle.cpg_rules.specs.Growing.{is_live_in, activation_in, settled, choice, standing}
 use Rattle.cpg_rules.specs.Way.{Follows, AreSettled}
-use Rattle.cpg_rules.specs.Alternatives.{has_two_live, are_two_live, first_some, if_other, found_from, is_set, scenario_of}
+use Rattle.cpg_rules.specs.Alternatives.{has_two_live, are_two_live, first_some, if_other, found_from, is_set}
+use Rattle.cpg_rules.specs.Alternatives.{scenario_of}
 use Rattle.cpg_rules.proofs.Along.{rest_first, rest_more, rest_none, in_take}
-use Rattle.cpg_rules.proofs.Standings.{is_live_edge, live_here, follows_one_way, follows_value, its_condition, settled_next, place_differs}
+use Rattle.cpg_rules.proofs.Standings.{is_live_edge, live_here, follows_one_way, follows_value, its_condition}
+use Rattle.cpg_rules.proofs.Standings.{settled_next, place_differs}
 use Rattle.cpg_rules.proofs.Start.{none_settled, all_follow}
 
 -- ---- scenarios that first differ at a process
@@ -35,40 +40,53 @@ module _ (g : Graph) (s t : Scenario) where
   -- nowhere more in what a process gives to the key
   pub record IsNoMore (p : ℕ) : Type 0 where
     pub faults : fault_of s p ≤ fault_of t p
-    pub values : (c : ℕ) → condition_of g p ≡ Some c → number_of_value (get_or s.values c false) ≤ number_of_value (get_or t.values c false)
+    pub values : (c : ℕ) → condition_of g p ≡ Some c →
+        number_of_value (get_or s.values c false) ≤ number_of_value (get_or t.values c false)
 
-  no_more_value : (o : Option ℕ) (xs ys : List ℕ) → ((c : ℕ) → o ≡ Some c → number_of_value (get_or s.values c false) ≤ number_of_value (get_or t.values c false)) → is_below xs ys ≡ false
+  no_more_value : (o : Option ℕ) (xs ys : List ℕ) →
+      ((c : ℕ) → o ≡ Some c → number_of_value (get_or s.values c false) ≤ number_of_value (get_or t.values c false)) →
+      is_below xs ys ≡ false
       → is_below (value_in_key t.values o ++ xs) (value_in_key s.values o ++ ys) ≡ false
   no_more_value None xs ys h k = k
-  no_more_value (Some c) xs ys h k = not_below-cons (number_of_value (get_or t.values c false)) (number_of_value (get_or s.values c false)) xs ys (h c refl) k
+  no_more_value (Some c) xs ys h k = not_below-cons (number_of_value (get_or t.values c false))
+      (number_of_value (get_or s.values c false)) xs ys (h c refl) k
 
-  strictly : (o : Option ℕ) (c : ℕ) (xs ys : List ℕ) → o ≡ Some c → get_or s.values c false ≡ false → get_or t.values c false ≡ true
+  strictly : (o : Option ℕ) (c : ℕ) (xs ys : List ℕ) → o ≡ Some c → get_or s.values c false ≡ false →
+      get_or t.values c false ≡ true
       → is_below (value_in_key t.values o ++ xs) (value_in_key s.values o ++ ys) ≡ false
   strictly None c xs ys e low high = cc
   strictly (Some d) c xs ys e low high =
       let same : d ≡ c = cc in
       let more : number_of_value (get_or s.values d false) < number_of_value (get_or t.values d false) =
       subst (λ x. number_of_value (get_or s.values x false) < number_of_value (get_or t.values x false)) (sym same)
-      (subst (λ b. number_of_value b < number_of_value (get_or t.values c false)) (sym low) (subst (λ b. 0 < number_of_value b) (sym high) (omega arith))) in
+      (subst (λ b. number_of_value b < number_of_value (get_or t.values c false)) (sym low)
+      (subst (λ b. 0 < number_of_value b) (sym high) (omega arith))) in
       below_one_way (number_of_value (get_or s.values d false) ∷ ys) (number_of_value (get_or t.values d false) ∷ xs)
-      (below-cons_less (number_of_value (get_or s.values d false)) (number_of_value (get_or t.values d false)) ys xs more)
+      (below-cons_less (number_of_value (get_or s.values d false))
+      (number_of_value (get_or t.values d false)) ys xs more)
 
-  -- if a true condition of the second is false in the first, and nothing before it is more, the second isn't before the first
-  pub not_before_first : (ps qs : List ℕ) (q c : ℕ) → ((p : ℕ) → Contains ps p → IsNoMore p) → fault_of s q ≤ fault_of t q → condition_of g q ≡ Some c
+  -- if a true condition of the second is false in the first, and nothing before it is more, the second isn't before the
+  -- first
+  pub not_before_first : (ps qs : List ℕ) (q c : ℕ) → ((p : ℕ) → Contains ps p → IsNoMore p) →
+      fault_of s q ≤ fault_of t q →
+      condition_of g q ≡ Some c
       → get_or s.values c false ≡ false → get_or t.values c false ≡ true → is_before g (ps ++ q ∷ qs) t s ≡ false
   not_before_first [] qs q c fewer f is low high =
-      not_below-cons (fault_of t q) (fault_of s q) (value_in_key t.values (condition_of g q) ++ key g qs t) (value_in_key s.values (condition_of g q) ++ key g qs s) f
+      not_below-cons (fault_of t q) (fault_of s q) (value_in_key t.values (condition_of g q) ++ key g qs t)
+      (value_in_key s.values (condition_of g q) ++ key g qs s) f
       (strictly (condition_of g q) c (key g qs t) (key g qs s) is low high)
   not_before_first (p ∷ ps) qs q c fewer f is low high =
       let here = fewer p (Contains-first p ps) in
-      not_below-cons (fault_of t p) (fault_of s p) (value_in_key t.values (condition_of g p) ++ key g (ps ++ q ∷ qs) t) (value_in_key s.values (condition_of g p) ++ key g (ps ++ q ∷ qs) s) here.faults
+      not_below-cons (fault_of t p) (fault_of s p) (value_in_key t.values (condition_of g p) ++ key g (ps ++ q ∷ qs) t)
+      (value_in_key s.values (condition_of g p) ++ key g (ps ++ q ∷ qs) s) here.faults
       (no_more_value (condition_of g p) (key g (ps ++ q ∷ qs) t) (key g (ps ++ q ∷ qs) s) here.values
       (not_before_first ps qs q c (λ x k. fewer x (Contains-rest p ps x k)) f is low high))
 
 -- ---- the outcome of standings
 
 module _ (g : Graph) (order : List ℕ) (s : List (Option Bool)) where
-  value_in : (c : ℕ) → c < condition_count g → get_or (scenario_of g s).values c false ≡ is_set (get_or s (process_of g c) None)
+  value_in : (c : ℕ) → c < condition_count g →
+      get_or (scenario_of g s).values c false ≡ is_set (get_or s (process_of g c) None)
   value_in c l = get_or-map-below (λ d. is_set (get_or s (process_of g d) None)) (condition_count g) c false l
 
   no_faults : (p : ℕ) → fault_of (scenario_of g s) p ≡ 0
@@ -85,7 +103,8 @@ module _ (g : Graph) (order : List ℕ) (s : List (Option Bool)) where
 
   pub scenario_lawful : IsScenario g (scenario_of g s)
   scenario_lawful = record {
-    values = length-map (numbers_below (condition_count g)) (λ d. is_set (get_or s (process_of g d) None)) ∙ length-range_with_len 0 (condition_count g);
+    values = length-map (numbers_below (condition_count g)) (λ d. is_set (get_or s (process_of g d) None))
+        ∙ length-range_with_len 0 (condition_count g);
     faults = length-replicate (process_count g) 0;
     budget = omega (arith, sum-zeros (process_count g));
   }
@@ -99,28 +118,41 @@ module _ (g : Graph) (order : List ℕ) (topological : IsTopological g order) (f
     unset : (q : ℕ) → q < process_count g → k ≤ place order q → get_or s q None ≡ None
 
   -- by the standings at a process two of its inputs are live exactly if they are
-  two_live_here : (k : ℕ) (s : List (Option Bool)) → AreSettled g order k s → (o : List Bool) → Follows g order k s o → (p : ℕ) → place order p ≡ k
+  two_live_here : (k : ℕ) (s : List (Option Bool)) → AreSettled g order k s → (o : List Bool) → Follows g order k s o →
+      (p : ℕ) →
+      place order p ≡ k
       → are_two_live s (step_of g p).inputs ≡ has_two_live g o p
   two_live_here k s are o follows p at = ap (nat_lt 1)
-      (sym (length-filter (is_live_in s) (map (input_of g) (inputs g p))) ∙ ap length (filter-map (is_live_in s) (input_of g) (inputs g p)) ∙
+      (sym (length-filter (is_live_in s) (map (input_of g) (inputs g p)))
+      ∙ ap length (filter-map (is_live_in s) (input_of g) (inputs g p)) ∙
       length-map (filter (is_live_edge g s) (inputs g p)) (input_of g)
-      ∙ ap length (same_filter (is_live_edge g s) (live g o) (inputs g p) (λ e c. live_here g order topological k s are o follows p e at c)))
+      ∙ ap length (same_filter (is_live_edge g s) (live g o) (inputs g p)
+      (λ e c. live_here g order topological k s are o follows p e at c)))
 
   -- no value of the outcome of standings is more than in an outcome that goes their way
-  no_more : (k : ℕ) (s u : List (Option Bool)) (t : Scenario) → Follows g order k s t.values → (p : ℕ) → place order p < k → get_or u p None ≡ get_or s p None → IsNoMore g (scenario_of g u) t p
+  no_more : (k : ℕ) (s u : List (Option Bool)) (t : Scenario) → Follows g order k s t.values → (p : ℕ) →
+      place order p < k → get_or u p None ≡ get_or s p None →
+      IsNoMore g (scenario_of g u) t p
   no_more k s u t f p l same = record {
     faults = omega (arith, no_faults g order u p);
     values = λ c its.
         let of_it = process_of_condition_of g p c its in
         let within = condition_of_below g p c its in
         below c (value_in g order u c within ∙ ap (λ q. is_set (get_or u q None)) of_it ∙ ap is_set same)
-        (get_or s p None) refl (λ v is. f.takes c within (subst (λ q. place order q < k) (sym of_it) l) v (subst (λ q. get_or s q None ≡ Some v) (sym of_it) is));
+        (get_or s p None) refl (λ v is. f.takes c within (subst (λ q. place order q < k) (sym of_it) l) v
+        (subst (λ q. get_or s q None ≡ Some v) (sym of_it) is));
   }
     where
-      below : (c : ℕ) → get_or (scenario_of g u).values c false ≡ is_set (get_or s p None) → (x : Option Bool) → get_or s p None ≡ x
-          → ((v : Bool) → get_or s p None ≡ Some v → get_or t.values c false ≡ v) → number_of_value (get_or (scenario_of g u).values c false) ≤ number_of_value (get_or t.values c false)
-      below c e None is h = let z : get_or (scenario_of g u).values c false ≡ false = e ∙ ap is_set is in let y = ap number_of_value z in omega arith
-      below c e (Some v) is h = let z : get_or (scenario_of g u).values c false ≡ v = e ∙ ap is_set is in let y = ap number_of_value (z ∙ sym (h v is)) in omega arith
+      below : (c : ℕ) → get_or (scenario_of g u).values c false ≡ is_set (get_or s p None) → (x : Option Bool) →
+          get_or s p None ≡ x
+          → ((v : Bool) → get_or s p None ≡ Some v → get_or t.values c false ≡ v) →
+          number_of_value (get_or (scenario_of g u).values c false) ≤ number_of_value (get_or t.values c false)
+      below c e None is h = let z : get_or (scenario_of g u).values c false ≡ false = e ∙ ap is_set is in
+          let y = ap number_of_value z in
+          omega arith
+      below c e (Some v) is h = let z : get_or (scenario_of g u).values c false ≡ v = e ∙ ap is_set is in
+          let y = ap number_of_value (z ∙ sym (h v is)) in
+          omega arith
 
   module _ (p : ℕ) (within : p < process_count g) where
     -- the first standings at the process with two live inputs, of those that go on from others
@@ -128,7 +160,8 @@ module _ (g : Graph) (order : List ℕ) (topological : IsTopological g order) (f
       settled : AreSettled g order (place order p) found
       two : are_two_live found (step_of g p).inputs ≡ true
       keeps : (q : ℕ) → q < process_count g → place order q < k → get_or found q None ≡ get_or s q None
-      least : (t : Scenario) → Follows g order k s t.values → has_two_live g t.values p ≡ true → is_before g order t (scenario_of g found) ≡ false
+      least : (t : Scenario) → Follows g order k s t.values → has_two_live g t.values p ≡ true →
+          is_before g order t (scenario_of g found) ≡ false
 
     -- what the search answers
     abbrev Answers : ℕ → List (Option Bool) → Option (List (Option Bool)) → Type 0
@@ -136,7 +169,8 @@ module _ (g : Graph) (order : List ℕ) (topological : IsTopological g order) (f
     Answers k s (Some found) = IsFirstFrom k s found
 
     -- at the process itself
-    at_process : (k : ℕ) (s : List (Option Bool)) → AreSettled g order k s → IsFresh k s → place order p ≡ k → Answers k s (if are_two_live s (step_of g p).inputs then Some s else None)
+    at_process : (k : ℕ) (s : List (Option Bool)) → AreSettled g order k s → IsFresh k s → place order p ≡ k →
+        Answers k s (if are_two_live s (step_of g p).inputs then Some s else None)
     at_process k s are fresh at = go (are_two_live s (step_of g p).inputs) refl
       where
         go : (b : Bool) → are_two_live s (step_of g p).inputs ≡ b → Answers k s (if b then Some s else None)
@@ -150,17 +184,20 @@ module _ (g : Graph) (order : List ℕ) (topological : IsTopological g order) (f
               (λ q c its. each t f q c its (cases_lt (place order q) k));
         }
           where
-            each : (t : Scenario) → Follows g order k s t.values → (q c : ℕ) → condition_of g q ≡ Some c → (place order q < k) ⊎ (k ≤ place order q)
+            each : (t : Scenario) → Follows g order k s t.values → (q c : ℕ) → condition_of g q ≡ Some c →
+                (place order q < k) ⊎ (k ≤ place order q)
                 → number_of_value (get_or (scenario_of g s).values c false) ≤ number_of_value (get_or t.values c false)
             each t f q c its (inl l) = (no_more k s s t f q l refl).values c its
             each t f q c its (inr l) =
                 let of_it = process_of_condition_of g q c its in
                 let inside = condition_of_below g q c its in
                 let z : get_or (scenario_of g s).values c false ≡ false = value_in g order s c inside ∙
-                ap is_set (fresh.unset (process_of g c) (process_of_below g c inside) (subst (λ x. k ≤ place order x) (sym of_it) l)) in
+                ap is_set (fresh.unset (process_of g c) (process_of_below g c inside)
+                (subst (λ x. k ≤ place order x) (sym of_it) l)) in
                 let y = ap number_of_value z in omega arith
 
-    module _ (k q : ℕ) (qs : List ℕ) (s : List (Option Bool)) (are : AreSettled g order k s) (h : q < process_count g) (at : place order q ≡ k) (other : q ≢ p)
+    module _ (k q : ℕ) (qs : List ℕ) (s : List (Option Bool)) (are : AreSettled g order k s) (h : q < process_count g)
+        (at : place order q ≡ k) (other : q ≢ p)
         (rest : drop k order ≡ q ∷ qs) where
       -- the standings after the process, with either value
       abbrev off : List (Option Bool)
@@ -173,7 +210,9 @@ module _ (g : Graph) (order : List ℕ) (topological : IsTopological g order) (f
       abbrev here : Activation
       here = activation_in s (step_of g q)
 
-      kept : (v : Bool) (found : List (Option Bool)) → IsFirstFrom (k + 1) (settled s (step_of g q) v) found → (r : ℕ) → r < process_count g → place order r < k → get_or found r None ≡ get_or s r None
+      kept : (v : Bool) (found : List (Option Bool)) → IsFirstFrom (k + 1) (settled s (step_of g q) v) found → (r : ℕ) →
+          r < process_count g → place order r < k →
+          get_or found r None ≡ get_or s r None
       kept v found first r l m = first.keeps r l (omega arith)
           ∙ get_or-set_other s q r (standing here v) None (λ e. let f = ap (place order) e in omega arith)
 
@@ -184,7 +223,8 @@ module _ (g : Graph) (order : List ℕ) (topological : IsTopological g order) (f
       before_here r c = in_take g order topological k r c
 
       -- one way
-      one : choice here (condition_of g q) ≡ None → (x : Option (List (Option Bool))) → Answers (k + 1) off x → Answers k s (first_some x None)
+      one : choice here (condition_of g q) ≡ None → (x : Option (List (Option Bool))) → Answers (k + 1) off x →
+          Answers k s (first_some x None)
       one none None a = λ o f. a o (follows_one_way g order topological k s are q h few at false none o f)
       one none (Some found) first = record {
         settled = first.settled;
@@ -207,25 +247,31 @@ module _ (g : Graph) (order : List ℕ) (topological : IsTopological g order) (f
             go (By i) e = refl
 
         stands : get_or off q None ≡ Some false
-        stands = get_or-set_same s q (standing here false) None (omega (arith, are.long)) ∙ ap (λ b. if b then Some false else None) active_here
+        stands = get_or-set_same s q (standing here false) None (omega (arith, are.long))
+            ∙ ap (λ b. if b then Some false else None) active_here
 
-        least_off : (found : List (Option Bool)) → IsFirstFrom (k + 1) off found → (t : Scenario) → Follows g order k s t.values → has_two_live g t.values p ≡ true → (v : Bool) →
+        least_off : (found : List (Option Bool)) → IsFirstFrom (k + 1) off found → (t : Scenario) →
+            Follows g order k s t.values → has_two_live g t.values p ≡ true → (v : Bool) →
             get_or t.values c false ≡ v
             → is_before g order t (scenario_of g found) ≡ false
-        least_off found first t f two false e = first.least t (follows_value g order topological k s are q h few at false c some t.values e f) two
+        least_off found first t f two false e =
+            first.least t (follows_value g order topological k s are q h few at false c some t.values e f) two
         least_off found first t f two true e =
             let low : get_or (scenario_of g found).values c false ≡ false =
-            value_in g order found c (condition_of_below g q c its) ∙ ap (λ r. is_set (get_or found r None)) (process_of_condition_of g q c its)
+            value_in g order found c (condition_of_below g q c its)
+            ∙ ap (λ r. is_set (get_or found r None)) (process_of_condition_of g q c its)
             ∙ ap is_set (first.keeps q h (omega arith) ∙ stands) in
             subst (λ xs. is_before g xs t (scenario_of g found) ≡ false) (sym whole)
             (not_before_first g (scenario_of g found) t (take k order) qs q c
             (λ r i. let b = before_here r i in no_more k s found t f r b.1 (kept false found first r b.0 b.1))
             (omega (arith, no_faults g order found q)) its low e)
 
-        both : (x y : Option (List (Option Bool))) → Answers (k + 1) off x → Answers (k + 1) on y → Answers k s (first_some x y)
+        both : (x y : Option (List (Option Bool))) → Answers (k + 1) off x → Answers (k + 1) on y →
+            Answers k s (first_some x y)
         both None None a b = λ o f. go o f (get_or o c false) refl
           where
-            go : (o : List Bool) → Follows g order k s o → (v : Bool) → get_or o c false ≡ v → has_two_live g o p ≡ false
+            go : (o : List Bool) → Follows g order k s o → (v : Bool) → get_or o c false ≡ v →
+                has_two_live g o p ≡ false
             go o f false e = a o (follows_value g order topological k s are q h few at false c some o e f)
             go o f true e = b o (follows_value g order topological k s are q h few at true c some o e f)
         both None (Some found) a first = record {
@@ -235,9 +281,13 @@ module _ (g : Graph) (order : List ℕ) (topological : IsTopological g order) (f
           least = λ t f two. go t f two (get_or t.values c false) refl;
         }
           where
-            go : (t : Scenario) → Follows g order k s t.values → has_two_live g t.values p ≡ true → (v : Bool) → get_or t.values c false ≡ v → is_before g order t (scenario_of g found) ≡ false
-            go t f two false e = absurd (both_ways (has_two_live g t.values p) (a t.values (follows_value g order topological k s are q h few at false c some t.values e f)) two)
-            go t f two true e = first.least t (follows_value g order topological k s are q h few at true c some t.values e f) two
+            go : (t : Scenario) → Follows g order k s t.values → has_two_live g t.values p ≡ true → (v : Bool) →
+                get_or t.values c false ≡ v →
+                is_before g order t (scenario_of g found) ≡ false
+            go t f two false e = absurd (both_ways (has_two_live g t.values p)
+                (a t.values (follows_value g order topological k s are q h few at false c some t.values e f)) two)
+            go t f two true e =
+                first.least t (follows_value g order topological k s are q h few at true c some t.values e f) two
         both (Some found) y first b = record {
           settled = first.settled;
           two = first.two;
@@ -245,40 +295,53 @@ module _ (g : Graph) (order : List ℕ) (topological : IsTopological g order) (f
           least = λ t f two. least_off found first t f two (get_or t.values c false) refl;
         }
 
-      either : (x y : Option (List (Option Bool))) → Answers (k + 1) off x → Answers (k + 1) on y → Answers k s (first_some x (if_other (choice here (condition_of g q)) y))
+      either : (x y : Option (List (Option Bool))) → Answers (k + 1) off x → Answers (k + 1) on y →
+          Answers k s (first_some x (if_other (choice here (condition_of g q)) y))
       either x y a b = go (choice here (condition_of g q)) refl
         where
           go : (z : Option ℕ) → choice here (condition_of g q) ≡ z → Answers k s (first_some x (if_other z y))
           go None e = one e x a
           go (Some c) e = both c e x y a b
 
-    fresh_next : (k q : ℕ) (s : List (Option Bool)) (v : Bool) → place order q ≡ k → IsFresh k s → IsFresh (k + 1) (settled s (step_of g q) v)
+    fresh_next : (k q : ℕ) (s : List (Option Bool)) (v : Bool) → place order q ≡ k → IsFresh k s →
+        IsFresh (k + 1) (settled s (step_of g q) v)
     fresh_next k q s v at fresh = record {
-      unset = λ r l m. get_or-set_other s q r (standing (activation_in s (step_of g q)) v) None (λ e. let f = ap (place order) e in omega arith) ∙ fresh.unset r l (omega arith);
+      unset = λ r l m. get_or-set_other s q r (standing (activation_in s (step_of g q)) v) None
+          (λ e. let f = ap (place order) e in omega arith) ∙ fresh.unset r l (omega arith);
     }
 
-    searched : (qs : List ℕ) (k : ℕ) (s : List (Option Bool)) → drop k order ≡ qs → AreSettled g order k s → IsFresh k s → k ≤ place order p → Answers k s (found_from p (map (step_of g) qs) s)
+    searched : (qs : List ℕ) (k : ℕ) (s : List (Option Bool)) → drop k order ≡ qs → AreSettled g order k s →
+        IsFresh k s → k ≤ place order p →
+        Answers k s (found_from p (map (step_of g) qs) s)
     searched [] k s e are fresh later = absurd (let b = rest_none g order topological k e p within in omega arith)
     searched (q ∷ qs) k s e are fresh later =
         let r = rest_first g order topological k q qs e in
         let f = rest_more g order topological k q qs e in
         go (q == p) refl r.0 r.1
-        (λ n. searched qs (k + 1) (settled s (step_of g q) false) f (settled_next g order topological k s are q r.0 few r.1 false) (fresh_next k q s false r.1 fresh) n)
-        (λ n. searched qs (k + 1) (settled s (step_of g q) true) f (settled_next g order topological k s are q r.0 few r.1 true) (fresh_next k q s true r.1 fresh) n)
+        (λ n. searched qs (k + 1) (settled s (step_of g q) false) f
+        (settled_next g order topological k s are q r.0 few r.1 false) (fresh_next k q s false r.1 fresh) n)
+        (λ n. searched qs (k + 1) (settled s (step_of g q) true) f
+        (settled_next g order topological k s are q r.0 few r.1 true) (fresh_next k q s true r.1 fresh) n)
       where
         go : (b : Bool) → (q == p) ≡ b → q < process_count g → place order q ≡ k
-            → (k + 1 ≤ place order p → Answers (k + 1) (settled s (step_of g q) false) (found_from p (map (step_of g) qs) (settled s (step_of g q) false)))
-            → (k + 1 ≤ place order p → Answers (k + 1) (settled s (step_of g q) true) (found_from p (map (step_of g) qs) (settled s (step_of g q) true)))
+            → (k + 1 ≤ place order p → Answers (k + 1) (settled s (step_of g q) false)
+            (found_from p (map (step_of g) qs) (settled s (step_of g q) false)))
+            → (k + 1 ≤ place order p → Answers (k + 1) (settled s (step_of g q) true)
+            (found_from p (map (step_of g) qs) (settled s (step_of g q) true)))
             → Answers k s (if b then (if are_two_live s (step_of g q).inputs then Some s else None)
             else first_some (found_from p (map (step_of g) qs) (settled s (step_of g q) false))
-            (if_other (choice (activation_in s (step_of g q)) (condition_of g q)) (found_from p (map (step_of g) qs) (settled s (step_of g q) true))))
+            (if_other (choice (activation_in s (step_of g q)) (condition_of g q))
+            (found_from p (map (step_of g) qs) (settled s (step_of g q) true))))
         go true is h at low high =
             let same = eqb-true q p is in
-            subst (λ x. Answers k s (if are_two_live s (step_of g x).inputs then Some s else None)) (sym same) (at_process k s are fresh (sym (ap (place order) same) ∙ at))
+            subst (λ x. Answers k s (if are_two_live s (step_of g x).inputs then Some s else None)) (sym same)
+            (at_process k s are fresh (sym (ap (place order) same) ∙ at))
         go false is h at low high =
             let n = eqb-false q p is in
-            let past : k + 1 ≤ place order p = let d = place_differs g order topological q p h within n in omega arith in
-            either k q qs s are h at n e (found_from p (map (step_of g) qs) (settled s (step_of g q) false)) (found_from p (map (step_of g) qs) (settled s (step_of g q) true)) (low past) (high past)
+            let past : k + 1 ≤ place order p = let d = place_differs g order topological q p h within n in
+            omega arith in
+            either k q qs s are h at n e (found_from p (map (step_of g) qs) (settled s (step_of g q) false))
+            (found_from p (map (step_of g) qs) (settled s (step_of g q) true)) (low past) (high past)
 
     -- ---- from the start
 
@@ -289,14 +352,18 @@ module _ (g : Graph) (order : List ℕ) (topological : IsTopological g order) (f
     start_fresh = record { unset = λ q l m. get_or-replicate {A = Option Bool} 128 q None None (omega arith) }
 
     pub search_none : found_from p (map (step_of g) order) start ≡ None → (o : List Bool) → has_two_live g o p ≡ false
-    search_none e o = (let a : Answers 0 start None = subst (Answers 0 start) e (searched order 0 start refl (none_settled g order topological few) start_fresh (omega arith)) in a) o
+    search_none e o = (let a : Answers 0 start None = subst (Answers 0 start) e
+        (searched order 0 start refl (none_settled g order topological few) start_fresh (omega arith)) in a) o
         (all_follow g order topological few start o)
 
-    pub search_some : (found : List (Option Bool)) → found_from p (map (step_of g) order) start ≡ Some found → IsLeast g order (λ t. has_two_live g t.values p ≡ true) (scenario_of g found)
+    pub search_some : (found : List (Option Bool)) → found_from p (map (step_of g) order) start ≡ Some found →
+        IsLeast g order (λ t. has_two_live g t.values p ≡ true) (scenario_of g found)
     search_some found e =
-        let first : IsFirstFrom 0 start found = subst (Answers 0 start) e (searched order 0 start refl (none_settled g order topological few) start_fresh (omega arith)) in
+        let first : IsFirstFrom 0 start found = subst (Answers 0 start) e
+        (searched order 0 start refl (none_settled g order topological few) start_fresh (omega arith)) in
         record {
           lawful = scenario_lawful g order found;
-          holds = sym (two_live_here (place order p) found first.settled (scenario_of g found).values (own_follows g order found (place order p)) p refl) ∙ first.two;
+          holds = sym (two_live_here (place order p) found first.settled (scenario_of g found).values
+              (own_follows g order found (place order p)) p refl) ∙ first.two;
           least = λ t i two. first.least t (all_follow g order topological few start t.values) two;
         }

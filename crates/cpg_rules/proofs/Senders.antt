@@ -1,10 +1,12 @@
 -- If no node that sends lacks a slot, each sender has one.
-use Rattle.std.proofs.Common.{ℕ, ◌<◌, ◌≡◌, Bool, true, false, not, ◌&&◌, ◌==◌, length, refl, sym, ap, ◌∙◌, subst, eq-eqb, inl, inr}
+use Rattle.std.proofs.Common.{ℕ, ◌<◌, ◌≡◌, Bool, true, false, not, ◌&&◌, ◌==◌, length, refl, sym, ap, ◌∙◌, subst}
+use Rattle.std.proofs.Common.{eq-eqb, inl, inr}
 use Rattle.std.specs.Bool.{nat_lt}
 use Rattle.std.specs.List.{list_any}
 use Rattle.std.proofs.lemmas.Bool.{and_from, or_left, or_right, both_ways}
 use Rattle.cpg_base.specs.Numbers.{numbers_below}
-use Rattle.cpg_base.specs.Graph.{Graph, process_count, edge_count, condition_count, source, node_of, process_of, is_message, is_sent_item, producer_of_item}
+use Rattle.cpg_base.specs.Graph.{Graph, process_count, edge_count, condition_count, source, node_of, process_of}
+use Rattle.cpg_base.specs.Graph.{is_message, is_sent_item, producer_of_item}
 use Rattle.cpg_base.specs.Limits.{IsWithinLimits}
 use Rattle.cpg_base.specs.WellFormed.{HasSenderSlots}
 use Rattle.cpg_base.proofs.Items.{item_cases, process_of_below}
@@ -35,20 +37,25 @@ module _ (g : Graph) (w : IsWithinLimits g) (none_lacks : (n : ℕ) → n < leng
       let node = node_of g (source g e) in
       slot_there node (node_within (source g e) (w.edges e _ l).from)
       (or_left (sends_message g node) (nat_lt 1 (length g.nodes) && decides g node)
-      (any_there (λ f. is_message_of g f node) (edge_count g) e l (and_from (is_message g e) (node_of g (source g e) == node) is (eq-eqb node node refl))))
+      (any_there (λ f. is_message_of g f node) (edge_count g) e l
+      (and_from (is_message g e) (node_of g (source g e) == node) is (eq-eqb node node refl))))
 
-  of_broadcast : (c : ℕ) → c < condition_count g → nat_lt 1 (length g.nodes) ≡ true → has_slot g (node_of g (process_of g c)) ≡ true
+  of_broadcast : (c : ℕ) → c < condition_count g → nat_lt 1 (length g.nodes) ≡ true →
+      has_slot g (node_of g (process_of g c)) ≡ true
   of_broadcast c l some =
       let node = node_of g (process_of g c) in
       slot_there node (node_within (process_of g c) (process_of_below g c l))
       (or_right (sends_message g node) (nat_lt 1 (length g.nodes) && decides g node)
-      (and_from (nat_lt 1 (length g.nodes)) (decides g node) some (any_there (λ d. node_of g (process_of g d) == node) (condition_count g) c l (eq-eqb node node refl))))
+      (and_from (nat_lt 1 (length g.nodes)) (decides g node) some
+      (any_there (λ d. node_of g (process_of g d) == node) (condition_count g) c l (eq-eqb node node refl))))
 
   pub senders_have_slots : HasSenderSlots g
   senders_have_slots x l sent = elim (item_cases g x l) [
     | inl a ↦ (let never : false ≡ true = sym (ap (is_sent_item g) a.1) ∙ sent in cc)
     | inr r ↦ elim r [
-      | inl m ↦ subst (λ n. has_slot g n ≡ true) (sym (ap (λ i. node_of g (producer_of_item g i)) m.3)) (of_message m.0 m.1 (sym (ap (is_sent_item g) m.3) ∙ sent))
-      | inr b ↦ subst (λ n. has_slot g n ≡ true) (sym (ap (λ i. node_of g (producer_of_item g i)) b.3)) (of_broadcast b.0 b.1 (sym (ap (is_sent_item g) b.3) ∙ sent))
+      | inl m ↦ subst (λ n. has_slot g n ≡ true) (sym (ap (λ i. node_of g (producer_of_item g i)) m.3))
+          (of_message m.0 m.1 (sym (ap (is_sent_item g) m.3) ∙ sent))
+      | inr b ↦ subst (λ n. has_slot g n ≡ true) (sym (ap (λ i. node_of g (producer_of_item g i)) b.3))
+          (of_broadcast b.0 b.1 (sym (ap (is_sent_item g) b.3) ∙ sent))
     ]
   ]

@@ -24,18 +24,23 @@ makes_extends a b c t n m e = record {
 
 -- parts stay if other things are known
 pub extends_known : (a b : Sharing) → b.parts ≡ a.parts → b.ranks ≡ a.ranks → Extends a b
-extends_known a b parts ranks = record { ranks = ranks; longer = omega (arith, ap length parts); same = λ n l. ap (λ ps. tree_at ps n) parts }
+extends_known a b parts ranks =
+    record { ranks = ranks; longer = omega (arith, ap length parts); same = λ n l. ap (λ ps. tree_at ps n) parts }
 
 -- ---- the trees of processes
 
-pub same_trees : (a b : Sharing) (roots : List ℕ) → Extends a b → All (λ n. n < length a.parts) roots → trees_of b.parts roots ≡ trees_of a.parts roots
+pub same_trees : (a b : Sharing) (roots : List ℕ) → Extends a b → All (λ n. n < length a.parts) roots →
+    trees_of b.parts roots ≡ trees_of a.parts roots
 same_trees a b [] e h = refl
-same_trees a b (n ∷ ns) e h = ap₂ (λ t ts. t ∷ ts) (e.same n (All-head (λ m. m < length a.parts) n ns h)) (same_trees a b ns e (All-tail (λ m. m < length a.parts) n ns h))
+same_trees a b (n ∷ ns) e h = ap₂ (λ t ts. t ∷ ts) (e.same n (All-head (λ m. m < length a.parts) n ns h))
+    (same_trees a b ns e (All-tail (λ m. m < length a.parts) n ns h))
 
-pub roots_stay : (a b : Sharing) (count : ℕ) (roots : List ℕ) → Extends a b → AreRoots a.parts count roots → AreRoots b.parts count roots
+pub roots_stay : (a b : Sharing) (count : ℕ) (roots : List ℕ) → Extends a b → AreRoots a.parts count roots →
+    AreRoots b.parts count roots
 roots_stay a b count roots e are = record { all = are.all; within = λ k d l. omega (arith, are.within k d l, e.longer) }
 
-pub map_set : (parts : List SharedPart) (roots : List ℕ) (p n : ℕ) → trees_of parts (set roots p n) ≡ set (trees_of parts roots) p (tree_at parts n)
+pub map_set : (parts : List SharedPart) (roots : List ℕ) (p n : ℕ) →
+    trees_of parts (set roots p n) ≡ set (trees_of parts roots) p (tree_at parts n)
 map_set parts [] p n = refl
 map_set parts (r ∷ rs) zero n = refl
 map_set parts (r ∷ rs) (suc p) n = ap (λ ts. tree_at parts r ∷ ts) (map_set parts rs p n)

@@ -1,11 +1,13 @@
 -- The standings after a step are right, and what is read off them is the activation.
-use Rattle.std.proofs.Common.{ℕ, ◌+◌, ◌<◌, ◌≤◌, ◌≡◌, ◌≢◌, Bool, true, false, ◌&&◌, if◌then◌else◌, List, [], ◌∷◌, get_or, map, filter, Contains, Option, Some, None, is_some, arith, refl, sym, ap, ◌∙◌}
+use Rattle.std.proofs.Common.{ℕ, ◌+◌, ◌<◌, ◌≤◌, ◌≡◌, ◌≢◌, Bool, true, false, ◌&&◌, if◌then◌else◌, List, [], ◌∷◌, get_or}
+use Rattle.std.proofs.Common.{map, filter, Contains, Option, Some, None, is_some, arith, refl, sym, ap, ◌∙◌}
 use Rattle.std.proofs.Common.{subst, inl, inr, get_or-set_other, get_or-set_same, length-set}
 use Rattle.std.proofs.lemmas.Bool.{cases_eq}
 use Rattle.std.proofs.lemmas.List.Folds.{list_all-map}
 use Rattle.cpg_base.specs.declared.activation.Activation.{Activation}
 use Rattle.cpg_base.specs.declared.activation.Activation.TheVariants.{Inactive, Plain, By}
-use Rattle.cpg_base.specs.Graph.{Graph, process_count, condition_count, process_at, edge_at, edge_count, source, inputs, process_of, condition_of}
+use Rattle.cpg_base.specs.Graph.{Graph, process_count, condition_count, process_at, edge_at, edge_count, source, inputs}
+use Rattle.cpg_base.specs.Graph.{process_of, condition_of}
 use Rattle.cpg_base.specs.Activity.{is_active, takes, value_of, by_first, activation_by, activation, active, live}
 use Rattle.cpg_base.proofs.Inputs.{inputs_parts, same_activation_by}
 use Rattle.cpg_base.proofs.Items.{process_of_below, same_condition}
@@ -13,9 +15,11 @@ use Rattle.cpg_order.specs.Urgency.{IsTopological}
 use Rattle.cpg_base.specs.Order.{place}
 use Rattle.cpg_base.proofs.Places.{same_place, Contains-order}
 use Rattle.cpg_order.proofs.Acyclic.{input_goes_up, source_in_order, activation_is}
-use Rattle.cpg_base.proofs.ConditionProcesses.{condition_of_edge, value_of_process, condition_of_process_of, process_of_condition_of, condition_of_below}
+use Rattle.cpg_base.proofs.ConditionProcesses.{condition_of_edge, value_of_process, condition_of_process_of}
+use Rattle.cpg_base.proofs.ConditionProcesses.{process_of_condition_of, condition_of_below}
 use Rattle.cpg_rules.specs.Steps.{input_of, step_of}
-use Rattle.cpg_rules.specs.Growing.{is_taken, is_live_in, first_live, activation_from, activation_in, standing, choice, settled}
+use Rattle.cpg_rules.specs.Growing.{is_taken, is_live_in, first_live, activation_from, activation_in, standing, choice}
+use Rattle.cpg_rules.specs.Growing.{settled}
 use Rattle.cpg_rules.specs.Way.{Follows, AreSettled}
 
 -- ---- the activation of a step is that of its inputs' edges
@@ -30,27 +34,33 @@ module _ (g : Graph) (s : List (Option Bool)) where
   first_live-is (e ∷ es) = go (is_live_edge e) (first_live-is es)
     where
       go : (b : Bool) → first_live s (map (input_of g) es) ≡ by_first (filter is_live_edge es) →
-          (if b then By e else first_live s (map (input_of g) es)) ≡ by_first (if b then e ∷ filter is_live_edge es else filter is_live_edge es)
+          (if b then By e else first_live s (map (input_of g) es))
+          ≡ by_first (if b then e ∷ filter is_live_edge es else filter is_live_edge es)
       go true ih = refl
       go false ih = ih
 
-  activation_from-is : (join : Bool) (es : List ℕ) → activation_from join s (map (input_of g) es) ≡ activation_by join es is_live_edge
+  activation_from-is : (join : Bool) (es : List ℕ) →
+      activation_from join s (map (input_of g) es) ≡ activation_by join es is_live_edge
   activation_from-is join [] = refl
   activation_from-is true (e ∷ es) = first_live-is (e ∷ es)
-  activation_from-is false (e ∷ es) = ap (λ b. if b then Plain else Inactive) (list_all-map (is_live_in s) (input_of g) (e ∷ es))
+  activation_from-is false (e ∷ es) =
+      ap (λ b. if b then Plain else Inactive) (list_all-map (is_live_in s) (input_of g) (e ∷ es))
 
-  pub activation_in-is : (p : ℕ) → activation_in s (step_of g p) ≡ activation_by (process_at g p).join (inputs g p) is_live_edge
+  pub activation_in-is : (p : ℕ) →
+      activation_in s (step_of g p) ≡ activation_by (process_at g p).join (inputs g p) is_live_edge
   activation_in-is p = activation_from-is (process_at g p).join (inputs g p)
 
 module _ (g : Graph) (order : List ℕ) (topological : IsTopological g order) where
   -- different processes have different places
   pub place_differs : (p q : ℕ) → p < process_count g → q < process_count g → p ≢ q → place order p ≢ place order q
-  place_differs p q h k n e = n (same_place order p q (Contains-order (process_count g) order topological.all p h) (Contains-order (process_count g) order topological.all q k) e)
+  place_differs p q h k n e = n (same_place order p q (Contains-order (process_count g) order topological.all p h)
+      (Contains-order (process_count g) order topological.all q k) e)
 
   module _ (k : ℕ) (s : List (Option Bool)) (are : AreSettled g order k s) where
     -- ---- an input of a process at the place is live as the standings say
 
-    module _ (o : List Bool) (follows : Follows g order k s o) (p e : ℕ) (at : place order p ≡ k) (input : Contains (inputs g p) e) where
+    module _ (o : List Bool) (follows : Follows g order k s o) (p e : ℕ) (at : place order p ≡ k)
+        (input : Contains (inputs g p) e) where
       within : e < edge_count g
       within = (inputs_parts g p e input).0
 
@@ -60,26 +70,33 @@ module _ (g : Graph) (order : List ℕ) (topological : IsTopological g order) wh
       sooner : place order (source g e) < k
       sooner = omega (arith, input_goes_up g order topological p e input)
 
-      takes_same : (v : Bool) → get_or s (source g e) None ≡ Some v → (w : Option Bool) → (edge_at g e).when ≡ w → takes w v ≡ takes w (value_of g o (source g e))
+      takes_same : (v : Bool) → get_or s (source g e) None ≡ Some v → (w : Option Bool) → (edge_at g e).when ≡ w →
+          takes w v ≡ takes w (value_of g o (source g e))
       takes_same v is None when = refl
       takes_same v is (Some wanted) when =
           let d = condition_of_edge g e wanted within from when in
-          let there : value_of g o (source g e) ≡ get_or o d.0 false = subst (λ q. value_of g o q ≡ get_or o d.0 false) d.2 (value_of_process g o d.0 d.1) in
-          let value : get_or o d.0 false ≡ v = follows.takes d.0 d.1 (subst (λ q. place order q < k) (sym d.2) sooner) v (subst (λ q. get_or s q None ≡ Some v) (sym d.2) is) in
+          let there : value_of g o (source g e) ≡ get_or o d.0 false =
+          subst (λ q. value_of g o q ≡ get_or o d.0 false) d.2 (value_of_process g o d.0 d.1) in
+          let value : get_or o d.0 false ≡ v = follows.takes d.0 d.1 (subst (λ q. place order q < k) (sym d.2) sooner) v
+          (subst (λ q. get_or s q None ≡ Some v) (sym d.2) is) in
           ap (takes (Some wanted)) (sym (there ∙ value))
 
-      live_by : (x : Option Bool) → get_or s (source g e) None ≡ x → is_some x ≡ active g o (source g e) → is_taken (edge_at g e).when x ≡ live g o e
+      live_by : (x : Option Bool) → get_or s (source g e) None ≡ x → is_some x ≡ active g o (source g e) →
+          is_taken (edge_at g e).when x ≡ live g o e
       live_by None is same = ap (λ b. b && takes (edge_at g e).when (value_of g o (source g e))) same
-      live_by (Some v) is same = takes_same v is (edge_at g e).when refl ∙ ap (λ b. b && takes (edge_at g e).when (value_of g o (source g e))) same
+      live_by (Some v) is same = takes_same v is (edge_at g e).when refl
+          ∙ ap (λ b. b && takes (edge_at g e).when (value_of g o (source g e))) same
 
       pub live_here : is_live_edge g s e ≡ live g o e
       live_here = live_by (get_or s (source g e) None) refl (are.right o follows (source g e) from sooner)
 
     -- a process at the place has the activation that the standings say
-    pub activation_here : (o : List Bool) → Follows g order k s o → (p : ℕ) → p < process_count g → place order p ≡ k → activation_in s (step_of g p) ≡ activation g o p
+    pub activation_here : (o : List Bool) → Follows g order k s o → (p : ℕ) → p < process_count g → place order p ≡ k →
+        activation_in s (step_of g p) ≡ activation g o p
     activation_here o follows p h at =
         activation_in-is g s p
-        ∙ same_activation_by (process_at g p).join (inputs g p) (is_live_edge g s) (live g o) (λ e c. live_here o follows p e at c)
+        ∙ same_activation_by (process_at g p).join (inputs g p) (is_live_edge g s) (live g o)
+        (λ e c. live_here o follows p e at c)
         ∙ sym (activation_is g order topological o p (omega arith))
 
     -- ---- the next standings
@@ -100,7 +117,8 @@ module _ (g : Graph) (order : List ℕ) (topological : IsTopological g order) wh
 
       pub follows_back : (o : List Bool) → Follows g order (k + 1) next o → Follows g order k s o
       follows_back o f = record {
-        takes = λ c l m value is. f.takes c l (omega arith) value (next_before (process_of g c) (not_here (process_of g c) m) ∙ is);
+        takes = λ c l m value is.
+            f.takes c l (omega arith) value (next_before (process_of g c) (not_here (process_of g c) m) ∙ is);
       }
 
       some_standing : (a : Activation) (v w : Bool) → standing a v ≡ Some w → (is_active a ≡ true) × (v ≡ w)
@@ -108,14 +126,18 @@ module _ (g : Graph) (order : List ℕ) (topological : IsTopological g order) wh
       some_standing Plain v w e = (refl, cc)
       some_standing (By i) v w e = (refl, cc)
 
-      pub follows_on : (o : List Bool) → Follows g order k s o → ((c : ℕ) → c < condition_count g → process_of g c ≡ p → is_active (activation_in s (step_of g p)) ≡ true → get_or o c false ≡ v) →
+      pub follows_on : (o : List Bool) → Follows g order k s o →
+          ((c : ℕ) → c < condition_count g → process_of g c ≡ p → is_active (activation_in s (step_of g p)) ≡ true →
+          get_or o c false ≡ v) →
           Follows g order (k + 1) next o
       follows_on o f own = record {
         takes = λ c l m value is. elim (cases_eq (process_of g c) p) [
           | inl e ↦
-              let r = some_standing (activation_in s (step_of g p)) v value (sym next_here ∙ subst (λ q. get_or next q None ≡ Some value) e is) in
+              let r = some_standing (activation_in s (step_of g p)) v value
+              (sym next_here ∙ subst (λ q. get_or next q None ≡ Some value) e is) in
               own c l e r.0 ∙ r.1
-          | inr n ↦ f.takes c l (let d = place_differs (process_of g c) p (process_of_below g c l) h n in omega arith) value (sym (next_before (process_of g c) n) ∙ is)
+          | inr n ↦ f.takes c l (let d = place_differs (process_of g c) p (process_of_below g c l) h n in
+              omega arith) value (sym (next_before (process_of g c) n) ∙ is)
         ];
       }
 
@@ -125,9 +147,12 @@ module _ (g : Graph) (order : List ℕ) (topological : IsTopological g order) wh
       no_condition (By j) x c e f i = cc
 
       -- if one way alone is taken, all outcomes take it
-      pub follows_one_way : choice (activation_in s (step_of g p)) (condition_of g p) ≡ None → (o : List Bool) → Follows g order k s o → Follows g order (k + 1) next o
+      pub follows_one_way : choice (activation_in s (step_of g p)) (condition_of g p) ≡ None → (o : List Bool) →
+          Follows g order k s o →
+          Follows g order (k + 1) next o
       follows_one_way none o f = follows_on o f
-          (λ c i j active. absurd (no_condition (activation_in s (step_of g p)) (condition_of g p) c none active (subst (λ x. condition_of g x ≡ Some c) j (condition_of_process_of g c i))))
+          (λ c i j active. absurd (no_condition (activation_in s (step_of g p)) (condition_of g p) c none active
+          (subst (λ x. condition_of g x ≡ Some c) j (condition_of_process_of g c i))))
 
       chosen : (a : Activation) (x : Option ℕ) (c : ℕ) → choice a x ≡ Some c → x ≡ Some c
       chosen Inactive x c e = cc
@@ -135,14 +160,18 @@ module _ (g : Graph) (order : List ℕ) (topological : IsTopological g order) wh
       chosen (By j) x c e = e
 
       -- if both are, it is the condition of the process that tells
-      pub its_condition : (c : ℕ) → choice (activation_in s (step_of g p)) (condition_of g p) ≡ Some c → condition_of g p ≡ Some c
+      pub its_condition : (c : ℕ) → choice (activation_in s (step_of g p)) (condition_of g p) ≡ Some c →
+          condition_of g p ≡ Some c
       its_condition c e = chosen (activation_in s (step_of g p)) (condition_of g p) c e
 
       -- an outcome takes the way of the value of its condition
-      pub follows_value : (c : ℕ) → choice (activation_in s (step_of g p)) (condition_of g p) ≡ Some c → (o : List Bool) → get_or o c false ≡ v → Follows g order k s o → Follows g order (k + 1) next o
+      pub follows_value : (c : ℕ) → choice (activation_in s (step_of g p)) (condition_of g p) ≡ Some c →
+          (o : List Bool) → get_or o c false ≡ v → Follows g order k s o →
+          Follows g order (k + 1) next o
       follows_value c some o value f =
           let its = its_condition c some in
-          follows_on o f (λ d i j active. ap (λ x. get_or o x false) (same_condition g d c i (condition_of_below g p c its) (j ∙ sym (process_of_condition_of g p c its))) ∙ value)
+          follows_on o f (λ d i j active. ap (λ x. get_or o x false) (same_condition g d c i
+          (condition_of_below g p c its) (j ∙ sym (process_of_condition_of g p c its))) ∙ value)
 
       is_some-standing : (a : Activation) → is_some (standing a v) ≡ is_active a
       is_some-standing Inactive = refl
@@ -153,8 +182,10 @@ module _ (g : Graph) (order : List ℕ) (topological : IsTopological g order) wh
       settled_next = record {
         long = length-set s p (standing (activation_in s (step_of g p)) v) ∙ are.long;
         right = λ o f q l m. elim (cases_eq q p) [
-          | inl e ↦ ap (λ x. is_some (get_or next x None)) e ∙ ap is_some next_here ∙ is_some-standing (activation_in s (step_of g p))
+          | inl e ↦ ap (λ x. is_some (get_or next x None)) e ∙ ap is_some next_here
+              ∙ is_some-standing (activation_in s (step_of g p))
               ∙ ap is_active (activation_here o (follows_back o f) p h at) ∙ ap (active g o) (sym e)
-          | inr n ↦ ap is_some (next_before q n) ∙ are.right o (follows_back o f) q l (let d = place_differs q p l h n in omega arith)
+          | inr n ↦ ap is_some (next_before q n)
+              ∙ are.right o (follows_back o f) q l (let d = place_differs q p l h n in omega arith)
         ];
       }

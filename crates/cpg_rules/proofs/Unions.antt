@@ -1,12 +1,14 @@
 -- Inputs whose trees tell that no two of them are live at once never are.
-use Rattle.std.proofs.Common.{ℕ, zero, suc, ◌<◌, ◌≡◌, Bool, true, false, not, ◌&&◌, ◌||◌, ◌==◌, if◌then◌else◌, List, [], ◌∷◌, length, get_or, map, filter, Option, Some, None, Contains, All, arith}
+use Rattle.std.proofs.Common.{ℕ, zero, suc, ◌<◌, ◌≡◌, Bool, true, false, not, ◌&&◌, ◌||◌, ◌==◌, if◌then◌else◌, List, []}
+use Rattle.std.proofs.Common.{◌∷◌, length, get_or, map, filter, Option, Some, None, Contains, All, arith}
 use Rattle.std.proofs.Common.{refl, sym, ap, ap₂, ◌∙◌, subst, eqb-true}
 use Rattle.std.specs.Bool.{nat_lt}
 use Rattle.std.proofs.lemmas.Bool.{both_ways, and_from, lt-ltb}
 use Rattle.std.proofs.lemmas.List.Elements.{Contains-get_or}
 use Rattle.cpg_base.specs.declared.activation.Activation.{Activation}
 use Rattle.cpg_base.specs.declared.activation.Activation.TheVariants.{Inactive, By}
-use Rattle.cpg_base.specs.Graph.{Graph, process_count, condition_count, edge_count, edge_at, source, inputs, condition_of}
+use Rattle.cpg_base.specs.Graph.{Graph, process_count, condition_count, edge_count, edge_at, source, inputs}
+use Rattle.cpg_base.specs.Graph.{condition_of}
 use Rattle.cpg_base.specs.Activity.{is_active, live}
 use Rattle.cpg_base.proofs.Inputs.{inputs_parts}
 use Rattle.cpg_base.proofs.Lists.{Contains-first, Contains-rest, Contains-map_parts}
@@ -57,12 +59,15 @@ module _ (o : List Bool) where
       beside_at (Test d low high) h = go (c == d) (nat_lt (rank ranks d) (rank ranks c)) refl
           (λ e. beside_at low (way_off d low high h e)) (λ e. beside_at high (way_on d low high h e))
         where
-          go : (a b : Bool) → (c == d) ≡ a → (get_or o d false ≡ false → beside ranks c off on low ≡ true) → (get_or o d false ≡ true → beside ranks c off on high ≡ true)
-              → (if a then off low || on high else (if b then beside ranks c off on low || beside ranks c off on high else off (Test d low high) || on (Test d low high))) ≡ true
+          go : (a b : Bool) → (c == d) ≡ a → (get_or o d false ≡ false → beside ranks c off on low ≡ true) →
+              (get_or o d false ≡ true → beside ranks c off on high ≡ true)
+              → (if a then off low || on high else (if b then beside ranks c off on low || beside ranks c off on high
+              else off (Test d low high) || on (Test d low high))) ≡ true
           go true b e f k =
               let same : get_or o c false ≡ get_or o d false = ap (λ x. get_or o x false) (eqb-true c d e) in
               either (get_or o c false) (off low) (on high)
-              (λ v. at_off v low (way_off d low high h (sym same ∙ v))) (λ v. at_on v high (way_on d low high h (sym same ∙ v)))
+              (λ v. at_off v low (way_off d low high h (sym same ∙ v)))
+              (λ v. at_on v high (way_on d low high h (sym same ∙ v)))
           go false true e f k = either (get_or o d false) (beside ranks c off on low) (beside ranks c off on high) f k
           go false false e f k = own (Test d low high) h
 
@@ -82,21 +87,28 @@ none_live : IsOne Inactive 0
 none_live = record { active = refl; few = refl }
 
 -- the first of the inputs alone
-first_alone : (e : ℕ) (f : ℕ → Bool) (b : Bool) → f e ≡ b → IsOne (if b then By e else Inactive) (length (filter f (e ∷ [])))
-first_alone e f true h = subst (λ v. IsOne (By e) (length (if v then e ∷ [] else []))) (sym h) (record { active = refl; few = refl })
+first_alone : (e : ℕ) (f : ℕ → Bool) (b : Bool) → f e ≡ b →
+    IsOne (if b then By e else Inactive) (length (filter f (e ∷ [])))
+first_alone e f true h =
+    subst (λ v. IsOne (By e) (length (if v then e ∷ [] else []))) (sym h) (record { active = refl; few = refl })
 first_alone e f false h = subst (λ v. IsOne Inactive (length (if v then e ∷ [] else []))) (sym h) none_live
 
 -- the first of the inputs with later ones that are not live with it
-first_with : (e : ℕ) (es : List ℕ) (f : ℕ → Bool) (b : Bool) → f e ≡ b → (a : Activation) → IsOne a (length (filter f es)) → (b ≡ true → is_active a ≡ true → ⊥)
+first_with : (e : ℕ) (es : List ℕ) (f : ℕ → Bool) (b : Bool) → f e ≡ b → (a : Activation) →
+    IsOne a (length (filter f es)) →
+    (b ≡ true → is_active a ≡ true → ⊥)
     → IsOne (first_settling true (if b then By e else Inactive) a) (length (filter f (e ∷ es)))
-first_with e es f true h a one apart = subst (λ v. IsOne (By e) (length (if v then e ∷ filter f es else filter f es))) (sym h) (go (length (filter f es)) one)
+first_with e es f true h a one apart = subst (λ v. IsOne (By e) (length (if v then e ∷ filter f es else filter f es)))
+    (sym h) (go (length (filter f es)) one)
   where
     go : (n : ℕ) → IsOne a n → IsOne (By e) (suc n)
     go zero one = record { active = refl; few = refl }
     go (suc n) one = absurd (apart refl (one.active ∙ lt-ltb 0 (suc n) (omega arith)))
-first_with e es f false h a one apart = subst (λ v. IsOne a (length (if v then e ∷ filter f es else filter f es))) (sym h) one
+first_with e es f false h a one apart =
+    subst (λ v. IsOne a (length (if v then e ∷ filter f es else filter f es))) (sym h) one
 
-module _ (g : Graph) (order : List ℕ) (topological : IsTopological g order) (guards : Guards) (are : AreGuardsOf g order guards) (ranks : List ℕ) (p : ℕ)
+module _ (g : Graph) (order : List ℕ) (topological : IsTopological g order) (guards : Guards)
+    (are : AreGuardsOf g order guards) (ranks : List ℕ) (p : ℕ)
     (o : List Bool) (long : length o ≡ condition_count g) where
   -- the tree of an input
   abbrev tree_in : ℕ → Guard
@@ -105,8 +117,10 @@ module _ (g : Graph) (order : List ℕ) (topological : IsTopological g order) (g
   input_at : (e : ℕ) → Contains (inputs g p) e → outcome_at (tree_in e) o ≡ (if live g o e then By e else Inactive)
   input_at e c =
       let within : e < edge_count g = (inputs_parts g p e c).0 in
-      live_tree_at o (By e) (test_of (condition_of g (source g e)) (edge_at g e).when) (get_or guards.trees (source g e) (Leaf Inactive))
-      ∙ ap₂ (λ a b. if a && b then By e else Inactive) (ap is_active ((are.trees (source g e) (source_in_order g order topological e within)).is o long))
+      live_tree_at o (By e) (test_of (condition_of g (source g e)) (edge_at g e).when)
+      (get_or guards.trees (source g e) (Leaf Inactive))
+      ∙ ap₂ (λ a b. if a && b then By e else Inactive)
+      (ap is_active ((are.trees (source g e) (source_in_order g order topological e within)).is o long))
       (passed g order topological o e within (condition_of g (source g e)) refl (edge_at g e).when refl)
 
   input_is_active : (e : ℕ) → Contains (inputs g p) e → live g o e ≡ true → is_active (outcome_at (tree_in e) o) ≡ true
@@ -117,31 +131,41 @@ module _ (g : Graph) (order : List ℕ) (topological : IsTopological g order) (g
   IsUnion es None = Unit {0}
   IsUnion es (Some t) = IsOne (outcome_at t o) (length (filter (live g o) es))
 
-  never_both : (s t : Guard) → are_both_live ranks s t ≡ false → is_active (outcome_at s o) ≡ true → is_active (outcome_at t o) ≡ true → ⊥
+  never_both : (s t : Guard) → are_both_live ranks s t ≡ false → is_active (outcome_at s o) ≡ true →
+      is_active (outcome_at t o) ≡ true → ⊥
   never_both s t e h k = both_ways (are_both_live ranks s t) e (both_at o ranks s t h k)
 
   -- an input that is not live with the later ones
-  with_first : (e : ℕ) (es : List ℕ) → Contains (inputs g p) e → (t : Guard) → IsOne (outcome_at t o) (length (filter (live g o) es)) → are_both_live ranks (tree_in e) t ≡ false
-      → IsOne (first_settling true (if live g o e then By e else Inactive) (outcome_at t o)) (length (filter (live g o) (e ∷ es)))
-  with_first e es c t one apart = first_with e es (live g o) (live g o e) refl (outcome_at t o) one (λ l k. never_both (tree_in e) t apart (input_is_active e c l) k)
+  with_first : (e : ℕ) (es : List ℕ) → Contains (inputs g p) e → (t : Guard) →
+      IsOne (outcome_at t o) (length (filter (live g o) es)) →
+      are_both_live ranks (tree_in e) t ≡ false
+      → IsOne (first_settling true (if live g o e then By e else Inactive) (outcome_at t o))
+      (length (filter (live g o) (e ∷ es)))
+  with_first e es c t one apart = first_with e es (live g o) (live g o e) refl (outcome_at t o) one
+      (λ l k. never_both (tree_in e) t apart (input_is_active e c l) k)
 
-  union_is : (es : List ℕ) → ((e : ℕ) → Contains es e → Contains (inputs g p) e) → IsUnion es (union g ranks guards.trees (map (input_of g) es))
+  union_is : (es : List ℕ) → ((e : ℕ) → Contains es e → Contains (inputs g p) e) →
+      IsUnion es (union g ranks guards.trees (map (input_of g) es))
   union_is [] f = none_live
-  union_is (e ∷ []) f = subst (λ a. IsOne a (length (filter (live g o) (e ∷ [])))) (sym (input_at e (f e (Contains-first e [])))) (first_alone e (live g o) (live g o e) refl)
+  union_is (e ∷ []) f = subst (λ a. IsOne a (length (filter (live g o) (e ∷ []))))
+      (sym (input_at e (f e (Contains-first e [])))) (first_alone e (live g o) (live g o e) refl)
   union_is (e ∷ d ∷ es) f =
-      go (union g ranks guards.trees (map (input_of g) (d ∷ es))) (union_is (d ∷ es) (λ x k. f x (Contains-rest e (d ∷ es) x k)))
+      go (union g ranks guards.trees (map (input_of g) (d ∷ es)))
+      (union_is (d ∷ es) (λ x k. f x (Contains-rest e (d ∷ es) x k)))
     where
       its : Contains (inputs g p) e
       its = f e (Contains-first e (d ∷ es))
 
-      more : (t : Guard) → IsOne (outcome_at t o) (length (filter (live g o) (d ∷ es))) → (b : Bool) → are_both_live ranks (tree_in e) t ≡ b
+      more : (t : Guard) → IsOne (outcome_at t o) (length (filter (live g o) (d ∷ es))) → (b : Bool) →
+          are_both_live ranks (tree_in e) t ≡ b
           → IsUnion (e ∷ d ∷ es) (if b then None else Some (met true ranks (tree_in e) t))
       more t one true is = tt
       more t one false is = subst (λ a. IsOne a (length (filter (live g o) (e ∷ d ∷ es))))
           (sym (met_at o true ranks (tree_in e) t ∙ ap (λ a. first_settling true a (outcome_at t o)) (input_at e its)))
           (with_first e (d ∷ es) its t one is)
 
-      go : (x : Option Guard) → IsUnion (d ∷ es) x → IsUnion (e ∷ d ∷ es) (union_with ranks (map (input_of g) (d ∷ es)) (tree_in e) x)
+      go : (x : Option Guard) → IsUnion (d ∷ es) x →
+          IsUnion (e ∷ d ∷ es) (union_with ranks (map (input_of g) (d ∷ es)) (tree_in e) x)
       go None h = tt
       go (Some t) one = more t one (are_both_live ranks (tree_in e) t) refl
 
@@ -149,20 +173,27 @@ module _ (g : Graph) (order : List ℕ) (topological : IsTopological g order) (g
   not_both true h = cc
   not_both false h = refl
 
-  apart_from : (e : ℕ) (es : List ℕ) → Contains (inputs g p) e → (x : Option Guard) → IsUnion es x → is_apart ranks (tree_in e) x ≡ true → nat_lt 1 (length (filter (live g o) (e ∷ es))) ≡ false
+  apart_from : (e : ℕ) (es : List ℕ) → Contains (inputs g p) e → (x : Option Guard) → IsUnion es x →
+      is_apart ranks (tree_in e) x ≡ true →
+      nat_lt 1 (length (filter (live g o) (e ∷ es))) ≡ false
   apart_from e es c None h k = cc
   apart_from e es c (Some t) one k = (with_first e es c t one (not_both (are_both_live ranks (tree_in e) t) k)).few
 
-  apart_few : (es : List ℕ) → ((e : ℕ) → Contains es e → Contains (inputs g p) e) → are_apart g ranks guards.trees (map (input_of g) es) ≡ true
+  apart_few : (es : List ℕ) → ((e : ℕ) → Contains es e → Contains (inputs g p) e) →
+      are_apart g ranks guards.trees (map (input_of g) es) ≡ true
       → nat_lt 1 (length (filter (live g o) es)) ≡ false
   apart_few [] f h = refl
-  apart_few (e ∷ es) f h = apart_from e es (f e (Contains-first e es)) (union g ranks guards.trees (map (input_of g) es)) (union_is es (λ x k. f x (Contains-rest e es x k))) h
+  apart_few (e ∷ es) f h = apart_from e es (f e (Contains-first e es))
+      (union g ranks guards.trees (map (input_of g) es)) (union_is es (λ x k. f x (Contains-rest e es x k))) h
 
   pub apart_single : are_apart g ranks guards.trees (map (input_of g) (inputs g p)) ≡ true → has_two_live g o p ≡ false
   apart_single h = apart_few (inputs g p) (λ e c. c) h
 
 -- the sources of a process's inputs are there
-pub inputs_within : (g : Graph) (order : List ℕ) → IsTopological g order → (p : ℕ) → All (λ (i : Input). i.source < process_count g) (map (input_of g) (inputs g p))
+pub inputs_within : (g : Graph) (order : List ℕ) → IsTopological g order → (p : ℕ) →
+    All (λ (i : Input). i.source < process_count g) (map (input_of g) (inputs g p))
 inputs_within g order topological p k d l =
-    let e = Contains-map_parts (input_of g) (inputs g p) (get_or (map (input_of g) (inputs g p)) k d) (Contains-get_or (map (input_of g) (inputs g p)) k d l) in
-    subst (λ (x : Input). x.source < process_count g) e.2 (source_in_order g order topological e.0 (inputs_parts g p e.0 e.1).0)
+    let e = Contains-map_parts (input_of g) (inputs g p) (get_or (map (input_of g) (inputs g p)) k d)
+    (Contains-get_or (map (input_of g) (inputs g p)) k d l) in
+    subst (λ (x : Input). x.source < process_count g) e.2
+    (source_in_order g order topological e.0 (inputs_parts g p e.0 e.1).0)

@@ -1,5 +1,6 @@
 -- An outcome's way through a tree lists the conditions that decide, in urgency order.
-use Rattle.std.proofs.Common.{ℕ, ◌+◌, ◌<◌, ◌≤◌, Bool, true, false, if◌then◌else◌, List, ◌∷◌, get_or, Contains, arith, subst, inl, inr}
+use Rattle.std.proofs.Common.{ℕ, ◌+◌, ◌<◌, ◌≤◌, Bool, true, false, if◌then◌else◌, List, ◌∷◌, get_or, Contains, arith}
+use Rattle.std.proofs.Common.{subst, inl, inr}
 use Rattle.cpg_base.specs.Graph.{Graph, condition_count, process_of}
 use Rattle.cpg_base.proofs.Lists.{Contains-cases, Contains-nil, Contains-filter, Contains-filter_parts}
 use Rattle.cpg_base.proofs.Ordered.{Rises, Rises-all_pairs, Rises-filter, same_rising}
@@ -16,25 +17,31 @@ module _ (g : Graph) (order : List ℕ) where
   abbrev pub Sooner : ℕ → ℕ → Type 0
   Sooner c d = place order (process_of g c) < place order (process_of g d)
 
-  way_within : (k : ℕ) (t : Guard) (o : List Bool) → IsOrderedFrom g order k t → (c : ℕ) → Contains (way t o) c → (c < condition_count g) × (k ≤ place order (process_of g c))
+  way_within : (k : ℕ) (t : Guard) (o : List Bool) → IsOrderedFrom g order k t → (c : ℕ) → Contains (way t o) c →
+      (c < condition_count g) × (k ≤ place order (process_of g c))
   way_within k (Leaf a) o h c d = absurd (Contains-nil c d)
   way_within k (Test e off on) o h c d = elim (Contains-cases e _ c d) [
     | inl is ↦ subst (λ x. (x < condition_count g) × (k ≤ place order (process_of g x))) is (h.0, h.1)
-    | inr m ↦ go (get_or o e false) m (λ i. way_within (place order (process_of g e) + 1) on o h.3 c i) (λ i. way_within (place order (process_of g e) + 1) off o h.2 c i)
+    | inr m ↦ go (get_or o e false) m (λ i. way_within (place order (process_of g e) + 1) on o h.3 c i)
+        (λ i. way_within (place order (process_of g e) + 1) off o h.2 c i)
   ]
     where
       go : (v : Bool) → Contains (if v then way on o else way off o) c
-          → (Contains (way on o) c → (c < condition_count g) × (place order (process_of g e) + 1 ≤ place order (process_of g c)))
-          → (Contains (way off o) c → (c < condition_count g) × (place order (process_of g e) + 1 ≤ place order (process_of g c)))
+          → (Contains (way on o) c →
+          (c < condition_count g) × (place order (process_of g e) + 1 ≤ place order (process_of g c)))
+          → (Contains (way off o) c →
+          (c < condition_count g) × (place order (process_of g e) + 1 ≤ place order (process_of g c)))
           → (c < condition_count g) × (k ≤ place order (process_of g c))
       go true i f j = let r = f i in (r.0, let a = r.1 in let b = h.1 in omega arith)
       go false i f j = let r = j i in (r.0, let a = r.1 in let b = h.1 in omega arith)
 
   way_rises : (k : ℕ) (t : Guard) (o : List Bool) → IsOrderedFrom g order k t → Rises Sooner (way t o)
   way_rises k (Leaf a) o h = tt
-  way_rises k (Test c off on) o h = go (get_or o c false) (way_rises (place order (process_of g c) + 1) off o h.2) (way_rises (place order (process_of g c) + 1) on o h.3)
+  way_rises k (Test c off on) o h = go (get_or o c false) (way_rises (place order (process_of g c) + 1) off o h.2)
+      (way_rises (place order (process_of g c) + 1) on o h.3)
     where
-      go : (v : Bool) → Rises Sooner (way off o) → Rises Sooner (way on o) → Rises Sooner (c ∷ (if v then way on o else way off o))
+      go : (v : Bool) → Rises Sooner (way off o) → Rises Sooner (way on o) →
+          Rises Sooner (c ∷ (if v then way on o else way off o))
       go true i j = (λ d m. let r = (way_within (place order (process_of g c) + 1) on o h.3 d m).1 in omega arith, j)
       go false i j = (λ d m. let r = (way_within (place order (process_of g c) + 1) off o h.2 d m).1 in omega arith, i)
 
@@ -42,8 +49,11 @@ pub ways_are_deciding : WaysAreDeciding
 ways_are_deciding g order p tree values urgency topological guard long =
     same_rising (Sooner g order) (λ a b s t. omega arith) (way tree values) (deciding_along g order values p)
     (way_rises g order 0 tree values guard.ordered)
-    (Rises-filter (Sooner g order) (decides g values p) (conditions_along g order) (Rises-all_pairs (Sooner g order) (conditions_along g order) (conditions_rise g order topological)))
+    (Rises-filter (Sooner g order) (decides g values p) (conditions_along g order)
+    (Rises-all_pairs (Sooner g order) (conditions_along g order) (conditions_rise g order topological)))
     (λ c m. let within = (way_within g order 0 tree values guard.ordered c m).0 in
-    Contains-filter (decides g values p) (conditions_along g order) c ((way_is_deciding g order urgency p values long tree guard c within).0 m) (Contains-along g order topological c within))
+    Contains-filter (decides g values p) (conditions_along g order) c
+    ((way_is_deciding g order urgency p values long tree guard c within).0 m)
+    (Contains-along g order topological c within))
     (λ c m. let r = Contains-filter_parts (decides g values p) (conditions_along g order) c m in
     (way_is_deciding g order urgency p values long tree guard c (from_along g order c r.0).0).1 r.1)

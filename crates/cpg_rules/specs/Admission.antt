@@ -15,8 +15,8 @@ pub record Admission : Type 0 where
   pub order : List ℕ
   pub guards : Guards
 
--- The graph keeps all rules, also those on an order that it gives. `order` is its urgency order, and `trees` are the guards of
--- both.
+-- The graph keeps all rules, also those on an order that it gives. `order` is its urgency order, and `trees` are the
+-- guards of both.
 pub record IsAdmitted (g : Graph) (order : List ℕ) (trees : Guards) : Type 0 where
   pub limits : IsWithinLimits g
   pub well_formed : WellFormed g

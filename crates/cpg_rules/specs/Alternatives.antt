@@ -1,5 +1,6 @@
 -- Outcomes that make two inputs of a process live, and how the first is found along an order.
-use Rattle.std.specs.Prelude.{ℕ, ◌≡◌, ◌<◌, Bool, true, false, ◌==◌, nat_lt, if◌then◌else◌, List, [], ◌∷◌, Option, Some, None, IsTrue, get_or, map, length, filter, count_by, replicate}
+use Rattle.std.specs.Prelude.{ℕ, ◌≡◌, ◌<◌, Bool, true, false, ◌==◌, nat_lt, if◌then◌else◌, List, [], ◌∷◌, Option, Some}
+use Rattle.std.specs.Prelude.{None, IsTrue, get_or, map, length, filter, count_by, replicate}
 use Rattle.cpg_base.specs.Numbers.{numbers_below}
 use Rattle.cpg_base.specs.Graph.{Graph, process_count, condition_count, process_at, process_of, inputs}
 use Rattle.cpg_base.specs.Activity.{live}
@@ -14,7 +15,8 @@ has_two_live g values p = nat_lt 1 (length (filter (live g values) (inputs g p))
 
 -- no outcome makes two inputs of a join live
 abbrev pub IsSingleJoin : Graph → ℕ → Type 0
-IsSingleJoin g p = (values : List Bool) → IsTrue (process_at g p).join → length values ≡ condition_count g → has_two_live g values p ≡ false
+IsSingleJoin g p = (values : List Bool) → IsTrue (process_at g p).join → length values ≡ condition_count g →
+    has_two_live g values p ≡ false
 
 -- the least join that some outcome gives two live inputs, and the least scenario that does
 pub record AreAlternatives (g : Graph) (order : List ℕ) (p : ℕ) (s : Scenario) : Type 0 where

@@ -1,5 +1,6 @@
 -- Whether two inputs of a join are live in one outcome, by their trees.
-use Rattle.std.specs.Prelude.{ℕ, Bool, true, false, not, ◌&&◌, ◌||◌, ◌==◌, nat_lt, if◌then◌else◌, List, [], ◌∷◌, Option, Some, None}
+use Rattle.std.specs.Prelude.{ℕ, Bool, true, false, not, ◌&&◌, ◌||◌, ◌==◌, nat_lt, if◌then◌else◌, List, [], ◌∷◌, Option}
+use Rattle.std.specs.Prelude.{Some, None}
 use Rattle.cpg_base.specs.declared.activation.Activation.TheVariants.{Inactive}
 use Rattle.cpg_base.specs.Activity.{is_active}
 use Rattle.cpg_base.specs.Graph.{Graph}
@@ -31,7 +32,8 @@ are_both_live ranks (Test c off on) t = beside ranks c (are_both_live ranks off)
 abbrev pub union_with : List ℕ → List Input → Guard → Option Guard → Option Guard
 union_with ranks [] first later = Some first
 union_with ranks (i ∷ is) first None = None
-union_with ranks (i ∷ is) first (Some later) = if are_both_live ranks first later then None else Some (met true ranks first later)
+union_with ranks (i ∷ is) first (Some later) = if are_both_live ranks first later then None
+    else Some (met true ranks first later)
 
 -- the tree of a join with these inputs, if no two of them are live at once
 abbrev pub union : Graph → List ℕ → List Guard → List Input → Option Guard

@@ -1,5 +1,6 @@
 -- How the tree of a process is composed from the trees of the sources of its inputs.
-use Rattle.std.specs.Prelude.{ℕ, Bool, not, ◌==◌, nat_lt, if◌then◌else◌, List, [], ◌∷◌, Option, Some, None, get_or, slice_set}
+use Rattle.std.specs.Prelude.{ℕ, Bool, not, ◌==◌, nat_lt, if◌then◌else◌, List, [], ◌∷◌, Option, Some, None, get_or}
+use Rattle.std.specs.Prelude.{slice_set}
 use Rattle.cpg_base.specs.declared.activation.Activation.{Activation}
 use Rattle.cpg_base.specs.declared.activation.Activation.TheVariants.{Inactive, Plain, By}
 use Rattle.cpg_base.specs.Activity.{is_active}
@@ -18,7 +19,8 @@ rank ranks c = get_or ranks c 0
 -- the tree that has the activation where a test passes
 abbrev pub passing : Activation → Option ValueTest → Guard
 passing a None = Leaf a
-passing a (Some t) = if t.value then tested t.condition (Leaf Inactive) (Leaf a) else tested t.condition (Leaf a) (Leaf Inactive)
+passing a (Some t) = if t.value then tested t.condition (Leaf Inactive) (Leaf a)
+    else tested t.condition (Leaf a) (Leaf Inactive)
 
 -- the tree that has the activation where the source is active and the test passes
 abbrev pub live_tree : Activation → Option ValueTest → Guard → Guard
@@ -50,7 +52,8 @@ by_input join e = if join then By e else Plain
 
 -- the tree that says whether an input is live
 abbrev pub input_tree : Graph → Bool → List Guard → Input → Guard
-input_tree g join trees i = live_tree (by_input join i.edge) (test_of (condition_of g i.source) i.when) (get_or trees i.source (Leaf Inactive))
+input_tree g join trees i =
+    live_tree (by_input join i.edge) (test_of (condition_of g i.source) i.when) (get_or trees i.source (Leaf Inactive))
 
 -- with the tree of the later inputs, if there are any
 abbrev pub with_later : Bool → List ℕ → List Input → Guard → Guard → Guard
@@ -60,9 +63,11 @@ with_later join ranks (i ∷ is) first later = met join ranks first later
 -- the tree of a process with these inputs
 abbrev pub composed : Graph → Bool → List ℕ → List Guard → List Input → Guard
 composed g join ranks trees [] = Leaf Plain
-composed g join ranks trees (i ∷ is) = with_later join ranks is (input_tree g join trees i) (composed g join ranks trees is)
+composed g join ranks trees (i ∷ is) =
+    with_later join ranks is (input_tree g join trees i) (composed g join ranks trees is)
 
 -- the trees after the steps
 abbrev pub composed_along : Graph → List ℕ → List ActivationStep → List Guard → List Guard
 composed_along g ranks [] trees = trees
-composed_along g ranks (step ∷ steps) trees = composed_along g ranks steps (slice_set trees step.process (composed g step.join ranks trees step.inputs))
+composed_along g ranks (step ∷ steps) trees =
+    composed_along g ranks steps (slice_set trees step.process (composed g step.join ranks trees step.inputs))

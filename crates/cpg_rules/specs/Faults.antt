@@ -8,7 +8,8 @@ use Rattle.cpg_order.specs.Cycle.{IsCycle}
 use Rattle.cpg_rules.specs.Alternatives.{AreAlternatives}
 use Rattle.cpg_rules.specs.Guards.{Guards}
 use Rattle.cpg_rules.specs.declared.admission.RuleFault.{RuleFault}
-use Rattle.cpg_rules.specs.declared.admission.RuleFault.TheVariants.{Cycle, TooManyTracks, TwoAlternatives, NoSlot, TooBig, BadOrder, OutOfMemory}
+use Rattle.cpg_rules.specs.declared.admission.RuleFault.TheVariants.{Cycle, TooManyTracks, TwoAlternatives, NoSlot}
+use Rattle.cpg_rules.specs.declared.admission.RuleFault.TheVariants.{TooBig, BadOrder, OutOfMemory}
 use Rattle.cpg_rules.specs.Rules.{AllFit, LacksSlot, IsAboveSlot}
 use Rattle.cpg_rules.specs.Given.{IsBadOrder}
 use Rattle.cpg_rules.specs.Admission.{IsAdmitted}
@@ -50,4 +51,5 @@ ShowsFault g OutOfMemory = ⊤
 
 -- An admitted graph has no fault, except that memory may run out. So `admit` rejects exactly the other graphs.
 abbrev pub AdmittedShowNoFault : Type 0
-AdmittedShowNoFault = (g : Graph) (order : List ℕ) (trees : Guards) → IsAdmitted g order trees → (fault : RuleFault) → ShowsFault g fault → fault ≡ OutOfMemory
+AdmittedShowNoFault = (g : Graph) (order : List ℕ) (trees : Guards) → IsAdmitted g order trees → (fault : RuleFault) →
+    ShowsFault g fault → fault ≡ OutOfMemory

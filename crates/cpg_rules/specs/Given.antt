@@ -33,7 +33,8 @@ pub record IsFirstEarly (g : Graph) (list : List ℕ) (p : ℕ) : Type 0 where
   pub early : is_early g list p ≡ true
   pub before : (q : ℕ) → comes_before list q p ≡ true → is_early g list q ≡ false
 
--- the graph gives an order that isn't topological: this process is missing from it, or is the first that comes too early
+-- the graph gives an order that isn't topological: this process is missing from it, or is the first that comes too
+-- early
 pub record IsBadOrder (g : Graph) (p : ℕ) : Type 0 where
   pub order : List ℕ
   pub given : g.order ≡ Some order

@@ -1,5 +1,7 @@
--- The guards of a graph, as the code keeps them: a tree for each process, and for each edge the test for when it is live.
-use Rattle.std.specs.Prelude.{ℕ, ◌≡◌, ◌<◌, Bool, true, false, ◌&&◌, List, Option, Some, None, All, IfSome, get_or, length, map}
+-- The guards of a graph, as the code keeps them: a tree for each process, and for each edge the test for when it is
+-- live.
+use Rattle.std.specs.Prelude.{ℕ, ◌≡◌, ◌<◌, Bool, true, false, ◌&&◌, List, Option, Some, None, All, IfSome, get_or}
+use Rattle.std.specs.Prelude.{length, map}
 use Rattle.cpg_base.specs.declared.activation.Activation.TheVariants.{Inactive}
 use Rattle.cpg_base.specs.Numbers.{numbers_below, same_bool}
 use Rattle.cpg_base.specs.Graph.{Graph, process_count, edge_count, condition_count, condition_of, edge_at, source}
@@ -44,7 +46,8 @@ active_by guards values p = is_active (outcome_at (tree_of guards p) values)
 
 -- whether an edge is live by its guard
 abbrev pub live_by : Guards → List Bool → ℕ → Bool
-live_by guards values e = active_by guards values (edge_guard guards e).source && is_passed (edge_guard guards e).test values
+live_by guards values e =
+    active_by guards values (edge_guard guards e).source && is_passed (edge_guard guards e).test values
 
 -- an edge's guard refers to an existing process and condition
 pub record IsEdgeBelow (processes conditions : ℕ) (edge : EdgeGuard) : Type 0 where

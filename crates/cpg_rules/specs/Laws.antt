@@ -6,5 +6,6 @@ use Rattle.cpg_order.specs.Guard.{Guard, way, IsGuardOf, deciding_along}
 
 -- an outcome's way through a process's tree tests the conditions that decide it there, in urgency order
 abbrev pub WaysAreDeciding : Type 0
-WaysAreDeciding = (g : Graph) (order : List ℕ) (p : ℕ) (tree : Guard) (values : List Bool) → IsUrgencyOrder g order → IsTopological g order →
+WaysAreDeciding = (g : Graph) (order : List ℕ) (p : ℕ) (tree : Guard) (values : List Bool) → IsUrgencyOrder g order →
+    IsTopological g order →
     IsGuardOf g order p tree → length values ≡ condition_count g → way tree values ≡ deciding_along g order values p

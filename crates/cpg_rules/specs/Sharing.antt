@@ -30,13 +30,16 @@ tree_at parts n = (get_or parts n no_part).tree
 -- the top is that of the tree
 abbrev pub IsTop : List SharedPart → PartTop → Guard → Type 0
 IsTop parts (LeafTop a) tree = tree ≡ Leaf a
-IsTop parts (TestTop c off on) tree = (off < length parts) × (on < length parts) × (tree ≡ Test c (tree_at parts off) (tree_at parts on))
+IsTop parts (TestTop c off on) tree =
+    (off < length parts) × (on < length parts) × (tree ≡ Test c (tree_at parts off) (tree_at parts on))
 
 -- a part is the answer to what is asked; that two are never active at once has none
 abbrev pub IsAnswer : List ℕ → List SharedPart → Ask → ℕ → Type 0
-IsAnswer ranks parts (Live a x source) n = (source < length parts) × (n < length parts) × (tree_at parts n ≡ live_tree a x (tree_at parts source))
+IsAnswer ranks parts (Live a x source) n =
+    (source < length parts) × (n < length parts) × (tree_at parts n ≡ live_tree a x (tree_at parts source))
 IsAnswer ranks parts (Met join first second) n =
-    (first < length parts) × (second < length parts) × (n < length parts) × (tree_at parts n ≡ met join ranks (tree_at parts first) (tree_at parts second))
+    (first < length parts) × (second < length parts) × (n < length parts) ×
+    (tree_at parts n ≡ met join ranks (tree_at parts first) (tree_at parts second))
 IsAnswer ranks parts (Apart first second) n = (first < length parts) × (second < length parts) ×
     (are_both_live ranks (tree_at parts first) (tree_at parts second) ≡ false)
 

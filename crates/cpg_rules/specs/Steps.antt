@@ -16,7 +16,12 @@ input_of g e = record { edge = e; source = source g e; when = (edge_at g e).when
 
 -- the step of a process
 abbrev pub step_of : Graph → ℕ → ActivationStep
-step_of g p = record { process = p; join = (process_at g p).join; inputs = map (input_of g) (inputs g p); condition = condition_of g p }
+step_of g p = record {
+  process = p;
+  join = (process_at g p).join;
+  inputs = map (input_of g) (inputs g p);
+  condition = condition_of g p;
+}
 
 -- a step of so many processes
 pub record IsStepBelow (count : ℕ) (step : ActivationStep) : Type 0 where

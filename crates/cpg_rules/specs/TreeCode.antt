@@ -23,7 +23,8 @@ activation_back Plain = refl
 activation_back (By e) = refl
 
 abbrev pub activation_code : Coded Activation
-activation_code = code_by (Option (Option ℕ)) (coded_option (coded_option coded_ℕ)) activation_to activation_from activation_back
+activation_code =
+    code_by (Option (Option ℕ)) (coded_option (coded_option coded_ℕ)) activation_to activation_from activation_back
 
 -- a leaf, or the condition of a test whose trees come before it
 abbrev pub Piece : Type 0
@@ -41,11 +42,13 @@ tree_from (inr c ∷ rest) [] = Leaf Inactive
 tree_from (inr c ∷ rest) (t ∷ []) = Leaf Inactive
 tree_from (inr c ∷ rest) (on ∷ off ∷ ts) = tree_from rest (Test c off on ∷ ts)
 
-pub tree_from-pieces : (t : Guard) (rest : List Piece) (ts : List Guard) → tree_from (pieces_of t rest) ts ≡ tree_from rest (t ∷ ts)
+pub tree_from-pieces : (t : Guard) (rest : List Piece) (ts : List Guard) →
+    tree_from (pieces_of t rest) ts ≡ tree_from rest (t ∷ ts)
 tree_from-pieces (Leaf a) rest ts = refl
 tree_from-pieces (Test c off on) rest ts =
     tree_from-pieces off (pieces_of on (inr c ∷ rest)) ts ∙ tree_from-pieces on (inr c ∷ rest) (off ∷ ts)
 
 abbrev pub tree_code : Coded Guard
 tree_code =
-    code_by (List Piece) (coded_list (coded⊎ activation_code coded_ℕ)) (λ t. pieces_of t []) (λ ps. tree_from ps []) (λ t. tree_from-pieces t [] [])
+    code_by (List Piece) (coded_list (coded⊎ activation_code coded_ℕ)) (λ t. pieces_of t []) (λ ps. tree_from ps [])
+    (λ t. tree_from-pieces t [] [])

@@ -1,7 +1,9 @@
 -- What is found before a place rests only on the frozen times of items of earlier places.
-use Rattle.std.proofs.Common.{◌≡◌, ◌∙◌, ℕ, ◌+◌, ◌*◌, ◌<◌, ◌≤◌, ◌==◌, true, if◌then◌else◌, List, get_or, Option, None, unwrap_or, arith, sym, ap, ap₂, inl, inr, subst, mul-le-mul_right}
+use Rattle.std.proofs.Common.{◌≡◌, ◌∙◌, ℕ, ◌+◌, ◌*◌, ◌<◌, ◌≤◌, ◌==◌, true, if◌then◌else◌, List, get_or, Option, None}
+use Rattle.std.proofs.Common.{unwrap_or, arith, sym, ap, ap₂, inl, inr, subst, mul-le-mul_right}
 use Rattle.std.proofs.lemmas.Bool.{cases_lt}
-use Rattle.cpg_base.specs.Graph.{Graph, process_count, condition_count, item_count, item_at, broadcast_item, producer, process_of, node_of, home}
+use Rattle.cpg_base.specs.Graph.{Graph, process_count, condition_count, item_count, item_at, broadcast_item, producer}
+use Rattle.cpg_base.specs.Graph.{process_of, node_of, home}
 use Rattle.cpg_base.specs.Bus.{round, slot_length}
 use Rattle.cpg_base.proofs.Items.{process_of_below, item_at-broadcast}
 use Rattle.cpg_order.specs.Urgency.{IsTopological}
@@ -17,7 +19,8 @@ use Rattle.cpg_run.specs.Progress.{IsSentBefore, IsFree, IsReady, Knows, IsAt, P
 
 -- over plain numbers: what is before the beginning of a place is at an earlier one
 pub earlier_place : (a i f m : ℕ) → a * m + f < i * m → a < i
-earlier_place a i f m h = elim (cases_lt a i) [ inl l ↦ l | inr l ↦ absurd (let k = mul-le-mul_right m l in omega arith) ]
+earlier_place a i f m h =
+    elim (cases_lt a i) [ inl l ↦ l | inr l ↦ absurd (let k = mul-le-mul_right m l in omega arith) ]
 
 module _ (g : Graph) (order : List ℕ) (topological : IsTopological g order) where
   -- two runs of a scenario that agree before a place
@@ -29,17 +32,21 @@ module _ (g : Graph) (order : List ℕ) (topological : IsTopological g order) wh
     end_before p l = sooner (place order p) i 1 (phases g) l (omega arith)
 
     broadcast_before : (c : ℕ) → place order (process_of g c) < i → moment g order (broadcast_item g c) < i * phases g
-    broadcast_before c l = subst (λ x. moment_of_item g order x < i * phases g) (sym (item_at-broadcast g c)) (sooner (place order (process_of g c)) i 2 (phases g) l (omega arith))
+    broadcast_before c l = subst (λ x. moment_of_item g order x < i * phases g) (sym (item_at-broadcast g c))
+        (sooner (place order (process_of g c)) i 2 (phases g) l (omega arith))
 
     end_same : (p : ℕ) → p < process_count g → place order p < i → end_in t p ≡ end_in u p
     end_same p h l = ap (λ o. unwrap_or o 0) (a.ends p h (end_before p l))
 
-    heard_same : (node q c : ℕ) → place order q < i → c < condition_count g → decides g s.values q c ≡ true → heard_there g t node c ≡ heard_there g u node c
+    heard_same : (node q c : ℕ) → place order q < i → c < condition_count g → decides g s.values q c ≡ true →
+        heard_there g t node c ≡ heard_there g u node c
     heard_same node q c l k d =
-        let up : place order (process_of g c) < i = omega (arith, decides_earlier g order topological s.values q c k d) in
+        let up : place order (process_of g c) < i =
+        omega (arith, decides_earlier g order topological s.values q c k d) in
         ap₂ (λ v w. if node_of g (process_of g c) == node then v else w)
         (end_same (process_of g c) (process_of_below g c k) up)
-        (ap (λ o. unwrap_or o 0 + slot_length g (home g (broadcast_item g c))) (a.items (broadcast_item g c) (omega arith) (broadcast_before c up)))
+        (ap (λ o. unwrap_or o 0 + slot_length g (home g (broadcast_item g c)))
+        (a.items (broadcast_item g c) (omega arith) (broadcast_before c up)))
 
     after_same : (node y : ℕ) → IsSentBefore g order s node i y → free_after g t y ≡ free_after g u y
     after_same node y b = ap (λ o. unwrap_or o 0 + round g) (a.items y b.0.within (item_before y b.0.within b.1))
@@ -66,7 +73,8 @@ module _ (g : Graph) (order : List ℕ) (topological : IsTopological g order) wh
       least = λ b h. f.least b (λ y k. subst (λ n. n ≤ b) (sym (after_same node y k)) (h y k));
     }
 
-    at_same : (known : Times) (ready free : List ℕ) → IsAt g order s t i known ready free → IsAt g order s u i known ready free
+    at_same : (known : Times) (ready free : List ℕ) → IsAt g order s t i known ready free →
+        IsAt g order s u i known ready free
     at_same known ready free at = record {
       knows = knows_same known at.knows;
       nodes_ready = λ node l. ready_same node (get_or ready node 0) (at.nodes_ready node l);
@@ -74,7 +82,8 @@ module _ (g : Graph) (order : List ℕ) (topological : IsTopological g order) wh
     }
 
   pub along_same : (frozen others : List (Option ℕ)) (s : Scenario) (i : ℕ) (p : ProgressState)
-      → ((x : ℕ) → x < item_count g → place order (producer g x) < i → get_or frozen x None ≡ get_or others x None) → IsAlong g order frozen s i p → IsAlong g order others s i p
+      → ((x : ℕ) → x < item_count g → place order (producer g x) < i → get_or frozen x None ≡ get_or others x None) →
+      IsAlong g order frozen s i p → IsAlong g order others s i p
   along_same frozen others s i p same along = record {
     places = along.places;
     at = λ u run.

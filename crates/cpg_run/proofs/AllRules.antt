@@ -12,7 +12,8 @@ use Rattle.cpg_run.proofs.Rules.{run_tables_keep_rules}
 use Rattle.cpg_run.proofs.Rule1.{keeps-1}
 use Rattle.cpg_run.proofs.Rule4.{keeps-4}
 
-module _ (g : Graph) (order : List ℕ) (frozen : List (Option ℕ)) (tables : List NodeTable) (given : Given g order frozen tables) (supported : Supported g order tables) where
+module _ (g : Graph) (order : List ℕ) (frozen : List (Option ℕ)) (tables : List NodeTable)
+    (given : Given g order frozen tables) (supported : Supported g order tables) where
   kept : KeepsRules g order frozen tables
   kept = run_tables_keep_rules g order frozen tables given
 

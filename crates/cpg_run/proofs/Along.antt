@@ -14,8 +14,10 @@ use Rattle.cpg_run.specs.Progress.{Knows}
 
 module _ (g : Graph) (order : List ℕ) where
   module _ (topological : IsTopological g order) (frozen : List (Option ℕ)) (s : Scenario) where
-    same_times : (known t : Times) (finish : ℕ) → known.times ≡ t.times → known.ends ≡ t.ends → finish ≡ t.finish → t ≡ record known { finish = finish }
-    same_times known t finish times ends same = λ j. record { times = sym times j; ends = sym ends j; finish = sym same j }
+    same_times : (known t : Times) (finish : ℕ) → known.times ≡ t.times → known.ends ≡ t.ends → finish ≡ t.finish →
+        t ≡ record known { finish = finish }
+    same_times known t finish times ends same =
+        λ j. record { times = sym times j; ends = sym ends j; finish = sym same j }
 
     -- a list with the time of each item and the end of each process is the run
     pub at_last : (known : Times) → length known.times ≡ item_count g → length known.ends ≡ process_count g
@@ -28,8 +30,10 @@ module _ (g : Graph) (order : List ℕ) where
         let k = knows t run in
         let times : known.times ≡ t.times = ext_get_or None known.times t.times
         (items ∙ sym (ap length run.times ∙ length-map-range_with_len (time_by g order frozen s t) 0 (item_count g)))
-        (λ x l. k.times x (omega arith) (place_in_order (process_count g) order topological.all (producer g x) (let b = producer_in_range g order topological x (omega arith) in omega arith))) in
+        (λ x l. k.times x (omega arith) (place_in_order (process_count g) order topological.all (producer g x)
+        (let b = producer_in_range g order topological x (omega arith) in omega arith))) in
         let ends : known.ends ≡ t.ends = ext_get_or None known.ends t.ends
         (processes ∙ sym (ap length run.ends ∙ length-map-range_with_len (end_by g s t) 0 (process_count g)))
         (λ p l. k.ends p (omega arith) (place_in_order (process_count g) order topological.all p (omega arith))) in
-        subst (IsRun g order frozen s) (same_times known t (greatest (flat_map option_to_list known.ends)) times ends (ap (λ es. greatest (flat_map option_to_list es)) ends ∙ sym run.finish)) run
+        subst (IsRun g order frozen s) (same_times known t (greatest (flat_map option_to_list known.ends)) times ends
+        (ap (λ es. greatest (flat_map option_to_list es)) ends ∙ sym run.finish)) run

@@ -1,5 +1,6 @@
 -- What bounds a start or a send is no greater than a number if each thing that it waits for is not.
-use Rattle.std.proofs.Common.{◌≡◌, ℕ, ◌+◌, ◌≤◌, true, List, [], ◌∷◌, ◌++◌, map, filter, flat_map, Contains, inl, inr, subst}
+use Rattle.std.proofs.Common.{◌≡◌, ℕ, ◌+◌, ◌≤◌, true, List, [], ◌∷◌, ◌++◌, map, filter, flat_map, Contains, inl, inr}
+use Rattle.std.proofs.Common.{subst}
 use Rattle.std.proofs.lemmas.List.Elements.{Contains-append_cases}
 use Rattle.cpg_base.specs.Numbers.{greatest}
 use Rattle.cpg_base.specs.Graph.{Graph, process_at, item_at, node_of, inputs, home, producer}
@@ -10,38 +11,48 @@ use Rattle.cpg_base.specs.Order.{before_on_node}
 use Rattle.cpg_order.specs.Deciding.{deciding}
 use Rattle.cpg_order.specs.Queue.{queued_before}
 use Rattle.cpg_base.specs.Scenario.{Scenario}
-use Rattle.cpg_run.specs.Run.{Times, time_in, end_in, input_there, heard_there, input_bounds, processor_bounds, hearing_bounds, start_bounds, send_bounds}
+use Rattle.cpg_run.specs.Run.{Times, time_in, end_in, input_there, heard_there, input_bounds, processor_bounds}
+use Rattle.cpg_run.specs.Run.{hearing_bounds, start_bounds, send_bounds}
 
 -- the greatest of those that pass
-pub passing_le : (f : ℕ → ℕ) (xs : List ℕ) (v b : ℕ) → ((x : ℕ) → Contains xs x → f x ≤ b) → Contains (map f xs) v → v ≤ b
+pub passing_le : (f : ℕ → ℕ) (xs : List ℕ) (v b : ℕ) → ((x : ℕ) → Contains xs x → f x ≤ b) → Contains (map f xs) v →
+    v ≤ b
 passing_le f xs v b h c = let r = Contains-map_parts f xs v c in subst (λ n. n ≤ b) r.2 (h r.0 r.1)
 
 module _ (g : Graph) (order : List ℕ) (s : Scenario) (t : Times) where
   pub start_bounds_le : (p b : ℕ) → (process_at g p).release ≤ b
       → ((e : ℕ) → Contains (inputs g p) e → live g s.values e ≡ true → input_there g t e ≤ b)
       → ((q : ℕ) → Contains (before_on_node g order p) q → active g s.values q ≡ true → end_in t q ≤ b)
-      → ((c : ℕ) → Contains (flat_map (deciding g s.values) (before_on_node g order p ++ p ∷ [])) c → heard_there g t (node_of g p) c ≤ b)
+      → ((c : ℕ) → Contains (flat_map (deciding g s.values) (before_on_node g order p ++ p ∷ [])) c →
+      heard_there g t (node_of g p) c ≤ b)
       → greatest (start_bounds g order s t p) ≤ b
   start_bounds_le p b release arrived ended heard = greatest-le (start_bounds g order s t p) b
-      (λ v c. elim (Contains-cases (process_at g p).release (input_bounds g s t p ++ processor_bounds g order s t p ++ hearing_bounds g order s t p) v c) [
+      (λ v c. elim (Contains-cases (process_at g p).release
+      (input_bounds g s t p ++ processor_bounds g order s t p ++ hearing_bounds g order s t p) v c) [
         | inl e ↦ subst (λ n. n ≤ b) e release
-        | inr rest ↦ elim (Contains-append_cases (input_bounds g s t p ++ processor_bounds g order s t p) (hearing_bounds g order s t p) v rest) [
-          | inr h ↦ passing_le (heard_there g t (node_of g p)) _ v b heard h
-          | inl early ↦ elim (Contains-append_cases (input_bounds g s t p) (processor_bounds g order s t p) v early) [
-            | inl i ↦ passing_le (input_there g t) (filter (live g s.values) (inputs g p)) v b
-                (λ e k. let r = Contains-filter_parts (live g s.values) (inputs g p) e k in arrived e r.0 r.1) i
-            | inr q ↦ passing_le (end_in t) (filter (active g s.values) (before_on_node g order p)) v b
-                (λ o k. let r = Contains-filter_parts (active g s.values) (before_on_node g order p) o k in ended o r.0 r.1) q
-          ]
-        ]
+        | inr rest ↦ elim (Contains-append_cases (input_bounds g s t p ++ processor_bounds g order s t p)
+            (hearing_bounds g order s t p) v rest) [
+              | inr h ↦ passing_le (heard_there g t (node_of g p)) _ v b heard h
+              | inl early ↦
+                  elim (Contains-append_cases (input_bounds g s t p) (processor_bounds g order s t p) v early) [
+                    | inl i ↦ passing_le (input_there g t) (filter (live g s.values) (inputs g p)) v b
+                        (λ e k. let r = Contains-filter_parts (live g s.values) (inputs g p) e k in arrived e r.0 r.1) i
+                    | inr q ↦ passing_le (end_in t) (filter (active g s.values) (before_on_node g order p)) v b
+                        (λ o k. let r = Contains-filter_parts (active g s.values) (before_on_node g order p) o k in
+                        ended o r.0 r.1) q
+                  ]
+            ]
       ])
 
   pub send_bounds_le : (x b : ℕ) → next_slot g (home g x) (end_in t (producer g x)) ≤ b
-      → ((y : ℕ) → Contains (queued_before g order x) y → item_active g s.values (item_at g y) ≡ true → time_in t y + round g ≤ b)
+      → ((y : ℕ) → Contains (queued_before g order x) y → item_active g s.values (item_at g y) ≡ true →
+      time_in t y + round g ≤ b)
       → greatest (send_bounds g order s t x) ≤ b
   send_bounds_le x b next queued = greatest-le (send_bounds g order s t x) b
       (λ v c. elim (Contains-cases (next_slot g (home g x) (end_in t (producer g x))) _ v c) [
         | inl e ↦ subst (λ n. n ≤ b) e next
-        | inr rest ↦ passing_le (λ y. time_in t y + round g) (filter (λ y. item_active g s.values (item_at g y)) (queued_before g order x)) v b
-            (λ y k. let r = Contains-filter_parts (λ y. item_active g s.values (item_at g y)) (queued_before g order x) y k in queued y r.0 r.1) rest
+        | inr rest ↦ passing_le (λ y. time_in t y + round g)
+            (filter (λ y. item_active g s.values (item_at g y)) (queued_before g order x)) v b
+            (λ y k. let r = Contains-filter_parts (λ y. item_active g s.values (item_at g y))
+            (queued_before g order x) y k in queued y r.0 r.1) rest
       ])

@@ -17,14 +17,20 @@ use Rattle.cpg_run.specs.Laws.{NothingIsLate}
 use Rattle.cpg_run.proofs.Written.{lawful}
 
 -- under any topological order
-pub admitted_under : (g : Graph) (urgency order : List ℕ) (guards : Guards) → IsAdmitted g urgency guards → IsTopological g order → Admitted g urgency order
-admitted_under g urgency order guards a topological = record { formed = a.well_formed; joins = a.joins; urgent = a.urgency; topological = topological }
+pub admitted_under : (g : Graph) (urgency order : List ℕ) (guards : Guards) → IsAdmitted g urgency guards →
+    IsTopological g order →
+    Admitted g urgency order
+admitted_under g urgency order guards a topological =
+    record { formed = a.well_formed; joins = a.joins; urgent = a.urgency; topological = topological }
 
-built : (g : Graph) (urgency order : List ℕ) (rows : List Row) (b : Built) → IsWithinLimits g → (a : Admitted g urgency order) → AreTablesFound g urgency order rows b → IsBuiltFor g urgency order b
+built : (g : Graph) (urgency order : List ℕ) (rows : List Row) (b : Built) → IsWithinLimits g →
+    (a : Admitted g urgency order) → AreTablesFound g urgency order rows b →
+    IsBuiltFor g urgency order b
 built g urgency order rows b within a are =
     let nodes = b.tables.nodes in
     let reach = some_reach g order a.topological in
-    let law : AreExactAndLawful g urgency order b.frozen reach.0 nodes = lawful g within urgency order a b.frozen rows are.found nodes are.written.columns reach.0 reach.1 in
+    let law : AreExactAndLawful g urgency order b.frozen reach.0 nodes =
+    lawful g within urgency order a b.frozen rows are.found nodes are.written.columns reach.0 reach.1 in
     record {
       head = are.written.head;
       shape = has_shape g within nodes are.written.lawful;

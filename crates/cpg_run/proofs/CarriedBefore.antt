@@ -1,7 +1,9 @@
 -- What is carried beside a time is found in the rows of earlier processes alone.
-use Rattle.std.proofs.Common.{ℕ, ◌<◌, ◌≤◌, ◌≡◌, ◌&&◌, not, ◌==◌, if◌then◌else◌, List, [], ◌∷◌, ◌++◌, filter, flat_map, Contains, arith, sym, ap, ap₂, ◌∙◌, inl, inr}
+use Rattle.std.proofs.Common.{ℕ, ◌<◌, ◌≤◌, ◌≡◌, ◌&&◌, not, ◌==◌, if◌then◌else◌, List, [], ◌∷◌, ◌++◌, filter, flat_map}
+use Rattle.std.proofs.Common.{Contains, arith, sym, ap, ap₂, ◌∙◌, inl, inr}
 use Rattle.cpg_base.specs.Numbers.{numbers_below}
-use Rattle.cpg_base.specs.Graph.{Graph, process_at, node_of, source, inputs, is_message, edge_count, condition_count, item_count, message_item, broadcast_item, item_at, is_frozen, producer}
+use Rattle.cpg_base.specs.Graph.{Graph, process_at, node_of, source, inputs, is_message, edge_count, condition_count}
+use Rattle.cpg_base.specs.Graph.{item_count, message_item, broadcast_item, item_at, is_frozen, producer}
 use Rattle.cpg_base.specs.Graph.{producer_of_item, process_of}
 use Rattle.cpg_base.specs.declared.item.Item.{Item}
 use Rattle.cpg_base.specs.Activity.{active, item_active}
@@ -19,7 +21,9 @@ use Rattle.cpg_base.proofs.Places.{on_node_before}
 use Rattle.cpg_cube.specs.declared.literal.Literal.{Literal}
 use Rattle.cpg_cube.specs.Cube.{matches}
 use Rattle.cpg_cube.specs.Column.{Column}
-use Rattle.cpg_run.specs.Carried.{carried_by_row, number_known, decided, heard, received, executed, passed, carried_at_start, carried_at_end, sent_by_value, queued, carried_at_send, carried_by_item, carried}
+use Rattle.cpg_run.specs.Carried.{carried_by_row, number_known, decided, heard, received, executed, passed}
+use Rattle.cpg_run.specs.Carried.{carried_at_start, carried_at_end, sent_by_value, queued, carried_at_send}
+use Rattle.cpg_run.specs.Carried.{carried_by_item, carried}
 use Rattle.cpg_run.specs.RowLaws.{SameRowsBefore, CarriedRestsOnEarlier}
 use Rattle.cpg_run.proofs.Queued.{producer_no_later}
 
@@ -31,70 +35,101 @@ producer_of_broadcast g c = ap (producer_of_item g) (item_at-broadcast g c)
 
 module _ (g : Graph) (order : List ℕ) (topological : IsTopological g order) where
   -- what is heard of conditions that decide a process comes from earlier processes
-  pub hears_earlier : (s : Scenario) (p c : ℕ) → Contains (deciding g s.values p) c → (broadcast_item g c < item_count g) × (place order (producer g (broadcast_item g c)) < place order p)
+  pub hears_earlier : (s : Scenario) (p c : ℕ) → Contains (deciding g s.values p) c →
+      (broadcast_item g c < item_count g) × (place order (producer g (broadcast_item g c)) < place order p)
   hears_earlier s p c j =
       let r = Contains-filter_parts (decides g s.values p) (numbers_below (condition_count g)) c j in
-      let l = numbers-Contains (condition_count g) c r.0 in
-      (omega (arith, l), omega (arith, ap (place order) (producer_of_broadcast g c), decides_earlier g order topological s.values p c l r.1))
+      let l = numbers-Contains (condition_count g) c r.0 in (
+        omega (arith, l),
+        omega (
+          arith,
+          ap (place order) (producer_of_broadcast g c),
+          decides_earlier g order topological s.values p c l r.1,
+        ),
+      )
 
   -- the messages to a process come from earlier processes
-  pub receives_earlier : (p e : ℕ) → Contains (inputs g p) e → (message_item g e < item_count g) × (place order (producer g (message_item g e)) < place order p)
+  pub receives_earlier : (p e : ℕ) → Contains (inputs g p) e →
+      (message_item g e < item_count g) × (place order (producer g (message_item g e)) < place order p)
   receives_earlier p e j =
-      let l = (inputs_parts g p e j).0 in
-      (omega (arith, l), omega (arith, ap (place order) (producer_of_message g e l), input_goes_up g order topological p e j))
+      let l = (inputs_parts g p e j).0 in (
+        omega (arith, l),
+        omega (arith, ap (place order) (producer_of_message g e l), input_goes_up g order topological p e j),
+      )
 
-  module _ (rows others : List (List Column)) (bound : ℕ) (same : SameRowsBefore g order bound rows others) (s : Scenario) where
-    told_same : (y : ℕ) → y < item_count g → place order (producer g y) < bound → carried_by_row rows s y ≡ carried_by_row others s y
-    told_same y l h = ap (λ cs. flat_map (λ (c : Column). c.cube) (filter (λ (c : Column). matches c.cube s) cs)) (same y (l, h))
+  module _ (rows others : List (List Column)) (bound : ℕ) (same : SameRowsBefore g order bound rows others)
+      (s : Scenario) where
+    told_same : (y : ℕ) → y < item_count g → place order (producer g y) < bound →
+        carried_by_row rows s y ≡ carried_by_row others s y
+    told_same y l h =
+        ap (λ cs. flat_map (λ (c : Column). c.cube) (filter (λ (c : Column). matches c.cube s) cs)) (same y (l, h))
 
     heard_same : (p : ℕ) → place order p ≤ bound → heard g rows s p ≡ heard g others s p
     heard_same p h = same_flat_map
         (λ c. if node_of g (process_of g c) == node_of g p then [] else carried_by_row rows s (broadcast_item g c))
         (λ c. if node_of g (process_of g c) == node_of g p then [] else carried_by_row others s (broadcast_item g c))
         (deciding g s.values p)
-        (λ c j. let r = hears_earlier s p c j in ap (λ ls. if node_of g (process_of g c) == node_of g p then [] else ls) (told_same (broadcast_item g c) r.0 (omega (arith, r.1, h))))
+        (λ c j. let r = hears_earlier s p c j in
+        ap (λ ls. if node_of g (process_of g c) == node_of g p then [] else ls)
+        (told_same (broadcast_item g c) r.0 (omega (arith, r.1, h))))
 
     received_same : (p : ℕ) → place order p ≤ bound → received g rows s p ≡ received g others s p
     received_same p h = same_flat_map
         (λ e. if is_message g e then carried_by_row rows s (message_item g e) else [])
         (λ e. if is_message g e then carried_by_row others s (message_item g e) else [])
         (inputs g p)
-        (λ e j. let r = receives_earlier p e j in ap (λ ls. if is_message g e then ls else []) (told_same (message_item g e) r.0 (omega (arith, r.1, h))))
+        (λ e j. let r = receives_earlier p e j in
+        ap (λ ls. if is_message g e then ls else []) (told_same (message_item g e) r.0 (omega (arith, r.1, h))))
 
     executed_same : (p : ℕ) → place order p ≤ bound → executed g rows s p ≡ executed g others s p
-    executed_same p h = ap (λ ls. (if (process_at g p).frozen then [] else ls) ++ number_known s p ∷ []) (received_same p h)
+    executed_same p h =
+        ap (λ ls. (if (process_at g p).frozen then [] else ls) ++ number_known s p ∷ []) (received_same p h)
 
     pub passed_same : (p : ℕ) → place order p ≤ bound → passed g rows s p ≡ passed g others s p
-    passed_same p h = ap₂ (λ hs es. decided g s p ++ hs ++ (if active g s.values p then es else [])) (heard_same p h) (executed_same p h)
+    passed_same p h = ap₂ (λ hs es. decided g s p ++ hs ++ (if active g s.values p then es else [])) (heard_same p h)
+        (executed_same p h)
 
-    before_same : (p : ℕ) → place order p ≤ bound → flat_map (passed g rows s) (before_on_node g order p) ≡ flat_map (passed g others s) (before_on_node g order p)
-    before_same p h = same_flat_map (passed g rows s) (passed g others s) (before_on_node g order p) (λ q j. passed_same q (omega (arith, (on_node_before g order p q j).1, h)))
+    before_same : (p : ℕ) → place order p ≤ bound →
+        flat_map (passed g rows s) (before_on_node g order p) ≡ flat_map (passed g others s) (before_on_node g order p)
+    before_same p h = same_flat_map (passed g rows s) (passed g others s) (before_on_node g order p)
+        (λ q j. passed_same q (omega (arith, (on_node_before g order p q j).1, h)))
 
-    pub start_same : (p : ℕ) → place order p ≤ bound → carried_at_start g order rows s p ≡ carried_at_start g order others s p
-    start_same p h = ap₂ (λ ps (hr : List Literal × List Literal). if (process_at g p).frozen then decided g s p else ps ++ decided g s p ++ hr.0 ++ hr.1) (before_same p h)
+    pub start_same : (p : ℕ) → place order p ≤ bound →
+        carried_at_start g order rows s p ≡ carried_at_start g order others s p
+    start_same p h = ap₂ (λ ps (hr : List Literal × List Literal). if (process_at g p).frozen then decided g s p
+        else ps ++ decided g s p ++ hr.0 ++ hr.1) (before_same p h)
         (ap₂ (λ hs rs. (hs, rs)) (heard_same p h) (received_same p h))
 
     pub end_same : (p : ℕ) → place order p ≤ bound → carried_at_end g order rows s p ≡ carried_at_end g order others s p
     end_same p h = ap (λ ls. ls ++ number_known s p ∷ []) (start_same p h)
 
     pub queued_same : (y : ℕ) → place order (producer g y) ≤ bound → queued g order rows s y ≡ queued g order others s y
-    queued_same y h = ap (λ ls. decided g s (producer g y) ++ (if active g s.values (producer g y) then sent_by_value g s y else [])
+    queued_same y h =
+        ap (λ ls. decided g s (producer g y) ++ (if active g s.values (producer g y) then sent_by_value g s y else [])
         ++ (if item_active g s.values (item_at g y) && not (is_frozen g y) then ls else [])) (end_same (producer g y) h)
 
-    send_same : (x : ℕ) → place order (producer g x) ≤ bound → carried_at_send g order rows s x ≡ carried_at_send g order others s x
-    send_same x h = ap₂ (λ qs es. (if is_frozen g x then decided g s (producer g x) else qs ++ es) ++ sent_by_value g s x)
-        (same_flat_map (queued g order rows s) (queued g order others s) (queued_before g order x) (λ y j. queued_same y (omega (arith, producer_no_later g order x y j, h))))
+    send_same : (x : ℕ) → place order (producer g x) ≤ bound →
+        carried_at_send g order rows s x ≡ carried_at_send g order others s x
+    send_same x h =
+        ap₂ (λ qs es. (if is_frozen g x then decided g s (producer g x) else qs ++ es) ++ sent_by_value g s x)
+        (same_flat_map (queued g order rows s) (queued g order others s) (queued_before g order x)
+        (λ y j. queued_same y (omega (arith, producer_no_later g order x y j, h))))
         (end_same (producer g x) h)
 
-    pub carried_same : (x : ℕ) → x < item_count g → place order (producer g x) ≤ bound → carried g order rows s x ≡ carried g order others s x
+    pub carried_same : (x : ℕ) → x < item_count g → place order (producer g x) ≤ bound →
+        carried g order rows s x ≡ carried g order others s x
     carried_same x l h = elim (item_cases g x l) [
       | inl c ↦ of_item c.1 (start_same x (omega (arith, ap (λ i. place order (producer_of_item g i)) c.1, h)))
       | inr (inl c) ↦ of_item c.3 (send_same x h)
       | inr (inr c) ↦ of_item c.3 (send_same x h)
     ]
       where
-        of_item : {i : Item} → item_at g x ≡ i → carried_by_item g order rows s x i ≡ carried_by_item g order others s x i → carried g order rows s x ≡ carried g order others s x
-        of_item {i} e same = ap (carried_by_item g order rows s x) e ∙ same ∙ sym (ap (carried_by_item g order others s x) e)
+        of_item : {i : Item} → item_at g x ≡ i →
+            carried_by_item g order rows s x i ≡ carried_by_item g order others s x i →
+            carried g order rows s x ≡ carried g order others s x
+        of_item {i} e same =
+            ap (carried_by_item g order rows s x) e ∙ same ∙ sym (ap (carried_by_item g order others s x) e)
 
 pub carried_rests_on_earlier : CarriedRestsOnEarlier
-carried_rests_on_earlier g order rows others s x topological l same = carried_same g order topological rows others (place order (producer g x)) same s x l (omega arith)
+carried_rests_on_earlier g order rows others s x topological l same =
+    carried_same g order topological rows others (place order (producer g x)) same s x l (omega arith)

@@ -1,16 +1,21 @@
--- Where a literal that is carried beside a time comes from; so all that is carried in a scenario holds in it, and is on variables of the graph.
-use Rattle.std.proofs.Common.{ℕ, ◌<◌, ◌≤◌, ◌≡◌, ◌==◌, ◌&&◌, Bool, true, false, not, if◌then◌else◌, List, [], ◌∷◌, ◌++◌, map, filter, flat_map, Contains, is_some, option_to_list, arith, refl, sym, ap}
+-- Where a literal that is carried beside a time comes from; so all that is carried in a scenario holds in it, and is on
+-- variables of the graph.
+use Rattle.std.proofs.Common.{ℕ, ◌<◌, ◌≤◌, ◌≡◌, ◌==◌, ◌&&◌, Bool, true, false, not, if◌then◌else◌, List, [], ◌∷◌, ◌++◌}
+use Rattle.std.proofs.Common.{map, filter, flat_map, Contains, is_some, option_to_list, arith, refl, sym, ap}
 use Rattle.std.proofs.Common.{◌∙◌, subst, inl, inr, All}
 use Rattle.std.proofs.lemmas.Bool.{cases_Bool, cond-true, cond-false, and_parts, not-true}
 use Rattle.std.proofs.lemmas.List.Elements.{All-contains, Contains-append_cases}
 use Rattle.std.proofs.lemmas.List.Quantifiers.{position-Some}
 use Rattle.cpg_base.specs.Numbers.{numbers_below}
-use Rattle.cpg_base.specs.Graph.{Graph, process_count, condition_count, item_count, item_at, edge_at, process_at, node_of, source, inputs, is_message, is_frozen, message_item, broadcast_item}
-use Rattle.cpg_base.specs.Graph.{producer, producer_of_item, process_of, condition_of, disjunctions, value_variable, IsVariable}
+use Rattle.cpg_base.specs.Graph.{Graph, process_count, condition_count, item_count, item_at, edge_at, process_at}
+use Rattle.cpg_base.specs.Graph.{node_of, source, inputs, is_message, is_frozen, message_item, broadcast_item}
+use Rattle.cpg_base.specs.Graph.{producer, producer_of_item, process_of, condition_of, disjunctions, value_variable}
+use Rattle.cpg_base.specs.Graph.{IsVariable}
 use Rattle.cpg_base.specs.declared.item.Item.{Item}
 use Rattle.cpg_base.specs.declared.item.Item.TheVariants.{Start, Message, Broadcast}
 use Rattle.cpg_base.specs.Activity.{active, item_active}
-use Rattle.cpg_base.proofs.Lists.{Contains-cases, Contains-nil, Contains-map_parts, Contains-filter_parts, Contains-flat_map_parts, numbers-Contains, from_all, all_from, in_option}
+use Rattle.cpg_base.proofs.Lists.{Contains-cases, Contains-nil, Contains-map_parts, Contains-filter_parts}
+use Rattle.cpg_base.proofs.Lists.{Contains-flat_map_parts, numbers-Contains, from_all, all_from, in_option}
 use Rattle.cpg_base.proofs.Items.{item_cases}
 use Rattle.cpg_order.specs.Urgency.{IsTopological}
 use Rattle.cpg_base.specs.Order.{place, before_on_node}
@@ -26,7 +31,9 @@ use Rattle.cpg_cube.specs.Fit.{IsCube}
 use Rattle.cpg_cube.specs.Column.{Column}
 use Rattle.cpg_run.specs.Supported.{up_to}
 use Rattle.cpg_run.proofs.Awaited.{up_to_before, up_to_itself, up_to_parts}
-use Rattle.cpg_run.specs.Carried.{row_at, carried_by_row, number_known, decided, heard, received, executed, passed, carried_at_start, carried_at_end, sent_by_value, queued, carried_at_send, carried_by_item}
+use Rattle.cpg_run.specs.Carried.{row_at, carried_by_row, number_known, decided, heard, received, executed, passed}
+use Rattle.cpg_run.specs.Carried.{carried_at_start, carried_at_end, sent_by_value, queued, carried_at_send}
+use Rattle.cpg_run.specs.Carried.{carried_by_item}
 use Rattle.cpg_run.specs.Carried.{carried}
 use Rattle.cpg_run.specs.RowLaws.{IsEarlier}
 use Rattle.cpg_run.proofs.CarriedBefore.{hears_earlier, receives_earlier}
@@ -39,7 +46,8 @@ in_if : {X : Type 0} (b : Bool) (xs : List X) (x : X) → Contains (if b then xs
 in_if true xs x j = (refl, j)
 in_if false xs x j = absurd (Contains-nil x j)
 
-in_unless : {X : Type 0} (b : Bool) (xs : List X) (x : X) → Contains (if b then [] else xs) x → (b ≡ false) × Contains xs x
+in_unless : {X : Type 0} (b : Bool) (xs : List X) (x : X) → Contains (if b then [] else xs) x →
+    (b ≡ false) × Contains xs x
 in_unless true xs x j = absurd (Contains-nil x j)
 in_unless false xs x j = (refl, j)
 
@@ -47,17 +55,24 @@ in_one : {X : Type 0} (x y : X) → Contains (x ∷ []) y → y ≡ x
 in_one x y j = elim (Contains-cases x [] y j) [ inl e ↦ sym e | inr none ↦ absurd (Contains-nil y none) ]
 
 -- the value by which an item is sent is that of its producer's condition
-pub sent_variable : (g : Graph) (x v : ℕ) → Contains (sent_value g (item_at g x)) v → (c : ℕ) × (c < condition_count g) × (v ≡ value_variable c) × (process_of g c ≡ producer g x)
+pub sent_variable : (g : Graph) (x v : ℕ) → Contains (sent_value g (item_at g x)) v →
+    (c : ℕ) × (c < condition_count g) × (v ≡ value_variable c) × (process_of g c ≡ producer g x)
 sent_variable g x v j = of_item (item_at g x) refl j
   where
-    of_item : (i : Item) → item_at g x ≡ i → Contains (sent_value g i) v → (c : ℕ) × (c < condition_count g) × (v ≡ value_variable c) × (process_of g c ≡ producer g x)
+    of_item : (i : Item) → item_at g x ≡ i → Contains (sent_value g i) v →
+        (c : ℕ) × (c < condition_count g) × (v ≡ value_variable c) × (process_of g c ≡ producer g x)
     of_item (Start p) is j = absurd (Contains-nil v j)
     of_item (Broadcast c) is j = absurd (Contains-nil v j)
     of_item (Message e) is j =
-        let r = in_if (is_some (edge_at g e).when) (map value_variable (option_to_list (condition_of g (source g e)))) v j in
+        let r = in_if (is_some (edge_at g e).when)
+        (map value_variable (option_to_list (condition_of g (source g e)))) v j in
         let q = Contains-map_parts value_variable (option_to_list (condition_of g (source g e))) v r.1 in
-        let has = in_option (condition_of g (source g e)) q.0 q.1 in
-        (q.0, (position-Some (λ q. q == source g e) (disjunctions g) q.0 0 has).0, sym q.2, process_of_condition_of g (source g e) q.0 has ∙ ap (producer_of_item g) (sym is))
+        let has = in_option (condition_of g (source g e)) q.0 q.1 in (
+          q.0,
+          (position-Some (λ q. q == source g e) (disjunctions g) q.0 0 has).0,
+          sym q.2,
+          process_of_condition_of g (source g e) q.0 has ∙ ap (producer_of_item g) (sym is),
+        )
 
 module _ (g : Graph) (order : List ℕ) (rows : List (List Column)) (s : Scenario) where
   -- ---- the kinds
@@ -71,7 +86,8 @@ module _ (g : Graph) (order : List ℕ) (rows : List (List Column)) (s : Scenari
 
   from_told : (y : ℕ) (m : Literal) → Contains (carried_by_row rows s y) m → FromRow y m
   from_told y m j =
-      let r = Contains-flat_map_parts (λ (c : Column). c.cube) (filter (λ (c : Column). matches c.cube s) (row_at rows y)) m j in
+      let r = Contains-flat_map_parts (λ (c : Column). c.cube)
+      (filter (λ (c : Column). matches c.cube s) (row_at rows y)) m j in
       let q = Contains-filter_parts (λ (c : Column). matches c.cube s) (row_at rows y) r.0 r.1 in
       record { column = r.0; stands = q.0; matched = q.1; literal = r.2 }
 
@@ -100,7 +116,8 @@ module _ (g : Graph) (order : List ℕ) (rows : List (List Column)) (s : Scenari
     by_value : FromValue q m → FromProcess p q m
     by_broadcast : FromBroadcast q m → FromProcess p q m
     by_message : active g s.values q ≡ true → (process_at g q).frozen ≡ false → FromMessage q m → FromProcess p q m
-    by_count : Contains (before_on_node g order p) q → active g s.values q ≡ true → m ≡ number_known s q → FromProcess p q m
+    by_count : Contains (before_on_node g order p) q → active g s.values q ≡ true → m ≡ number_known s q →
+        FromProcess p q m
 
   -- what a process on the node gives to a start that is not frozen
   pub record FromFree (p : ℕ) (m : Literal) : Type 0 where
@@ -129,7 +146,8 @@ module _ (g : Graph) (order : List ℕ) (rows : List (List Column)) (s : Scenari
   pub data FromQueued (y : ℕ) (m : Literal) : Type 0 where
     left_value : FromValue (producer g y) m → FromQueued y m
     left_sent : active g s.values (producer g y) ≡ true → FromSent y m → FromQueued y m
-    left_end : item_active g s.values (item_at g y) ≡ true → is_frozen g y ≡ false → FromEnd (producer g y) m → FromQueued y m
+    left_end : item_active g s.values (item_at g y) ≡ true → is_frozen g y ≡ false → FromEnd (producer g y) m →
+        FromQueued y m
 
   -- beside a send
   pub data FromSend (x : ℕ) (m : Literal) : Type 0 where
@@ -141,88 +159,121 @@ module _ (g : Graph) (order : List ℕ) (rows : List (List Column)) (s : Scenari
   -- ---- each literal is of one
 
   in_decided : (q : ℕ) (m : Literal) → Contains (decided g s q) m → FromValue q m
-  in_decided q m j = let r = Contains-map_parts (λ (c : ℕ). number_known s (value_variable c)) (deciding g s.values q) m j in record { condition = r.0; decides = r.1; is = sym r.2 }
+  in_decided q m j =
+      let r = Contains-map_parts (λ (c : ℕ). number_known s (value_variable c)) (deciding g s.values q) m j in
+      record { condition = r.0; decides = r.1; is = sym r.2 }
 
   in_heard : (q : ℕ) (m : Literal) → Contains (heard g rows s q) m → FromBroadcast q m
   in_heard q m j =
-      let r = Contains-flat_map_parts (λ c. if node_of g (process_of g c) == node_of g q then [] else carried_by_row rows s (broadcast_item g c)) (deciding g s.values q) m j in
-      let t = in_unless (node_of g (process_of g r.0) == node_of g q) (carried_by_row rows s (broadcast_item g r.0)) m r.2 in
+      let r = Contains-flat_map_parts (λ c. if node_of g (process_of g c) == node_of g q then []
+      else carried_by_row rows s (broadcast_item g c)) (deciding g s.values q) m j in
+      let t = in_unless (node_of g (process_of g r.0) == node_of g q)
+      (carried_by_row rows s (broadcast_item g r.0)) m r.2 in
       record { condition = r.0; decides = r.1; other = t.0; row = from_told (broadcast_item g r.0) m t.1 }
 
   in_received : (q : ℕ) (m : Literal) → Contains (received g rows s q) m → FromMessage q m
   in_received q m j =
-      let r = Contains-flat_map_parts (λ e. if is_message g e then carried_by_row rows s (message_item g e) else []) (inputs g q) m j in
+      let r = Contains-flat_map_parts (λ e. if is_message g e then carried_by_row rows s (message_item g e) else [])
+      (inputs g q) m j in
       let t = in_if (is_message g r.0) (carried_by_row rows s (message_item g r.0)) m r.2 in
       record { edge = r.0; input = r.1; message = t.0; row = from_told (message_item g r.0) m t.1 }
 
-  in_passed : (p q : ℕ) (m : Literal) → Contains (before_on_node g order p) q → Contains (passed g rows s q) m → FromProcess p q m
-  in_passed p q m before j = elim (Contains-append_cases (decided g s q ++ heard g rows s q) (if active g s.values q then executed g rows s q else []) m j) [
-    | inl a ↦ elim (Contains-append_cases (decided g s q) (heard g rows s q) m a) [
-      | inl b ↦ by_value (in_decided q m b)
-      | inr b ↦ by_broadcast (in_heard q m b)
-    ]
-    | inr a ↦ let on = in_if (active g s.values q) (executed g rows s q) m a in
-        elim (Contains-append_cases (if (process_at g q).frozen then [] else received g rows s q) (number_known s q ∷ []) m on.1) [
-          | inl b ↦ let r = in_unless (process_at g q).frozen (received g rows s q) m b in by_message on.0 r.0 (in_received q m r.1)
-          | inr b ↦ by_count before on.0 (in_one (number_known s q) m b)
+  in_passed : (p q : ℕ) (m : Literal) → Contains (before_on_node g order p) q → Contains (passed g rows s q) m →
+      FromProcess p q m
+  in_passed p q m before j = elim (Contains-append_cases (decided g s q ++ heard g rows s q)
+      (if active g s.values q then executed g rows s q else []) m j) [
+        | inl a ↦ elim (Contains-append_cases (decided g s q) (heard g rows s q) m a) [
+          | inl b ↦ by_value (in_decided q m b)
+          | inr b ↦ by_broadcast (in_heard q m b)
         ]
-  ]
+        | inr a ↦ let on = in_if (active g s.values q) (executed g rows s q) m a in
+            elim (Contains-append_cases (if (process_at g q).frozen then [] else received g rows s q)
+            (number_known s q ∷ []) m on.1) [
+              | inl b ↦ let r = in_unless (process_at g q).frozen (received g rows s q) m b in
+                  by_message on.0 r.0 (in_received q m r.1)
+              | inr b ↦ by_count before on.0 (in_one (number_known s q) m b)
+            ]
+      ]
 
   module _ (topological : IsTopological g order) where
     in_free : (p : ℕ) (m : Literal) → active g s.values p ≡ true → (process_at g p).frozen ≡ false →
-        Contains (flat_map (passed g rows s) (before_on_node g order p) ++ decided g s p ++ heard g rows s p ++ received g rows s p) m → FromFree p m
-    in_free p m on free j = elim (Contains-append_cases (flat_map (passed g rows s) (before_on_node g order p) ++ decided g s p ++ heard g rows s p) (received g rows s p) m j) [
-      | inr a ↦ here (by_message on free (in_received p m a))
-      | inl a ↦ elim (Contains-append_cases (flat_map (passed g rows s) (before_on_node g order p) ++ decided g s p) (heard g rows s p) m a) [
-        | inr b ↦ here (by_broadcast (in_heard p m b))
-        | inl b ↦ elim (Contains-append_cases (flat_map (passed g rows s) (before_on_node g order p)) (decided g s p) m b) [
-          | inr c ↦ here (by_value (in_decided p m c))
-          | inl c ↦ let r = Contains-flat_map_parts (passed g rows s) (before_on_node g order p) m c in
-              record { free = free; process = r.0; stands = up_to_before g order topological p r.0 r.1; told = in_passed p r.0 m r.1 r.2 }
+        Contains (flat_map (passed g rows s) (before_on_node g order p) ++ decided g s p ++ heard g rows s p
+        ++ received g rows s p) m → FromFree p m
+    in_free p m on free j = elim (Contains-append_cases (flat_map (passed g rows s) (before_on_node g order p)
+        ++ decided g s p ++ heard g rows s p) (received g rows s p) m j) [
+          | inr a ↦ here (by_message on free (in_received p m a))
+          | inl a ↦ elim (Contains-append_cases (flat_map (passed g rows s) (before_on_node g order p) ++ decided g s p)
+              (heard g rows s p) m a) [
+                | inr b ↦ here (by_broadcast (in_heard p m b))
+                | inl b ↦
+                    elim (Contains-append_cases (flat_map (passed g rows s) (before_on_node g order p))
+                    (decided g s p) m b) [
+                      | inr c ↦ here (by_value (in_decided p m c))
+                      | inl c ↦ let r = Contains-flat_map_parts (passed g rows s) (before_on_node g order p) m c in
+                          record {
+                            free = free;
+                            process = r.0;
+                            stands = up_to_before g order topological p r.0 r.1;
+                            told = in_passed p r.0 m r.1 r.2;
+                          }
+                    ]
+              ]
         ]
-      ]
-    ]
       where
         here : FromProcess p p m → FromFree p m
         here f = record { free = free; process = p; stands = up_to_itself g order topological p; told = f }
 
-    pub from_start_of : (p : ℕ) (m : Literal) → active g s.values p ≡ true → Contains (carried_at_start g order rows s p) m → FromStart p m
+    pub from_start_of : (p : ℕ) (m : Literal) → active g s.values p ≡ true →
+        Contains (carried_at_start g order rows s p) m → FromStart p m
     from_start_of p m on j = elim (cases_Bool (process_at g p).frozen) [
       | inl f ↦ own (in_decided p m (subst (λ ls. Contains ls m) (cond-true _ _ _ f) j))
       | inr f ↦ more (in_free p m on f (subst (λ ls. Contains ls m) (cond-false _ _ _ f) j))
     ]
 
-    pub from_end_of : (p : ℕ) (m : Literal) → active g s.values p ≡ true → Contains (carried_at_end g order rows s p) m → FromEnd p m
-    from_end_of p m on j = elim (Contains-append_cases (carried_at_start g order rows s p) (number_known s p ∷ []) m j) [
-      | inl a ↦ from_start (from_start_of p m on a)
-      | inr a ↦ its_count (in_one (number_known s p) m a)
-    ]
-
-    in_sent : (x : ℕ) (m : Literal) → Contains (sent_by_value g s x) m → FromSent x m
-    in_sent x m j = let r = Contains-map_parts (number_known s) (sent_value g (item_at g x)) m j in record { variable = r.0; stands = r.1; is = sym r.2 }
-
-    in_queued : (y : ℕ) (m : Literal) → Contains (queued g order rows s y) m → FromQueued y m
-    in_queued y m j = elim (Contains-append_cases (decided g s (producer g y) ++ (if active g s.values (producer g y) then sent_by_value g s y else []))
-        (if item_active g s.values (item_at g y) && not (is_frozen g y) then carried_at_end g order rows s (producer g y) else []) m j) [
-          | inl a ↦ elim (Contains-append_cases (decided g s (producer g y)) (if active g s.values (producer g y) then sent_by_value g s y else []) m a) [
-            | inl b ↦ left_value (in_decided (producer g y) m b)
-            | inr b ↦ let r = in_if (active g s.values (producer g y)) (sent_by_value g s y) m b in left_sent r.0 (in_sent y m r.1)
-          ]
-          | inr a ↦
-              let r = in_if (item_active g s.values (item_at g y) && not (is_frozen g y)) (carried_at_end g order rows s (producer g y)) m a in
-              let q = and_parts (item_active g s.values (item_at g y)) (not (is_frozen g y)) r.0 in
-              left_end q.0 (not-true (is_frozen g y) q.1) (from_end_of (producer g y) m (producer_active g s.values (item_at g y) q.0) r.1)
+    pub from_end_of : (p : ℕ) (m : Literal) → active g s.values p ≡ true →
+        Contains (carried_at_end g order rows s p) m → FromEnd p m
+    from_end_of p m on j =
+        elim (Contains-append_cases (carried_at_start g order rows s p) (number_known s p ∷ []) m j) [
+          | inl a ↦ from_start (from_start_of p m on a)
+          | inr a ↦ its_count (in_one (number_known s p) m a)
         ]
 
-    pub from_send_of : (x : ℕ) (m : Literal) → item_active g s.values (item_at g x) ≡ true → Contains (carried_at_send g order rows s x) m → FromSend x m
+    in_sent : (x : ℕ) (m : Literal) → Contains (sent_by_value g s x) m → FromSent x m
+    in_sent x m j = let r = Contains-map_parts (number_known s) (sent_value g (item_at g x)) m j in
+        record { variable = r.0; stands = r.1; is = sym r.2 }
+
+    in_queued : (y : ℕ) (m : Literal) → Contains (queued g order rows s y) m → FromQueued y m
+    in_queued y m j = elim (Contains-append_cases (decided g s (producer g y)
+        ++ (if active g s.values (producer g y) then sent_by_value g s y else []))
+        (if item_active g s.values (item_at g y) && not (is_frozen g y)
+        then carried_at_end g order rows s (producer g y) else []) m j) [
+          | inl a ↦ elim (Contains-append_cases (decided g s (producer g y))
+              (if active g s.values (producer g y) then sent_by_value g s y else []) m a) [
+                | inl b ↦ left_value (in_decided (producer g y) m b)
+                | inr b ↦ let r = in_if (active g s.values (producer g y)) (sent_by_value g s y) m b in
+                    left_sent r.0 (in_sent y m r.1)
+              ]
+          | inr a ↦
+              let r = in_if (item_active g s.values (item_at g y) && not (is_frozen g y))
+              (carried_at_end g order rows s (producer g y)) m a in
+              let q = and_parts (item_active g s.values (item_at g y)) (not (is_frozen g y)) r.0 in
+              left_end q.0 (not-true (is_frozen g y) q.1)
+              (from_end_of (producer g y) m (producer_active g s.values (item_at g y) q.0) r.1)
+        ]
+
+    pub from_send_of : (x : ℕ) (m : Literal) → item_active g s.values (item_at g x) ≡ true →
+        Contains (carried_at_send g order rows s x) m → FromSend x m
     from_send_of x m on j = elim (Contains-append_cases
-        (if is_frozen g x then decided g s (producer g x) else flat_map (queued g order rows s) (queued_before g order x) ++ carried_at_end g order rows s (producer g x)) (sent_by_value g s x) m j) [
+        (if is_frozen g x then decided g s (producer g x) else flat_map (queued g order rows s)
+        (queued_before g order x) ++ carried_at_end g order rows s (producer g x)) (sent_by_value g s x) m j) [
           | inr a ↦ of_value (in_sent x m a)
           | inl a ↦ elim (cases_Bool (is_frozen g x)) [
             | inl f ↦ of_producer f (in_decided (producer g x) m (subst (λ ls. Contains ls m) (cond-true _ _ _ f) a))
-            | inr f ↦ elim (Contains-append_cases (flat_map (queued g order rows s) (queued_before g order x)) (carried_at_end g order rows s (producer g x)) m
+            | inr f ↦ elim (Contains-append_cases (flat_map (queued g order rows s) (queued_before g order x))
+                (carried_at_end g order rows s (producer g x)) m
                 (subst (λ ls. Contains ls m) (cond-false _ _ _ f) a)) [
-                  | inl b ↦ let r = Contains-flat_map_parts (queued g order rows s) (queued_before g order x) m b in of_queue f r.0 r.1 (in_queued r.0 m r.2)
+                  | inl b ↦ let r = Contains-flat_map_parts (queued g order rows s) (queued_before g order x) m b in
+                      of_queue f r.0 r.1 (in_queued r.0 m r.2)
                   | inr b ↦ of_end f (from_end_of (producer g x) m (producer_active g s.values (item_at g x) on) b)
                 ]
           ]
@@ -237,61 +288,80 @@ module _ (g : Graph) (order : List ℕ) (rows : List (List Column)) (s : Scenari
     module _ (few : process_count g ≤ 128) (bound : ℕ) (m : Literal) where
       value_is : (q : ℕ) → FromValue q m → IsOf bound m
       value_is q f =
-          let r = Contains-filter_parts (decides g s.values q) (numbers_below (condition_count g)) f.condition f.decides in
-          of_number (value_variable f.condition) (inr (omega arith, omega (arith, numbers-Contains (condition_count g) f.condition r.0))) f.is
+          let r =
+          Contains-filter_parts (decides g s.values q) (numbers_below (condition_count g)) f.condition f.decides in
+          of_number (value_variable f.condition)
+          (inr (omega arith, omega (arith, numbers-Contains (condition_count g) f.condition r.0))) f.is
 
       process_is : (p q : ℕ) → q < process_count g → place order q ≤ bound → FromProcess p q m → IsOf bound m
       process_is p q l at (by_value f) = value_is q f
-      process_is p q l at (by_broadcast f) = let e = hears_earlier g order topological s q f.condition f.decides in of_row (broadcast_item g f.condition) (e.0, omega (arith, e.1, at)) f.row
-      process_is p q l at (by_message on free f) = let e = receives_earlier g order topological q f.edge f.input in of_row (message_item g f.edge) (e.0, omega (arith, e.1, at)) f.row
+      process_is p q l at (by_broadcast f) = let e = hears_earlier g order topological s q f.condition f.decides in
+          of_row (broadcast_item g f.condition) (e.0, omega (arith, e.1, at)) f.row
+      process_is p q l at (by_message on free f) = let e = receives_earlier g order topological q f.edge f.input in
+          of_row (message_item g f.edge) (e.0, omega (arith, e.1, at)) f.row
       process_is p q l at (by_count before on is) = of_number q (inl l) is
 
       start_is : (p : ℕ) → p < process_count g → place order p ≤ bound → FromStart p m → IsOf bound m
       start_is p l at (own f) = value_is p f
-      start_is p l at (more f) = let e = up_to_parts g order topological p f.process l f.stands in process_is p f.process e.within (omega (arith, e.place, at)) f.told
+      start_is p l at (more f) = let e = up_to_parts g order topological p f.process l f.stands in
+          process_is p f.process e.within (omega (arith, e.place, at)) f.told
 
       end_is : (p : ℕ) → p < process_count g → place order p ≤ bound → FromEnd p m → IsOf bound m
       end_is p l at (from_start f) = start_is p l at f
       end_is p l at (its_count is) = of_number p (inl l) is
 
       sent_is : (x : ℕ) → FromSent x m → IsOf bound m
-      sent_is x f = let c = sent_variable g x f.variable f.stands in of_number f.variable (inr (omega (arith, c.2), omega (arith, c.1, c.2))) f.is
+      sent_is x f = let c = sent_variable g x f.variable f.stands in
+          of_number f.variable (inr (omega (arith, c.2), omega (arith, c.1, c.2))) f.is
 
-      queued_is : (y : ℕ) → producer g y < process_count g → place order (producer g y) ≤ bound → FromQueued y m → IsOf bound m
+      queued_is : (y : ℕ) → producer g y < process_count g → place order (producer g y) ≤ bound → FromQueued y m →
+          IsOf bound m
       queued_is y l at (left_value f) = value_is (producer g y) f
       queued_is y l at (left_sent on f) = sent_is y f
       queued_is y l at (left_end on free f) = end_is (producer g y) l at f
 
-      send_is : (x : ℕ) → producer g x < process_count g → place order (producer g x) ≤ bound → FromSend x m → IsOf bound m
+      send_is : (x : ℕ) → producer g x < process_count g → place order (producer g x) ≤ bound → FromSend x m →
+          IsOf bound m
       send_is x l at (of_producer f v) = value_is (producer g x) v
       send_is x l at (of_queue free y j f) =
           let q = Contains-filter_parts (λ y. is_queued_before g order y x) (numbers_below (item_count g)) y j in
-          queued_is y (producer_in_range g order topological y (numbers-Contains (item_count g) y q.0)) (omega (arith, producer_no_later g order x y j, at)) f
+          queued_is y (producer_in_range g order topological y (numbers-Contains (item_count g) y q.0))
+          (omega (arith, producer_no_later g order x y j, at)) f
       send_is x l at (of_end free f) = end_is (producer g x) l at f
       send_is x l at (of_value f) = sent_is x f
 
-      pub carried_is : (x : ℕ) → x < item_count g → place order (producer g x) ≤ bound → item_active g s.values (item_at g x) ≡ true → Contains (carried g order rows s x) m → IsOf bound m
+      pub carried_is : (x : ℕ) → x < item_count g → place order (producer g x) ≤ bound →
+          item_active g s.values (item_at g x) ≡ true → Contains (carried g order rows s x) m → IsOf bound m
       carried_is x l at on j = elim (item_cases g x l) [
         | inl c ↦ start_is x c.0 (omega (arith, at, ap (λ i. place order (producer_of_item g i)) c.1))
-            (from_start_of x m (sym (ap (item_active g s.values) c.1) ∙ on) (subst (λ i. Contains (carried_by_item g order rows s x i) m) c.1 j))
-        | inr (inl c) ↦ send_is x (producer_in_range g order topological x l) at (from_send_of x m on (subst (λ i. Contains (carried_by_item g order rows s x i) m) c.3 j))
-        | inr (inr c) ↦ send_is x (producer_in_range g order topological x l) at (from_send_of x m on (subst (λ i. Contains (carried_by_item g order rows s x i) m) c.3 j))
+            (from_start_of x m (sym (ap (item_active g s.values) c.1) ∙ on)
+            (subst (λ i. Contains (carried_by_item g order rows s x i) m) c.1 j))
+        | inr (inl c) ↦ send_is x (producer_in_range g order topological x l) at
+            (from_send_of x m on (subst (λ i. Contains (carried_by_item g order rows s x i) m) c.3 j))
+        | inr (inr c) ↦ send_is x (producer_in_range g order topological x l) at
+            (from_send_of x m on (subst (λ i. Contains (carried_by_item g order rows s x i) m) c.3 j))
       ]
 
     -- all that is carried in a scenario holds in it
-    pub carried_holds : process_count g ≤ 128 → (x : ℕ) → x < item_count g → item_active g s.values (item_at g x) ≡ true → matches (carried g order rows s x) s ≡ true
-    carried_holds few x l on = all_from (holds s) (carried g order rows s x) (λ m j. holds_is m (carried_is few (place order (producer g x)) m x l (omega arith) on j))
+    pub carried_holds : process_count g ≤ 128 → (x : ℕ) → x < item_count g →
+        item_active g s.values (item_at g x) ≡ true →
+        matches (carried g order rows s x) s ≡ true
+    carried_holds few x l on = all_from (holds s) (carried g order rows s x)
+        (λ m j. holds_is m (carried_is few (place order (producer g x)) m x l (omega arith) on j))
       where
         holds_is : (m : Literal) → IsOf (place order (producer g x)) m → holds s m ≡ true
         holds_is m (of_number v known is) = ap (holds s) is ∙ number_holds s v
         holds_is m (of_row y at row) = from_all (holds s) row.column.cube m row.matched row.literal
 
     -- all that is carried is on variables of the graph, if the columns of earlier rows are
-    pub carried_known : process_count g ≤ 128 → (x : ℕ) → x < item_count g → ((y : ℕ) → IsEarlier g order (place order (producer g x)) y → All (λ c. IsCube g c.cube) (row_at rows y)) →
-        item_active g s.values (item_at g x) ≡ true → (m : Literal) → Contains (carried g order rows s x) m → IsVariable g m.variable
+    pub carried_known : process_count g ≤ 128 → (x : ℕ) → x < item_count g →
+        ((y : ℕ) → IsEarlier g order (place order (producer g x)) y → All (λ c. IsCube g c.cube) (row_at rows y)) →
+        item_active g s.values (item_at g x) ≡ true → (m : Literal) → Contains (carried g order rows s x) m →
+        IsVariable g m.variable
     carried_known few x l cubes on m j = known_is (carried_is few (place order (producer g x)) m x l (omega arith) on j)
       where
         known_is : IsOf (place order (producer g x)) m → IsVariable g m.variable
         known_is (of_number v known is) = subst (IsVariable g) (sym (ap (λ (l : Literal). l.variable) is)) known
         known_is (of_row y at row) = All-contains (λ (l : Literal). IsVariable g l.variable) row.column.cube m
-            (All-contains (λ (c : Column). IsCube g c.cube) (row_at rows y) row.column (cubes y at) row.stands).known row.literal
+            (All-contains (λ (c : Column). IsCube g c.cube) (row_at rows y) row.column (cubes y at) row.stands).known
+            row.literal

@@ -1,13 +1,16 @@
 -- Tables of carrying rows have the times of the runs, and are supported: what is carried is known.
-use Rattle.std.proofs.Common.{ℕ, ◌<◌, ◌≤◌, ◌≡◌, ◌==◌, true, false, List, length, filter, Contains, All, Option, arith, refl, sym, ap, ◌∙◌, subst, inl, inr, lt-ltb}
+use Rattle.std.proofs.Common.{ℕ, ◌<◌, ◌≤◌, ◌≡◌, ◌==◌, true, false, List, length, filter, Contains, All, Option, arith}
+use Rattle.std.proofs.Common.{refl, sym, ap, ◌∙◌, subst, inl, inr, lt-ltb}
 use Rattle.std.proofs.lemmas.Bool.{and_parts, and_from, not_from_false, eqb-false}
 use Rattle.std.proofs.lemmas.List.Elements.{All-contains, Contains-append_left}
-use Rattle.cpg_base.specs.Graph.{Graph, process_count, condition_count, item_count, item_at, node_of, is_sent, is_sent_item, is_heard_by, message_item, broadcast_item, producer, process_of}
+use Rattle.cpg_base.specs.Graph.{Graph, process_count, condition_count, item_count, item_at, node_of, is_sent}
+use Rattle.cpg_base.specs.Graph.{is_sent_item, is_heard_by, message_item, broadcast_item, producer, process_of}
 use Rattle.cpg_base.specs.Graph.{value_variable}
 use Rattle.cpg_base.specs.declared.item.Item.TheVariants.{Message, Broadcast}
 use Rattle.cpg_base.specs.Activity.{active, live, item_active}
 use Rattle.cpg_base.specs.Numbers.{numbers_below}
-use Rattle.cpg_base.proofs.Lists.{Contains-map, Contains-map_parts, Contains-filter, Contains-filter_parts, numbers-Contains}
+use Rattle.cpg_base.proofs.Lists.{Contains-map, Contains-map_parts, Contains-filter, Contains-filter_parts}
+use Rattle.cpg_base.proofs.Lists.{numbers-Contains}
 use Rattle.cpg_base.proofs.Items.{item_cases, item_at-start, item_at-broadcast, process_of_below, producer_within}
 use Rattle.cpg_order.specs.Deciding.{decides}
 use Rattle.cpg_base.specs.Scenario.{Scenario, IsScenario, number_of}
@@ -23,111 +26,160 @@ use Rattle.cpg_cube.specs.Column.{Column, times_in}
 use Rattle.cpg_run.specs.Exact.{HasRunTimes}
 use Rattle.cpg_run.specs.Laws.{Given}
 use Rattle.cpg_run.specs.Supported.{Supported, known, known_by_item, known_at_start, known_at_end, up_to}
-use Rattle.cpg_run.proofs.Awaited.{earlier_parts, up_to_itself, up_to_parts, up_to_cases, await_broadcast, producer_up_to}
+use Rattle.cpg_run.proofs.Awaited.{earlier_parts, up_to_itself, up_to_parts, up_to_cases, await_broadcast}
+use Rattle.cpg_run.proofs.Awaited.{producer_up_to}
 use Rattle.cpg_run.proofs.Hearing.{kept_grows}
 use Rattle.cpg_run.proofs.KnownRanges.{supported_from_ranges}
-use Rattle.cpg_run.proofs.Supports.{known_value, known_input, known_count, known_own_value, known_frame, known_end, known_by_end, told_cube, told_count, a_match, start_grows}
+use Rattle.cpg_run.proofs.Supports.{known_value, known_input, known_count, known_own_value, known_frame, known_end}
+use Rattle.cpg_run.proofs.Supports.{known_by_end, told_cube, told_count, a_match, start_grows}
 use Rattle.cpg_run.specs.Carried.{row_at, number_known, carried, carried_by_item}
 use Rattle.cpg_run.specs.Carrying.{AreTablesCarrying}
-use Rattle.cpg_run.proofs.CarriedFrom.{FromRow, FromValue, FromProcess, by_value, by_broadcast, by_message, by_count, FromStart, own, more, FromEnd, from_start, its_count, FromSent, FromQueued}
-use Rattle.cpg_run.proofs.CarriedFrom.{left_value, left_sent, left_end, FromSend, of_producer, of_queue, of_end, of_value, sent_variable, from_start_of, from_send_of}
+use Rattle.cpg_run.proofs.CarriedFrom.{FromRow, FromValue, FromProcess, by_value, by_broadcast, by_message, by_count}
+use Rattle.cpg_run.proofs.CarriedFrom.{FromStart, own, more, FromEnd, from_start, its_count, FromSent, FromQueued}
+use Rattle.cpg_run.proofs.CarriedFrom.{left_value, left_sent, left_end, FromSend, of_producer, of_queue, of_end}
+use Rattle.cpg_run.proofs.CarriedFrom.{of_value, sent_variable, from_start_of, from_send_of}
 use Rattle.cpg_run.proofs.CarryingTimed.{carrying_times, carrying_active}
 use Rattle.cpg_run.proofs.SameSends.{producer_active}
 
-module _ (g : Graph) (urgency order : List ℕ) (frozen : List (Option ℕ)) (rows : List (List Column)) (tables : List NodeTable) (z : AreTablesCarrying g urgency order frozen rows tables) where
+module _ (g : Graph) (urgency order : List ℕ) (frozen : List (Option ℕ)) (rows : List (List Column))
+    (tables : List NodeTable) (z : AreTablesCarrying g urgency order frozen rows tables) where
   pub run_times : HasRunTimes g order frozen tables
-  run_times s t x law run = ap (λ cs. times_in cs s) (z.columns x) ∙ carrying_times g urgency order frozen z.timed rows z.found x s t law run
+  run_times s t x law run =
+      ap (λ cs. times_in cs s) (z.columns x) ∙ carrying_times g urgency order frozen z.timed rows z.found x s t law run
 
   pub given : Given g order frozen tables
-  given = record { formed = z.timed.admitted.formed; topological = z.timed.admitted.topological; frozen_times = z.timed.frozen_times; times = run_times }
+  given = record {
+    formed = z.timed.admitted.formed;
+    topological = z.timed.admitted.topological;
+    frozen_times = z.timed.frozen_times;
+    times = run_times;
+  }
 
   module _ (s : Scenario) (law : IsScenario g s) where
     row_column : (y : ℕ) (m : Literal) → (f : FromRow g order rows s y m) → Contains (matching tables s y) f.column
-    row_column y m f = Contains-filter (λ (c : Column). matches c.cube s) (columns_of tables y) f.column f.matched (subst (λ cs. Contains cs f.column) (sym (z.columns y)) f.stands)
+    row_column y m f = Contains-filter (λ (c : Column). matches c.cube s) (columns_of tables y) f.column f.matched
+        (subst (λ cs. Contains cs f.column) (sym (z.columns y)) f.stands)
 
     -- the value of what decides a process up to another on its node
-    value_known : (p q : ℕ) (m : Literal) → p < process_count g → Contains (up_to g order p) q → FromValue g order rows s q m → Contains (known_at_start g order tables s p) m
+    value_known : (p q : ℕ) (m : Literal) → p < process_count g → Contains (up_to g order p) q →
+        FromValue g order rows s q m →
+        Contains (known_at_start g order tables s p) m
     value_known p q m l j f = subst (Contains (known_at_start g order tables s p)) (sym f.is)
         (known_value g order frozen tables given s law urgency z.timed.admitted.urgent p q f.condition l j f.decides)
 
-    process_known : (p q : ℕ) (m : Literal) → p < process_count g → Contains (up_to g order p) q → FromProcess g order rows s p q m → Contains (known_at_start g order tables s p) m
+    process_known : (p q : ℕ) (m : Literal) → p < process_count g → Contains (up_to g order p) q →
+        FromProcess g order rows s p q m →
+        Contains (known_at_start g order tables s p) m
     process_known p q m l j (by_value f) = value_known p q m l j f
     process_known p q m l j (by_broadcast f) =
         let c : ℕ = f.condition in
         let up = up_to_parts g order z.timed.admitted.topological p q l j in
-        let n = numbers-Contains (condition_count g) c (Contains-filter_parts (decides g s.values q) (numbers_below (condition_count g)) c f.decides).0 in
-        let far : (node_of g (process_of g c) == node_of g p) ≡ false = subst (λ k. (node_of g (process_of g c) == k) ≡ false) up.node f.other in
+        let n = numbers-Contains (condition_count g) c
+        (Contains-filter_parts (decides g s.values q) (numbers_below (condition_count g)) c f.decides).0 in
+        let far : (node_of g (process_of g c) == node_of g p) ≡ false =
+        subst (λ k. (node_of g (process_of g c) == k) ≡ false) up.node f.other in
         let two : 1 < length g.nodes = omega (
           arith,
           eqb-false (node_of g (process_of g c)) (node_of g p) far,
           z.timed.admitted.formed.nodes p l,
           z.timed.admitted.formed.nodes (process_of g c) (process_of_below g c n),
         ) in
-        let heard = ap (is_heard_by g (node_of g p)) (item_at-broadcast g c) ∙ and_from _ _ (lt-ltb 1 (length g.nodes) two) (not_from_false _ far) in
-        known_frame g order tables s p (broadcast_item g c) m (await_broadcast g order s p (broadcast_item g c) q c j f.decides refl heard)
-        (told_cube g order tables s (broadcast_item g c) f.row.column m (row_column (broadcast_item g c) m f.row) f.row.literal)
+        let heard = ap (is_heard_by g (node_of g p)) (item_at-broadcast g c)
+        ∙ and_from _ _ (lt-ltb 1 (length g.nodes) two) (not_from_false _ far) in
+        known_frame g order tables s p (broadcast_item g c) m
+        (await_broadcast g order s p (broadcast_item g c) q c j f.decides refl heard)
+        (told_cube g order tables s (broadcast_item g c) f.row.column m
+        (row_column (broadcast_item g c) m f.row) f.row.literal)
     process_known p q m l j (by_message on free f) =
-        known_input g order frozen tables given s law p q f.edge f.row.column m l j on f.input f.message (row_column (message_item g f.edge) m f.row) f.row.literal
+        known_input g order frozen tables given s law p q f.edge f.row.column m l j on f.input f.message
+        (row_column (message_item g f.edge) m f.row) f.row.literal
     process_known p q m l j (by_count before on is) =
         let n = (up_to_parts g order z.timed.admitted.topological p q l j).within in
-        let c = a_match g order frozen tables given s law q (omega (arith, n)) (ap (item_active g s.values) (item_at-start g q n) ∙ on) in
-        subst (Contains (known_at_start g order tables s p)) (sym is) (known_end g order tables s p q (exactly q (number_of s q)) before (told_count g order tables s q c.0 c.1))
+        let c = a_match g order frozen tables given s law q (omega (arith, n))
+        (ap (item_active g s.values) (item_at-start g q n) ∙ on) in
+        subst (Contains (known_at_start g order tables s p)) (sym is)
+        (known_end g order tables s p q (exactly q (number_of s q)) before (told_count g order tables s q c.0 c.1))
 
-    start_known : (p : ℕ) (m : Literal) → p < process_count g → FromStart g order rows s p m → Contains (known_at_start g order tables s p) m
+    start_known : (p : ℕ) (m : Literal) → p < process_count g → FromStart g order rows s p m →
+        Contains (known_at_start g order tables s p) m
     start_known p m l (own f) = value_known p p m l (up_to_itself g order z.timed.admitted.topological p) f
     start_known p m l (more f) = process_known p f.process m l f.stands f.told
 
-    end_known : (p : ℕ) (m : Literal) → p < process_count g → active g s.values p ≡ true → FromEnd g order rows s p m → Contains (known_at_end g order tables s p) m
-    end_known p m l on (from_start f) = Contains-append_left (known_at_start g order tables s p) _ m (start_known p m l f)
-    end_known p m l on (its_count is) = subst (Contains (known_at_end g order tables s p)) (sym is) (known_count g order frozen tables given s law p l on)
+    end_known : (p : ℕ) (m : Literal) → p < process_count g → active g s.values p ≡ true → FromEnd g order rows s p m →
+        Contains (known_at_end g order tables s p) m
+    end_known p m l on (from_start f) =
+        Contains-append_left (known_at_start g order tables s p) _ m (start_known p m l f)
+    end_known p m l on (its_count is) = subst (Contains (known_at_end g order tables s p)) (sym is)
+        (known_count g order frozen tables given s law p l on)
 
-    sent_known : (x : ℕ) (m : Literal) → active g s.values (producer g x) ≡ true → FromSent g order rows s x m → Contains (known_at_end g order tables s (producer g x)) m
+    sent_known : (x : ℕ) (m : Literal) → active g s.values (producer g x) ≡ true → FromSent g order rows s x m →
+        Contains (known_at_end g order tables s (producer g x)) m
     sent_known x m on f =
         let c = sent_variable g x f.variable f.stands in
-        let own = known_own_value g order frozen tables given s law c.0 c.1 (subst (λ p. active g s.values p ≡ true) (sym c.3) on) in
+        let own = known_own_value g order frozen tables given s law c.0 c.1
+        (subst (λ p. active g s.values p ≡ true) (sym c.3) on) in
         subst (Contains (known_at_end g order tables s (producer g x))) (ap (number_known s) (sym c.2) ∙ sym f.is)
-        (subst (λ p. Contains (known_at_end g order tables s p) (exactly (value_variable c.0) (number_of s (value_variable c.0)))) c.3 own)
+        (subst (λ p. Contains (known_at_end g order tables s p)
+        (exactly (value_variable c.0) (number_of s (value_variable c.0)))) c.3 own)
 
     -- what is known at an end is known at a later one on the node
-    end_grows : (p q : ℕ) (m : Literal) → Contains (up_to g order p) q → Contains (known_at_end g order tables s q) m → Contains (known_at_end g order tables s p) m
+    end_grows : (p q : ℕ) (m : Literal) → Contains (up_to g order p) q → Contains (known_at_end g order tables s q) m →
+        Contains (known_at_end g order tables s p) m
     unfolding given
     end_grows p q m j k = elim (up_to_cases g order z.timed.admitted.topological p q j) [
       | inl before ↦ Contains-append_left (known_at_start g order tables s p) _ m
-          (start_grows g order frozen tables given s law p q m (earlier_parts g order z.timed.admitted.topological p q before) k)
+          (start_grows g order frozen tables given s law p q m
+          (earlier_parts g order z.timed.admitted.topological p q before) k)
       | inr is ↦ subst (λ p. Contains (known_at_end g order tables s p) m) (sym is) k
     ]
 
-    queued_known : (p y : ℕ) (m : Literal) → p < process_count g → producer g y < process_count g → Contains (up_to g order p) (producer g y) → FromQueued g order rows s y m →
+    queued_known : (p y : ℕ) (m : Literal) → p < process_count g → producer g y < process_count g →
+        Contains (up_to g order p) (producer g y) →
+        FromQueued g order rows s y m →
         Contains (known_at_end g order tables s p) m
-    queued_known p y m l n j (left_value f) = Contains-append_left (known_at_start g order tables s p) _ m (value_known p (producer g y) m l j f)
+    queued_known p y m l n j (left_value f) =
+        Contains-append_left (known_at_start g order tables s p) _ m (value_known p (producer g y) m l j f)
     queued_known p y m l n j (left_sent on f) = end_grows p (producer g y) m j (sent_known y m on f)
-    queued_known p y m l n j (left_end on free f) = end_grows p (producer g y) m j (end_known (producer g y) m n (producer_active g s.values (item_at g y) on) f)
+    queued_known p y m l n j (left_end on free f) =
+        end_grows p (producer g y) m j (end_known (producer g y) m n (producer_active g s.values (item_at g y) on) f)
 
-    send_known : (x : ℕ) (m : Literal) → x < item_count g → is_sent g x ≡ true → item_active g s.values (item_at g x) ≡ true → FromSend g order rows s x m →
+    send_known : (x : ℕ) (m : Literal) → x < item_count g → is_sent g x ≡ true →
+        item_active g s.values (item_at g x) ≡ true →
+        FromSend g order rows s x m →
         Contains (known_at_end g order tables s (producer g x)) m
     send_known x m l e on (of_producer f v) = Contains-append_left (known_at_start g order tables s (producer g x)) _ m
-        (value_known (producer g x) (producer g x) m (producer_within g z.timed.admitted.formed x l) (up_to_itself g order z.timed.admitted.topological (producer g x)) v)
+        (value_known (producer g x) (producer g x) m (producer_within g z.timed.admitted.formed x l)
+        (up_to_itself g order z.timed.admitted.topological (producer g x)) v)
     send_known x m l e on (of_queue free y j f) =
         let b = queued_parts g order z.timed.admitted.topological x y l e j in
-        queued_known (producer g x) y m (producer_within g z.timed.admitted.formed x l) (producer_within g z.timed.admitted.formed y b.within)
+        queued_known (producer g x) y m (producer_within g z.timed.admitted.formed x l)
+        (producer_within g z.timed.admitted.formed y b.within)
         (producer_up_to g order z.timed.admitted.topological x y l b.within b.home b.less) f
-    send_known x m l e on (of_end free f) = end_known (producer g x) m (producer_within g z.timed.admitted.formed x l) (producer_active g s.values (item_at g x) on) f
+    send_known x m l e on (of_end free f) = end_known (producer g x) m (producer_within g z.timed.admitted.formed x l)
+        (producer_active g s.values (item_at g x) on) f
     send_known x m l e on (of_value f) = sent_known x m (producer_active g s.values (item_at g x) on) f
 
     -- all that is carried beside a time is known by then
-    pub carried_is_known : (x : ℕ) (m : Literal) → x < item_count g → item_active g s.values (item_at g x) ≡ true → Contains (carried g order rows s x) m → Contains (known g order tables s x) m
+    pub carried_is_known : (x : ℕ) (m : Literal) → x < item_count g → item_active g s.values (item_at g x) ≡ true →
+        Contains (carried g order rows s x) m →
+        Contains (known g order tables s x) m
     carried_is_known x m l on j = elim (item_cases g x l) [
       | inl c ↦ subst (λ i. Contains (known_by_item g order tables s i) m) (sym c.1)
-          (start_known x m c.0 (from_start_of g order rows s z.timed.admitted.topological x m (sym (ap (item_active g s.values) c.1) ∙ on)
+          (start_known x m c.0 (from_start_of g order rows s z.timed.admitted.topological x m
+          (sym (ap (item_active g s.values) c.1) ∙ on)
           (subst (λ i. Contains (carried_by_item g order rows s x i) m) c.1 j)))
       | inr (inl c) ↦
-          let e : is_sent g x ≡ true = ap (is_sent_item g) c.3 ∙ (and_parts (is_sent_item g (Message c.0)) (live g s.values c.0) (sym (ap (item_active g s.values) c.3) ∙ on)).0 in
+          let e : is_sent g x ≡ true = ap (is_sent_item g) c.3 ∙ (and_parts (is_sent_item g (Message c.0))
+          (live g s.values c.0) (sym (ap (item_active g s.values) c.3) ∙ on)).0 in
           known_by_end g order frozen tables given s law x m e
-          (send_known x m l e on (from_send_of g order rows s z.timed.admitted.topological x m on (subst (λ i. Contains (carried_by_item g order rows s x i) m) c.3 j)))
+          (send_known x m l e on (from_send_of g order rows s z.timed.admitted.topological x m on
+          (subst (λ i. Contains (carried_by_item g order rows s x i) m) c.3 j)))
       | inr (inr c) ↦
-          let e : is_sent g x ≡ true = ap (is_sent_item g) c.3 ∙ (and_parts (is_sent_item g (Broadcast c.0)) (active g s.values (process_of g c.0)) (sym (ap (item_active g s.values) c.3) ∙ on)).0 in
+          let e : is_sent g x ≡ true = ap (is_sent_item g) c.3 ∙ (and_parts (is_sent_item g (Broadcast c.0))
+          (active g s.values (process_of g c.0)) (sym (ap (item_active g s.values) c.3) ∙ on)).0 in
           known_by_end g order frozen tables given s law x m e
-          (send_known x m l e on (from_send_of g order rows s z.timed.admitted.topological x m on (subst (λ i. Contains (carried_by_item g order rows s x i) m) c.3 j)))
+          (send_known x m l e on (from_send_of g order rows s z.timed.admitted.topological x m on
+          (subst (λ i. Contains (carried_by_item g order rows s x i) m) c.3 j)))
     ]
 
   pub supported : Supported g order tables
@@ -139,10 +191,13 @@ module _ (g : Graph) (urgency order : List ℕ) (frozen : List (Option ℕ)) (ro
       supported_from_ranges g.faults (known g order tables s x) c.cube
       (All-contains (λ (c : Column). IsCube g c.cube) (row_at rows x) c row.cubes here).rising
       (λ k d n. (
-        All-contains (λ (c : Column). All (λ (l : Literal). is_whole g.faults l ≡ false) c.cube) (row_at rows x) c row.not_whole here k d n,
-        All-contains (λ (c : Column). All (λ (l : Literal). l.high ≤ top g.faults l.variable) c.cube) (row_at rows x) c row.within here k d n,
+        All-contains (λ (c : Column). All (λ (l : Literal). is_whole g.faults l ≡ false) c.cube)
+            (row_at rows x) c row.not_whole here k d n,
+        All-contains (λ (c : Column). All (λ (l : Literal). l.high ≤ top g.faults l.variable) c.cube)
+            (row_at rows x) c row.within here k d n,
       ))
       (λ v.
       let kept = row.carries s c law here r.1 in
-      let more = kept_grows g.faults (carried g order rows s x) (known g order tables s x) (λ m i. carried_is_known s law x m l on i) v in
+      let more = kept_grows g.faults (carried g order rows s x) (known g order tables s x)
+      (λ m i. carried_is_known s law x m l on i) v in
       (omega (arith, kept.low v, more.0), omega (arith, kept.high v, more.1)))

@@ -1,19 +1,23 @@
 -- The literals of carrying rows are on variables of their items' reach.
-use Rattle.std.proofs.Common.{ℕ, zero, suc, ◌<◌, ◌≤◌, ◌≡◌, ◌==◌, true, false, if◌then◌else◌, List, [], ◌∷◌, ◌++◌, map, flat_map, Contains, Option, arith, refl, sym, ap, ◌∙◌, subst, inl, inr, eq-eqb}
+use Rattle.std.proofs.Common.{ℕ, zero, suc, ◌<◌, ◌≤◌, ◌≡◌, ◌==◌, true, false, if◌then◌else◌, List, [], ◌∷◌, ◌++◌, map}
+use Rattle.std.proofs.Common.{flat_map, Contains, Option, arith, refl, sym, ap, ◌∙◌, subst, inl, inr, eq-eqb}
 use Rattle.std.proofs.Common.{eqb-true, true≢false}
 use Rattle.std.proofs.lemmas.Bool.{cases_Bool, cond-true, cond-false, and_parts, both_ways}
 use Rattle.std.proofs.lemmas.List.Elements.{All-contains, Contains-append_left, Contains-append_right}
 use Rattle.cpg_base.specs.Numbers.{numbers_below}
-use Rattle.cpg_base.specs.Graph.{Graph, process_count, condition_count, item_count, item_at, process_at, node_of, source, inputs, is_message, is_sent, is_sent_item, is_frozen, message_item}
+use Rattle.cpg_base.specs.Graph.{Graph, process_count, condition_count, item_count, item_at, process_at, node_of}
+use Rattle.cpg_base.specs.Graph.{source, inputs, is_message, is_sent, is_sent_item, is_frozen, message_item}
 use Rattle.cpg_base.specs.Graph.{broadcast_item, producer, producer_of_item, process_of, value_variable}
 use Rattle.cpg_base.specs.declared.item.Item.{Item}
 use Rattle.cpg_base.specs.declared.item.Item.TheVariants.{Start, Message, Broadcast}
 use Rattle.cpg_base.specs.Activity.{active, live, item_active}
-use Rattle.cpg_base.proofs.Lists.{Contains-first, Contains-rest, Contains-map, Contains-filter_parts, Contains-flat_map, numbers-Contains, list_any_true, list_any_parts, from_any_false}
+use Rattle.cpg_base.proofs.Lists.{Contains-first, Contains-rest, Contains-map, Contains-filter_parts, Contains-flat_map}
+use Rattle.cpg_base.proofs.Lists.{numbers-Contains, list_any_true, list_any_parts, from_any_false}
 use Rattle.cpg_base.proofs.Items.{item_cases, item_at-start}
 use Rattle.cpg_order.specs.Deciding.{decides, deciding, conditions_of}
 use Rattle.cpg_order.specs.Queue.{queued_before}
-use Rattle.cpg_order.specs.Reach.{Reach, IsReach, is_in, reach_of, end_reach, hearing_reach, source_value, input_reach, start_reach, sent_value, send_reach, reach_by_item}
+use Rattle.cpg_order.specs.Reach.{Reach, IsReach, is_in, reach_of, end_reach, hearing_reach, source_value, input_reach}
+use Rattle.cpg_order.specs.Reach.{start_reach, sent_value, send_reach, reach_by_item}
 use Rattle.cpg_base.specs.Scenario.{Scenario, IsScenario}
 use Rattle.cpg_base.specs.Order.{place, before_on_node}
 use Rattle.cpg_order.proofs.ConditionsOf.{in_conditions_of}
@@ -37,41 +41,56 @@ use Rattle.cpg_run.proofs.Awaited.{up_to_parts, up_to_cases}
 use Rattle.cpg_run.specs.Carried.{row_at, number_known, carried, carried_by_item}
 use Rattle.cpg_run.specs.RowLaws.{IsTimed, IsEarlier}
 use Rattle.cpg_run.proofs.CarriedBefore.{hears_earlier, receives_earlier}
-use Rattle.cpg_run.proofs.CarriedFrom.{FromRow, FromValue, FromProcess, by_value, by_broadcast, by_message, by_count, FromStart, own, more, FromEnd, from_start, its_count, FromSent, FromQueued}
-use Rattle.cpg_run.proofs.CarriedFrom.{left_value, left_sent, left_end, FromSend, of_producer, of_queue, of_end, of_value, from_start_of, from_send_of}
+use Rattle.cpg_run.proofs.CarriedFrom.{FromRow, FromValue, FromProcess, by_value, by_broadcast, by_message, by_count}
+use Rattle.cpg_run.proofs.CarriedFrom.{FromStart, own, more, FromEnd, from_start, its_count, FromSent, FromQueued}
+use Rattle.cpg_run.proofs.CarriedFrom.{left_value, left_sent, left_end, FromSend, of_producer, of_queue, of_end}
+use Rattle.cpg_run.proofs.CarriedFrom.{of_value, from_start_of, from_send_of}
 use Rattle.cpg_run.proofs.Queued.{producer_no_later}
 
--- a literal that isn't whole, in a cube that contains what literals leave, is on a variable of which one of these speaks
-narrower_spoken : (k : ℕ) (cube : List Literal) (m : Literal) → IsRising cube → Contains cube m → is_whole k m ≡ false → m.high ≤ top k m.variable → (literals : List Literal) →
+-- a literal that isn't whole, in a cube that contains what literals leave, is on a variable of which one of these
+-- speaks
+narrower_spoken : (k : ℕ) (cube : List Literal) (m : Literal) → IsRising cube → Contains cube m → is_whole k m ≡ false →
+    m.high ≤ top k m.variable →
+    (literals : List Literal) →
     ContainsKept k cube literals →
     (l : Literal) × Contains literals l × (l.variable ≡ m.variable)
-narrower_spoken k cube m rising i part within literals kept = elim (cases_Bool (list_any (λ (l : Literal). l.variable == m.variable) literals)) [
-  | inl t ↦ let f = list_any_parts (λ (l : Literal). l.variable == m.variable) literals t in (f.0, f.1, eqb-true _ _ f.2)
-  | inr f ↦
-      let other : (l : Literal) → Contains literals l → l.variable ≡ m.variable → ⊥ = λ l j e. both_ways (l.variable == m.variable)
-      (from_any_false (λ (l : Literal). l.variable == m.variable) literals l f j) (eq-eqb _ _ e) in
-      let low : kept_low literals m.variable ≤ 0 = kept_low_below literals m.variable 0 (λ l j e. absurd (other l j e)) in
-      let high : top k m.variable ≤ kept_high k literals m.variable = kept_high_above literals m.variable k (top k m.variable) (omega arith) (λ l j e. absurd (other l j e)) in
-      let range = range_of_literal k cube m rising i in
-      absurd (elim (narrow k m part within) [
-        | inl up ↦ omega (arith, range.0, kept.low m.variable, low, up)
-        | inr down ↦ omega (arith, range.1, kept.high m.variable, high, down)
-      ])
-]
+narrower_spoken k cube m rising i part within literals kept =
+    elim (cases_Bool (list_any (λ (l : Literal). l.variable == m.variable) literals)) [
+      | inl t ↦ let f = list_any_parts (λ (l : Literal). l.variable == m.variable) literals t in
+          (f.0, f.1, eqb-true _ _ f.2)
+      | inr f ↦
+          let other : (l : Literal) → Contains literals l → l.variable ≡ m.variable → ⊥ =
+          λ l j e. both_ways (l.variable == m.variable)
+          (from_any_false (λ (l : Literal). l.variable == m.variable) literals l f j) (eq-eqb _ _ e) in
+          let low : kept_low literals m.variable ≤ 0 =
+          kept_low_below literals m.variable 0 (λ l j e. absurd (other l j e)) in
+          let high : top k m.variable ≤ kept_high k literals m.variable =
+          kept_high_above literals m.variable k (top k m.variable) (omega arith) (λ l j e. absurd (other l j e)) in
+          let range = range_of_literal k cube m rising i in
+          absurd (elim (narrow k m part within) [
+            | inl up ↦ omega (arith, range.0, kept.low m.variable, low, up)
+            | inr down ↦ omega (arith, range.1, kept.high m.variable, high, down)
+          ])
+    ]
 
-module _ (g : Graph) (urgency order : List ℕ) (frozen : List (Option ℕ)) (timed : IsTimed g urgency order frozen) (rows : List (List Column)) (all : AreCarrying g urgency order frozen rows)
+module _ (g : Graph) (urgency order : List ℕ) (frozen : List (Option ℕ)) (timed : IsTimed g urgency order frozen)
+    (rows : List (List Column)) (all : AreCarrying g urgency order frozen rows)
     (r : Reach) (is : IsReach g order r) where
   -- what the rules say is in a reach
-  by_rule : (x v : ℕ) → x < item_count g → Contains (reach_by_item g order r x (item_at g x)) v → Contains (reach_of r x) v
+  by_rule : (x v : ℕ) → x < item_count g → Contains (reach_by_item g order r x (item_at g x)) v →
+      Contains (reach_of r x) v
   by_rule x v l j =
-      let t : is_in (reach_of r x) v ≡ true = is.each x v l ∙ list_any_true (λ w. w == v) (reach_by_item g order r x (item_at g x)) v j (eq-eqb v v refl) in
+      let t : is_in (reach_of r x) v ≡ true =
+      is.each x v l ∙ list_any_true (λ w. w == v) (reach_by_item g order r x (item_at g x)) v j (eq-eqb v v refl) in
       let f = list_any_parts (λ w. w == v) (reach_of r x) t in
       subst (Contains (reach_of r x)) (eqb-true _ _ f.2) f.1
 
   start_by_rule : (p v : ℕ) → p < process_count g → Contains (start_reach g order r p) v → Contains (reach_of r p) v
-  start_by_rule p v l j = by_rule p v (omega (arith, l)) (subst (λ i. Contains (reach_by_item g order r p i) v) (sym (item_at-start g p l)) j)
+  start_by_rule p v l j = by_rule p v (omega (arith, l))
+      (subst (λ i. Contains (reach_by_item g order r p i) v) (sym (item_at-start g p l)) j)
 
-  sent_reach : (x v : ℕ) (i : Item) → is_sent_item g i ≡ true → Contains (send_reach g order r x) v → Contains (reach_by_item g order r x i) v
+  sent_reach : (x v : ℕ) (i : Item) → is_sent_item g i ≡ true → Contains (send_reach g order r x) v →
+      Contains (reach_by_item g order r x i) v
   sent_reach x v (Start p) e j = absurd (true≢false (sym e))
   sent_reach x v (Message d) e j = subst (λ vs. Contains vs v) (sym (cond-true _ _ _ e)) j
   sent_reach x v (Broadcast c) e j = subst (λ vs. Contains vs v) (sym (cond-true _ _ _ e)) j
@@ -79,7 +98,8 @@ module _ (g : Graph) (urgency order : List ℕ) (frozen : List (Option ℕ)) (ti
   -- ---- the parts of a start's reach, if it isn't frozen
 
   conditions_part : ℕ → List ℕ
-  conditions_part p = flat_map (λ c. value_variable c ∷ hearing_reach g r (node_of g p) c) (flat_map (conditions_of g) (before_on_node g order p ++ p ∷ []))
+  conditions_part p = flat_map (λ c. value_variable c ∷ hearing_reach g r (node_of g p) c)
+      (flat_map (conditions_of g) (before_on_node g order p ++ p ∷ []))
 
   ends_part : ℕ → List ℕ
   ends_part p = flat_map (end_reach r) (before_on_node g order p)
@@ -87,33 +107,47 @@ module _ (g : Graph) (urgency order : List ℕ) (frozen : List (Option ℕ)) (ti
   inputs_part : ℕ → List ℕ
   inputs_part p = flat_map (input_reach g r) (inputs g p)
 
-  free_reach : (p v : ℕ) → (process_at g p).frozen ≡ false → Contains (conditions_part p ++ ends_part p ++ inputs_part p) v → Contains (start_reach g order r p) v
+  free_reach : (p v : ℕ) → (process_at g p).frozen ≡ false →
+      Contains (conditions_part p ++ ends_part p ++ inputs_part p) v →
+      Contains (start_reach g order r p) v
   unfolding conditions_part ends_part inputs_part
   free_reach p v free j = subst (λ vs. Contains vs v) (sym (cond-false _ _ _ free)) j
 
-  of_conditions : (p q c v : ℕ) → (process_at g p).frozen ≡ false → Contains (up_to g order p) q → Contains (conditions_of g q) c → Contains (value_variable c ∷ hearing_reach g r (node_of g p) c) v →
+  of_conditions : (p q c v : ℕ) → (process_at g p).frozen ≡ false → Contains (up_to g order p) q →
+      Contains (conditions_of g q) c →
+      Contains (value_variable c ∷ hearing_reach g r (node_of g p) c) v →
       Contains (start_reach g order r p) v
   unfolding conditions_part
-  of_conditions p q c v free j d i = free_reach p v free (Contains-append_left (conditions_part p ++ ends_part p) (inputs_part p) v (Contains-append_left (conditions_part p) (ends_part p) v
-      (Contains-flat_map (λ c. value_variable c ∷ hearing_reach g r (node_of g p) c) (flat_map (conditions_of g) (before_on_node g order p ++ p ∷ [])) c v
+  of_conditions p q c v free j d i = free_reach p v free (Contains-append_left (conditions_part p ++ ends_part p)
+      (inputs_part p) v (Contains-append_left (conditions_part p) (ends_part p) v
+      (Contains-flat_map (λ c. value_variable c ∷ hearing_reach g r (node_of g p) c)
+      (flat_map (conditions_of g) (before_on_node g order p ++ p ∷ [])) c v
       (Contains-flat_map (conditions_of g) (before_on_node g order p ++ p ∷ []) q c j d) i)))
 
-  of_ends : (p q v : ℕ) → (process_at g p).frozen ≡ false → Contains (before_on_node g order p) q → Contains (end_reach r q) v → Contains (start_reach g order r p) v
+  of_ends : (p q v : ℕ) → (process_at g p).frozen ≡ false → Contains (before_on_node g order p) q →
+      Contains (end_reach r q) v →
+      Contains (start_reach g order r p) v
   unfolding ends_part
   of_ends p q v free j i = free_reach p v free
       (Contains-append_left (conditions_part p ++ ends_part p) (inputs_part p) v
-      (Contains-append_right (conditions_part p) (ends_part p) v (Contains-flat_map (end_reach r) (before_on_node g order p) q v j i)))
+      (Contains-append_right (conditions_part p) (ends_part p) v
+      (Contains-flat_map (end_reach r) (before_on_node g order p) q v j i)))
 
-  of_message : (p e v : ℕ) → (process_at g p).frozen ≡ false → Contains (inputs g p) e → is_message g e ≡ true → Contains (reach_of r (message_item g e)) v → Contains (start_reach g order r p) v
+  of_message : (p e v : ℕ) → (process_at g p).frozen ≡ false → Contains (inputs g p) e → is_message g e ≡ true →
+      Contains (reach_of r (message_item g e)) v →
+      Contains (start_reach g order r p) v
   unfolding inputs_part
-  of_message p e v free j m i = free_reach p v free (Contains-append_right (conditions_part p ++ ends_part p) (inputs_part p) v (Contains-flat_map (input_reach g r) (inputs g p) e v j
-      (Contains-append_left (if is_message g e then reach_of r (message_item g e) else end_reach r (source g e)) (source_value g e) v (subst (λ vs. Contains vs v) (sym (cond-true _ _ _ m)) i))))
+  of_message p e v free j m i = free_reach p v free (Contains-append_right (conditions_part p ++ ends_part p)
+      (inputs_part p) v (Contains-flat_map (input_reach g r) (inputs g p) e v j
+      (Contains-append_left (if is_message g e then reach_of r (message_item g e) else end_reach r (source g e))
+      (source_value g e) v (subst (λ vs. Contains vs v) (sym (cond-true _ _ _ m)) i))))
 
   -- ---- what is carried in a scenario
 
   -- the columns of earlier rows speak of their items' reach
   SpeakOfReach : ℕ → Type 0
-  SpeakOfReach bound = (y : ℕ) → IsEarlier g order bound y → (c : Column) → Contains (row_at rows y) c → (m : Literal) → Contains c.cube m → Contains (reach_of r y) m.variable
+  SpeakOfReach bound = (y : ℕ) → IsEarlier g order bound y → (c : Column) → Contains (row_at rows y) c → (m : Literal) →
+      Contains c.cube m → Contains (reach_of r y) m.variable
 
   module _ (s : Scenario) (law : IsScenario g s) (bound : ℕ) (speak : SpeakOfReach bound) (m : Literal) where
     of_row : (y : ℕ) → IsEarlier g order bound y → FromRow g order rows s y m → Contains (reach_of r y) m.variable
@@ -123,7 +157,8 @@ module _ (g : Graph) (urgency order : List ℕ) (frozen : List (Option ℕ)) (ti
     condition_in : (q : ℕ) → (c : ℕ) → Contains (deciding g s.values q) c → Contains (conditions_of g q) c
     condition_in q c j =
         let d = Contains-filter_parts (decides g s.values q) (numbers_below (condition_count g)) c j in
-        in_conditions_of g urgency timed.admitted.urgent q s.values c law.values (numbers-Contains (condition_count g) c d.0) d.1
+        in_conditions_of g urgency timed.admitted.urgent q s.values c law.values
+        (numbers-Contains (condition_count g) c d.0) d.1
 
     variable_of : (v : ℕ) (vs : List ℕ) → m ≡ number_known s v → Contains vs v → Contains vs m.variable
     variable_of v vs e j = subst (Contains vs) (sym (ap (λ (l : Literal). l.variable) e)) j
@@ -132,129 +167,180 @@ module _ (g : Graph) (urgency order : List ℕ) (frozen : List (Option ℕ)) (ti
     value_in q f = variable_of (value_variable f.condition) (map value_variable (conditions_of g q)) f.is
         (Contains-map value_variable (conditions_of g q) f.condition (condition_in q f.condition f.decides))
 
-    process_in : (p q : ℕ) → p < process_count g → place order p ≤ bound → (process_at g p).frozen ≡ false → Contains (up_to g order p) q → FromProcess g order rows s p q m →
+    process_in : (p q : ℕ) → p < process_count g → place order p ≤ bound → (process_at g p).frozen ≡ false →
+        Contains (up_to g order p) q →
+        FromProcess g order rows s p q m →
         Contains (start_reach g order r p) m.variable
-    process_in p q l at free j (by_value f) = of_conditions p q f.condition m.variable free j (condition_in q f.condition f.decides)
-        (variable_of (value_variable f.condition) (value_variable f.condition ∷ hearing_reach g r (node_of g p) f.condition) f.is
+    process_in p q l at free j (by_value f) =
+        of_conditions p q f.condition m.variable free j (condition_in q f.condition f.decides)
+        (variable_of (value_variable f.condition)
+        (value_variable f.condition ∷ hearing_reach g r (node_of g p) f.condition) f.is
         (Contains-first (value_variable f.condition) (hearing_reach g r (node_of g p) f.condition)))
     process_in p q l at free j (by_broadcast f) =
         let up = up_to_parts g order timed.admitted.topological p q l j in
         let e = hears_earlier g order timed.admitted.topological s q f.condition f.decides in
         of_conditions p q f.condition m.variable free j (condition_in q f.condition f.decides)
         (Contains-rest (value_variable f.condition) (hearing_reach g r (node_of g p) f.condition) m.variable
-        (subst (λ vs. Contains vs m.variable) (sym (cond-false _ _ _ (subst (λ n. (node_of g (process_of g f.condition) == n) ≡ false) up.node f.other)))
+        (subst (λ vs. Contains vs m.variable)
+        (sym (cond-false _ _ _ (subst (λ n. (node_of g (process_of g f.condition) == n) ≡ false) up.node f.other)))
         (of_row (broadcast_item g f.condition) (e.0, omega (arith, e.1, up.place, at)) f.row)))
     process_in p q l at free j (by_message on own_free f) =
         let up = up_to_parts g order timed.admitted.topological p q l j in
         let e = receives_earlier g order timed.admitted.topological q f.edge f.input in
-        let told = of_message q f.edge m.variable own_free f.input f.message (of_row (message_item g f.edge) (e.0, omega (arith, e.1, up.place, at)) f.row) in
+        let told = of_message q f.edge m.variable own_free f.input f.message
+        (of_row (message_item g f.edge) (e.0, omega (arith, e.1, up.place, at)) f.row) in
         elim (up_to_cases g order timed.admitted.topological p q j) [
-          | inl before ↦ of_ends p q m.variable free before (Contains-append_left (reach_of r q) (q ∷ []) m.variable (start_by_rule q m.variable up.within told))
+          | inl before ↦ of_ends p q m.variable free before
+              (Contains-append_left (reach_of r q) (q ∷ []) m.variable (start_by_rule q m.variable up.within told))
           | inr same ↦ subst (λ p. Contains (start_reach g order r p) m.variable) (sym same) told
         ]
     process_in p q l at free j (by_count before on e) =
-        of_ends p q m.variable free before (variable_of q (end_reach r q) e (Contains-append_right (reach_of r q) (q ∷ []) q (Contains-first q [])))
+        of_ends p q m.variable free before
+        (variable_of q (end_reach r q) e (Contains-append_right (reach_of r q) (q ∷ []) q (Contains-first q [])))
 
     own_in : (p : ℕ) → FromValue g order rows s p m → Contains (start_reach g order r p) m.variable
     own_in p f = elim (cases_Bool (process_at g p).frozen) [
       | inl b ↦ subst (λ vs. Contains vs m.variable) (sym (cond-true _ _ _ b)) (value_in p f)
-      | inr b ↦ of_conditions p p f.condition m.variable b (Contains-append_right (before_on_node g order p) (p ∷ []) p (Contains-first p [])) (condition_in p f.condition f.decides)
-          (variable_of (value_variable f.condition) (value_variable f.condition ∷ hearing_reach g r (node_of g p) f.condition) f.is
+      | inr b ↦ of_conditions p p f.condition m.variable b (Contains-append_right (before_on_node g order p) (p ∷ []) p
+          (Contains-first p [])) (condition_in p f.condition f.decides)
+          (variable_of (value_variable f.condition)
+          (value_variable f.condition ∷ hearing_reach g r (node_of g p) f.condition) f.is
           (Contains-first (value_variable f.condition) (hearing_reach g r (node_of g p) f.condition)))
     ]
 
-    start_in : (p : ℕ) → p < process_count g → place order p ≤ bound → FromStart g order rows s p m → Contains (start_reach g order r p) m.variable
+    start_in : (p : ℕ) → p < process_count g → place order p ≤ bound → FromStart g order rows s p m →
+        Contains (start_reach g order r p) m.variable
     start_in p l at (own f) = own_in p f
     start_in p l at (more f) = process_in p f.process l at f.free f.stands f.told
 
-    end_in_reach : (p : ℕ) → p < process_count g → place order p ≤ bound → FromEnd g order rows s p m → Contains (end_reach r p) m.variable
-    end_in_reach p l at (from_start f) = Contains-append_left (reach_of r p) (p ∷ []) m.variable (start_by_rule p m.variable l (start_in p l at f))
-    end_in_reach p l at (its_count e) = variable_of p (end_reach r p) e (Contains-append_right (reach_of r p) (p ∷ []) p (Contains-first p []))
+    end_in_reach : (p : ℕ) → p < process_count g → place order p ≤ bound → FromEnd g order rows s p m →
+        Contains (end_reach r p) m.variable
+    end_in_reach p l at (from_start f) =
+        Contains-append_left (reach_of r p) (p ∷ []) m.variable (start_by_rule p m.variable l (start_in p l at f))
+    end_in_reach p l at (its_count e) =
+        variable_of p (end_reach r p) e (Contains-append_right (reach_of r p) (p ∷ []) p (Contains-first p []))
 
     -- the parts of a send's reach
     front : ℕ → List ℕ
-    front x = if is_frozen g x then map value_variable (conditions_of g (producer g x)) else (end_reach r (producer g x) ++ flat_map (reach_of r) (queued_before g order x))
+    front x = if is_frozen g x then map value_variable (conditions_of g (producer g x))
+        else (end_reach r (producer g x) ++ flat_map (reach_of r) (queued_before g order x))
 
     of_front : (x v : ℕ) → Contains (front x) v → Contains (send_reach g order r x) v
     unfolding front
-    of_front x v j = Contains-append_left (if is_frozen g x then map value_variable (conditions_of g (producer g x)) else
-        (end_reach r (producer g x) ++ flat_map (reach_of r) (queued_before g order x))) (sent_value g (item_at g x)) v j
+    of_front x v j =
+        Contains-append_left (if is_frozen g x then map value_variable (conditions_of g (producer g x)) else
+        (end_reach r (producer g x) ++ flat_map (reach_of r) (queued_before g order x)))
+        (sent_value g (item_at g x)) v j
 
-    of_producers_end : (x v : ℕ) → is_frozen g x ≡ false → Contains (end_reach r (producer g x)) v → Contains (send_reach g order r x) v
+    of_producers_end : (x v : ℕ) → is_frozen g x ≡ false → Contains (end_reach r (producer g x)) v →
+        Contains (send_reach g order r x) v
     unfolding front
     of_producers_end x v free j = of_front x v
-        (subst (λ vs. Contains vs v) (sym (cond-false _ _ _ free)) (Contains-append_left (end_reach r (producer g x)) (flat_map (reach_of r) (queued_before g order x)) v j))
+        (subst (λ vs. Contains vs v) (sym (cond-false _ _ _ free))
+        (Contains-append_left (end_reach r (producer g x)) (flat_map (reach_of r) (queued_before g order x)) v j))
 
-    of_queue_before : (x y v : ℕ) → is_frozen g x ≡ false → Contains (queued_before g order x) y → Contains (reach_of r y) v → Contains (send_reach g order r x) v
+    of_queue_before : (x y v : ℕ) → is_frozen g x ≡ false → Contains (queued_before g order x) y →
+        Contains (reach_of r y) v →
+        Contains (send_reach g order r x) v
     unfolding front
     of_queue_before x y v free k j = of_front x v
         (subst (λ vs. Contains vs v) (sym (cond-false _ _ _ free))
-        (Contains-append_right (end_reach r (producer g x)) (flat_map (reach_of r) (queued_before g order x)) v (Contains-flat_map (reach_of r) (queued_before g order x) y v k j)))
+        (Contains-append_right (end_reach r (producer g x)) (flat_map (reach_of r) (queued_before g order x)) v
+        (Contains-flat_map (reach_of r) (queued_before g order x) y v k j)))
 
     sent_in : (x : ℕ) → FromSent g order rows s x m → Contains (send_reach g order r x) m.variable
     sent_in x f = variable_of f.variable (send_reach g order r x) f.is
-        (Contains-append_right (if is_frozen g x then map value_variable (conditions_of g (producer g x)) else (end_reach r (producer g x) ++ flat_map (reach_of r) (queued_before g order x)))
+        (Contains-append_right (if is_frozen g x then map value_variable (conditions_of g (producer g x))
+        else (end_reach r (producer g x) ++ flat_map (reach_of r) (queued_before g order x)))
         (sent_value g (item_at g x)) f.variable f.stands)
 
     -- what decides its producer
-    producer_in : (x : ℕ) → producer g x < process_count g → FromValue g order rows s (producer g x) m → Contains (send_reach g order r x) m.variable
+    producer_in : (x : ℕ) → producer g x < process_count g → FromValue g order rows s (producer g x) m →
+        Contains (send_reach g order r x) m.variable
     unfolding front
     producer_in x l f = elim (cases_Bool (is_frozen g x)) [
-      | inl b ↦ of_front x m.variable (subst (λ vs. Contains vs m.variable) (sym (cond-true _ _ _ b)) (value_in (producer g x) f))
-      | inr b ↦ of_producers_end x m.variable b (Contains-append_left (reach_of r (producer g x)) (producer g x ∷ []) m.variable (start_by_rule (producer g x) m.variable l (own_in (producer g x) f)))
+      | inl b ↦ of_front x m.variable
+          (subst (λ vs. Contains vs m.variable) (sym (cond-true _ _ _ b)) (value_in (producer g x) f))
+      | inr b ↦ of_producers_end x m.variable b (Contains-append_left (reach_of r (producer g x))
+          (producer g x ∷ []) m.variable (start_by_rule (producer g x) m.variable l (own_in (producer g x) f)))
     ]
 
-    queued_in : (y : ℕ) → producer g y < process_count g → place order (producer g y) ≤ bound → FromQueued g order rows s y m → Contains (send_reach g order r y) m.variable
+    queued_in : (y : ℕ) → producer g y < process_count g → place order (producer g y) ≤ bound →
+        FromQueued g order rows s y m →
+        Contains (send_reach g order r y) m.variable
     queued_in y l at (left_value f) = producer_in y l f
     queued_in y l at (left_sent on f) = sent_in y f
     queued_in y l at (left_end on free f) = of_producers_end y m.variable free (end_in_reach (producer g y) l at f)
 
-    send_in : (x : ℕ) → x < item_count g → is_sent g x ≡ true → place order (producer g x) ≤ bound → FromSend g order rows s x m → Contains (send_reach g order r x) m.variable
+    send_in : (x : ℕ) → x < item_count g → is_sent g x ≡ true → place order (producer g x) ≤ bound →
+        FromSend g order rows s x m →
+        Contains (send_reach g order r x) m.variable
     send_in x l e at (of_producer f v) = producer_in x (producer_in_range g order timed.admitted.topological x l) v
     send_in x l e at (of_queue free y j f) =
         let q = queued_parts g order timed.admitted.topological x y l e j in
-        of_queue_before x y m.variable free j (by_rule y m.variable q.within (sent_reach y m.variable (item_at g y) q.sent
-        (queued_in y (producer_in_range g order timed.admitted.topological y q.within) (omega (arith, producer_no_later g order x y j, at)) f)))
-    send_in x l e at (of_end free f) = of_producers_end x m.variable free (end_in_reach (producer g x) (producer_in_range g order timed.admitted.topological x l) at f)
+        of_queue_before x y m.variable free j
+        (by_rule y m.variable q.within (sent_reach y m.variable (item_at g y) q.sent
+        (queued_in y (producer_in_range g order timed.admitted.topological y q.within)
+        (omega (arith, producer_no_later g order x y j, at)) f)))
+    send_in x l e at (of_end free f) = of_producers_end x m.variable free
+        (end_in_reach (producer g x) (producer_in_range g order timed.admitted.topological x l) at f)
     send_in x l e at (of_value f) = sent_in x f
 
-    carried_in : (x : ℕ) → x < item_count g → place order (producer g x) ≤ bound → item_active g s.values (item_at g x) ≡ true → Contains (carried g order rows s x) m →
+    carried_in : (x : ℕ) → x < item_count g → place order (producer g x) ≤ bound →
+        item_active g s.values (item_at g x) ≡ true →
+        Contains (carried g order rows s x) m →
         Contains (reach_of r x) m.variable
     carried_in x l at on j = elim (item_cases g x l) [
-      | inl c ↦ start_by_rule x m.variable c.0 (start_in x c.0 (omega (arith, at, ap (λ i. place order (producer_of_item g i)) c.1))
-          (from_start_of g order rows s timed.admitted.topological x m (sym (ap (item_active g s.values) c.1) ∙ on) (subst (λ i. Contains (carried_by_item g order rows s x i) m) c.1 j)))
+      | inl c ↦ start_by_rule x m.variable c.0
+          (start_in x c.0 (omega (arith, at, ap (λ i. place order (producer_of_item g i)) c.1))
+          (from_start_of g order rows s timed.admitted.topological x m (sym (ap (item_active g s.values) c.1) ∙ on)
+          (subst (λ i. Contains (carried_by_item g order rows s x i) m) c.1 j)))
       | inr (inl c) ↦
-          let e : is_sent g x ≡ true = ap (is_sent_item g) c.3 ∙ (and_parts (is_sent_item g (Message c.0)) (live g s.values c.0) (sym (ap (item_active g s.values) c.3) ∙ on)).0 in
+          let e : is_sent g x ≡ true = ap (is_sent_item g) c.3 ∙ (and_parts (is_sent_item g (Message c.0))
+          (live g s.values c.0) (sym (ap (item_active g s.values) c.3) ∙ on)).0 in
           by_rule x m.variable l (sent_reach x m.variable (item_at g x) e
-          (send_in x l e at (from_send_of g order rows s timed.admitted.topological x m on (subst (λ i. Contains (carried_by_item g order rows s x i) m) c.3 j))))
+          (send_in x l e at (from_send_of g order rows s timed.admitted.topological x m on
+          (subst (λ i. Contains (carried_by_item g order rows s x i) m) c.3 j))))
       | inr (inr c) ↦
-          let e : is_sent g x ≡ true = ap (is_sent_item g) c.3 ∙ (and_parts (is_sent_item g (Broadcast c.0)) (active g s.values (process_of g c.0)) (sym (ap (item_active g s.values) c.3) ∙ on)).0 in
+          let e : is_sent g x ≡ true = ap (is_sent_item g) c.3 ∙ (and_parts (is_sent_item g (Broadcast c.0))
+          (active g s.values (process_of g c.0)) (sym (ap (item_active g s.values) c.3) ∙ on)).0 in
           by_rule x m.variable l (sent_reach x m.variable (item_at g x) e
-          (send_in x l e at (from_send_of g order rows s timed.admitted.topological x m on (subst (λ i. Contains (carried_by_item g order rows s x i) m) c.3 j))))
+          (send_in x l e at (from_send_of g order rows s timed.admitted.topological x m on
+          (subst (λ i. Contains (carried_by_item g order rows s x i) m) c.3 j))))
     ]
 
   -- ---- rows, process after process
 
-  row_speaks : (bound x : ℕ) → SpeakOfReach bound → x < item_count g → place order (producer g x) ≤ bound → (c : Column) → Contains (row_at rows x) c → (m : Literal) → Contains c.cube m →
+  row_speaks : (bound x : ℕ) → SpeakOfReach bound → x < item_count g → place order (producer g x) ≤ bound →
+      (c : Column) → Contains (row_at rows x) c → (m : Literal) →
+      Contains c.cube m →
       Contains (reach_of r x) m.variable
   row_speaks bound x speak l at c j m i =
       let row = all.each x l in
       let rising = (All-contains (λ (c : Column). IsCube g c.cube) (row_at rows x) c row.cubes j).rising in
       let part = All-contains (λ (l : Literal). is_whole g.faults l ≡ false) c.cube m
-      (All-contains (λ (c : Column). All (λ (l : Literal). is_whole g.faults l ≡ false) c.cube) (row_at rows x) c row.not_whole j) i in
+      (All-contains (λ (c : Column). All (λ (l : Literal). is_whole g.faults l ≡ false) c.cube)
+      (row_at rows x) c row.not_whole j) i in
       let within = All-contains (λ (l : Literal). l.high ≤ top g.faults l.variable) c.cube m
-      (All-contains (λ (c : Column). All (λ (l : Literal). l.high ≤ top g.faults l.variable) c.cube) (row_at rows x) c row.within j) i in
-      let least = All-contains (λ (c : Column). (s : Scenario) × IsLeastMatch g urgency c s) (row_at rows x) c row.met j in
+      (All-contains (λ (c : Column). All (λ (l : Literal). l.high ≤ top g.faults l.variable) c.cube)
+      (row_at rows x) c row.within j) i in
+      let least =
+      All-contains (λ (c : Column). (s : Scenario) × IsLeastMatch g urgency c s) (row_at rows x) c row.met j in
       let s : Scenario = least.0 in
       let on = (carrying_active g urgency order frozen timed rows all x c j s least.1.lawful least.1.holds).1 in
-      let told = narrower_spoken g.faults c.cube m rising i part within (carried g order rows s x) (row.carries s c least.1.lawful j least.1.holds) in
+      let told = narrower_spoken g.faults c.cube m rising i part within (carried g order rows s x)
+      (row.carries s c least.1.lawful j least.1.holds) in
       subst (Contains (reach_of r x)) told.2 (carried_in s least.1.lawful bound speak told.0 x l at on told.1)
 
   speak_below : (n bound : ℕ) → bound ≤ n → SpeakOfReach bound
   unfolding SpeakOfReach
   speak_below zero bound h y e c j m i = absurd (omega (arith, e.1, h))
-  speak_below (suc n) bound h y e c j m i = row_speaks (place order (producer g y)) y (speak_below n (place order (producer g y)) (omega (arith, e.1, h))) e.0 (omega arith) c j m i
+  speak_below (suc n) bound h y e c j m i = row_speaks (place order (producer g y)) y
+      (speak_below n (place order (producer g y)) (omega (arith, e.1, h))) e.0 (omega arith) c j m i
 
   -- each literal of a row is on a variable of its item's reach
-  pub rows_in_reach : (x : ℕ) → x < item_count g → (c : Column) → Contains (row_at rows x) c → (m : Literal) → Contains c.cube m → Contains (reach_of r x) m.variable
-  rows_in_reach x l = row_speaks (place order (producer g x)) x (speak_below (place order (producer g x)) (place order (producer g x)) (omega arith)) l (omega arith)
+  pub rows_in_reach : (x : ℕ) → x < item_count g → (c : Column) → Contains (row_at rows x) c → (m : Literal) →
+      Contains c.cube m →
+      Contains (reach_of r x) m.variable
+  rows_in_reach x l = row_speaks (place order (producer g x)) x
+      (speak_below (place order (producer g x)) (place order (producer g x)) (omega arith)) l (omega arith)

@@ -19,12 +19,14 @@ use Rattle.cpg_run.specs.Carrying.{AreTablesCarrying, CarryingTablesAreLawful}
 use Rattle.cpg_run.proofs.CarryingKnown.{run_times, given, supported}
 use Rattle.cpg_run.proofs.CarryingReach.{rows_in_reach}
 
-module _ (g : Graph) (urgency order : List ℕ) (frozen : List (Option ℕ)) (rows : List (List Column)) (tables : List NodeTable) (z : AreTablesCarrying g urgency order frozen rows tables) (r : Reach)
+module _ (g : Graph) (urgency order : List ℕ) (frozen : List (Option ℕ)) (rows : List (List Column))
+    (tables : List NodeTable) (z : AreTablesCarrying g urgency order frozen rows tables) (r : Reach)
     (is : IsReach g order r) where
   row_formed : (x : ℕ) → x < item_count g → IsFormed g urgency (reach_of r x) (row_at rows x)
   row_formed x l = record {
     in_reach = every (λ (c : Column). All (λ (m : Literal). Contains (reach_of r x) m.variable) c.cube) (row_at rows x)
-        (λ c j. every (λ (m : Literal). Contains (reach_of r x) m.variable) c.cube (λ m i. rows_in_reach g urgency order frozen z.timed rows z.found r is x l c j m i));
+        (λ c j. every (λ (m : Literal). Contains (reach_of r x) m.variable) c.cube
+        (λ m i. rows_in_reach g urgency order frozen z.timed rows z.found r is x l c j m i));
     not_whole = (z.found.each x l).not_whole;
     met = (z.found.each x l).met;
     ordered = (z.found.each x l).ordered;
@@ -38,11 +40,14 @@ module _ (g : Graph) (urgency order : List ℕ) (frozen : List (Option ℕ)) (ro
   }
 
   rules : (rule : Rule) → rule ≢ Rule.Due → Keeps rule g tables
-  rules = all_rules g order frozen tables (given g urgency order frozen rows tables z) (supported g urgency order frozen rows tables z)
+  rules = all_rules g order frozen tables (given g urgency order frozen rows tables z)
+      (supported g urgency order frozen rows tables z)
 
-  within_views : process_count g ≤ 128 → (x : ℕ) → x < item_count g → length (columns_of tables x) ≤ views g (reach_of r x)
+  within_views : process_count g ≤ 128 → (x : ℕ) → x < item_count g →
+      length (columns_of tables x) ≤ views g (reach_of r x)
   within_views few x l = columns_within_views g few (reach_of r x) urgency (columns_of tables x) (exact.formed x l)
-      (row_keeps g tables x (λ s i lawful. (rules Rule.Activity (λ e. cc) s lawful x l (Some i), rules Rule.Single (λ e. cc) s lawful x l (Some i))))
+      (row_keeps g tables x (λ s i lawful.
+      (rules Rule.Activity (λ e. cc) s lawful x l (Some i), rules Rule.Single (λ e. cc) s lawful x l (Some i))))
 
 pub carrying_tables_are_lawful : CarryingTablesAreLawful
 carrying_tables_are_lawful g urgency order frozen rows tables r z is = record {

@@ -1,5 +1,7 @@
--- Carrying rows have the times of the runs; a column of theirs matches only if its item is active, so what never is has none.
-use Rattle.std.proofs.Common.{ℕ, ◌<◌, ◌≤◌, ◌≡◌, true, false, List, [], ◌∷◌, length, filter, get_or, Contains, Option, None, option_to_list, arith, refl, sym, ap, ◌∙◌, subst, inl, inr}
+-- Carrying rows have the times of the runs; a column of theirs matches only if its item is active, so what never is has
+-- none.
+use Rattle.std.proofs.Common.{ℕ, ◌<◌, ◌≤◌, ◌≡◌, true, false, List, [], ◌∷◌, length, filter, get_or, Contains, Option}
+use Rattle.std.proofs.Common.{None, option_to_list, arith, refl, sym, ap, ◌∙◌, subst, inl, inr}
 use Rattle.std.proofs.lemmas.Bool.{cases_lt, both_ways}
 use Rattle.std.proofs.lemmas.List.{get_or_past}
 use Rattle.std.proofs.lemmas.List.Elements.{All-contains}
@@ -18,13 +20,16 @@ use Rattle.cpg_run.specs.Carried.{row_at}
 use Rattle.cpg_run.specs.RowLaws.{IsTimed, HaveTimesOf}
 use Rattle.cpg_run.specs.Carrying.{AreCarrying}
 
-module _ (g : Graph) (urgency order : List ℕ) (frozen : List (Option ℕ)) (timed : IsTimed g urgency order frozen) (rows : List (List Column)) (all : AreCarrying g urgency order frozen rows) where
+module _ (g : Graph) (urgency order : List ℕ) (frozen : List (Option ℕ)) (timed : IsTimed g urgency order frozen)
+    (rows : List (List Column)) (all : AreCarrying g urgency order frozen rows) where
   -- beyond the items there is nothing
   row_past : (x : ℕ) → item_count g ≤ x → row_at rows x ≡ []
   row_past x l = get_or_past rows x [] (omega (arith, all.count, l))
 
-  time_past : (s : Scenario) (t : Times) → IsRun g order frozen s t → (x : ℕ) → item_count g ≤ x → get_or t.times x None ≡ None
-  time_past s t run x l = get_or_past t.times x None (omega (arith, ap length run.times, length-map-range_with_len (time_by g order frozen s t) 0 (item_count g), l))
+  time_past : (s : Scenario) (t : Times) → IsRun g order frozen s t → (x : ℕ) → item_count g ≤ x →
+      get_or t.times x None ≡ None
+  time_past s t run x l = get_or_past t.times x None
+      (omega (arith, ap length run.times, length-map-range_with_len (time_by g order frozen s t) 0 (item_count g), l))
 
   pub carrying_times : (x : ℕ) → HaveTimesOf g order frozen x (row_at rows x)
   carrying_times x s t law run = elim (cases_lt x (item_count g)) [
@@ -32,19 +37,25 @@ module _ (g : Graph) (urgency order : List ℕ) (frozen : List (Option ℕ)) (ti
     | inr past ↦ ap (λ cs. times_in cs s) (row_past x past) ∙ sym (ap option_to_list (time_past s t run x past))
   ]
 
-  pub carrying_active : (x : ℕ) (c : Column) → Contains (row_at rows x) c → (s : Scenario) → IsScenario g s → matches c.cube s ≡ true → (x < item_count g) ×
+  pub carrying_active : (x : ℕ) (c : Column) → Contains (row_at rows x) c → (s : Scenario) → IsScenario g s →
+      matches c.cube s ≡ true →
+      (x < item_count g) ×
       (item_active g s.values (item_at g x) ≡ true)
   carrying_active x c j s law h =
       let r = a_run g order frozen s timed.admitted.topological in
-      let there = Contains-map (λ (c : Column). c.time) (filter (λ (c : Column). matches c.cube s) (row_at rows x)) c (Contains-filter (λ (c : Column). matches c.cube s) (row_at rows x) c h j) in
-      let parts = time_parts g order frozen s r.0 r.1 x c.time (in_option (get_or r.0.times x None) c.time (subst (λ ns. Contains ns c.time) (carrying_times x s r.0 law r.1) there)) in
+      let there = Contains-map (λ (c : Column). c.time) (filter (λ (c : Column). matches c.cube s) (row_at rows x)) c
+      (Contains-filter (λ (c : Column). matches c.cube s) (row_at rows x) c h j) in
+      let parts = time_parts g order frozen s r.0 r.1 x c.time (in_option (get_or r.0.times x None) c.time
+      (subst (λ ns. Contains ns c.time) (carrying_times x s r.0 law r.1) there)) in
       (parts.0, parts.1)
 
-  pub never_columns : (x : ℕ) → ((s : Scenario) → IsScenario g s → item_active g s.values (item_at g x) ≡ false) → row_at rows x ≡ []
+  pub never_columns : (x : ℕ) → ((s : Scenario) → IsScenario g s → item_active g s.values (item_at g x) ≡ false) →
+      row_at rows x ≡ []
   never_columns x never = elim (cases_lt x (item_count g)) [
     | inr past ↦ row_past x past
     | inl l ↦ empty (row_at rows x) (λ c j.
-        let least = All-contains (λ (c : Column). (s : Scenario) × IsLeastMatch g urgency c s) (row_at rows x) c (all.each x l).met j in
+        let least = All-contains (λ (c : Column). (s : Scenario) × IsLeastMatch g urgency c s) (row_at rows x) c
+        (all.each x l).met j in
         both_ways _ (never least.0 least.1.lawful) (carrying_active x c j least.0 least.1.lawful least.1.holds).1)
   ]
     where

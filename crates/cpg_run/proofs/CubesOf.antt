@@ -1,5 +1,7 @@
--- Cubes of literals: which scenarios they match, that there is one, and that two of the same literals have the same ranges.
-use Rattle.std.proofs.Common.{ℕ, suc, ltb, ◌<◌, ◌≤◌, ◌≡◌, ◌≢◌, ◌==◌, Bool, true, false, List, [], ◌∷◌, ◌++◌, map, filter, flat_map, Contains, arith, refl, sym, ap, ◌∙◌, subst, inl, inr, eq-eqb}
+-- Cubes of literals: which scenarios they match, that there is one, and that two of the same literals have the same
+-- ranges.
+use Rattle.std.proofs.Common.{ℕ, suc, ltb, ◌<◌, ◌≤◌, ◌≡◌, ◌≢◌, ◌==◌, Bool, true, false, List, [], ◌∷◌, ◌++◌, map}
+use Rattle.std.proofs.Common.{filter, flat_map, Contains, arith, refl, sym, ap, ◌∙◌, subst, inl, inr, eq-eqb}
 use Rattle.std.proofs.Common.{eqb-true, ne_eqb}
 use Rattle.std.specs.List.{list_any}
 use Rattle.std.proofs.lemmas.Bool.{cases_Bool, cond-false, both_ways}
@@ -7,8 +9,10 @@ use Rattle.std.proofs.lemmas.List.Elements.{Contains-append_cases, Contains-appe
 use Rattle.std.proofs.lemmas.List.Kept.{AllPairs-from_increasing, IsStrictlyIncreasing-filter}
 use Rattle.cpg_base.specs.Numbers.{numbers_below, greatest}
 use Rattle.cpg_base.specs.Graph.{Graph, process_count, condition_count, value_variable}
-use Rattle.cpg_base.proofs.Lists.{Contains-first, Contains-rest, Contains-map, Contains-map_parts, Contains-filter, Contains-filter_parts, Contains-numbers, Contains-flat_map, Contains-flat_map_parts}
-use Rattle.cpg_base.proofs.Lists.{numbers_rise, all_from, from_all, same_map, list_any_true, list_any_parts, greatest_above}
+use Rattle.cpg_base.proofs.Lists.{Contains-first, Contains-rest, Contains-map, Contains-map_parts, Contains-filter}
+use Rattle.cpg_base.proofs.Lists.{Contains-filter_parts, Contains-numbers, Contains-flat_map, Contains-flat_map_parts}
+use Rattle.cpg_base.proofs.Lists.{numbers_rise, all_from, from_all, same_map, list_any_true, list_any_parts}
+use Rattle.cpg_base.proofs.Lists.{greatest_above}
 use Rattle.cpg_base.proofs.Pairs.{AllPairs-map}
 use Rattle.cpg_base.specs.Scenario.{Scenario, IsScenario, number_of}
 use Rattle.cpg_base.proofs.NumbersOf.{variable_or_not, unknown-zero}
@@ -32,29 +36,43 @@ module _ (u : Scenario) where
   holds_left xs ys h = all_from (holds u) xs (λ m j. from_all (holds u) (xs ++ ys) m h (Contains-append_left xs ys m j))
 
   pub holds_right : (xs ys : List Literal) → matches (xs ++ ys) u ≡ true → matches ys u ≡ true
-  holds_right xs ys h = all_from (holds u) ys (λ m j. from_all (holds u) (xs ++ ys) m h (Contains-append_right xs ys m j))
+  holds_right xs ys h =
+      all_from (holds u) ys (λ m j. from_all (holds u) (xs ++ ys) m h (Contains-append_right xs ys m j))
 
-  pub holds_each : {X : Type 0} (f : X → List Literal) (xs : List X) (x : X) → matches (flat_map f xs) u ≡ true → Contains xs x → matches (f x) u ≡ true
-  holds_each f xs x h j = all_from (holds u) (f x) (λ m i. from_all (holds u) (flat_map f xs) m h (Contains-flat_map f xs x m j i))
+  pub holds_each : {X : Type 0} (f : X → List Literal) (xs : List X) (x : X) → matches (flat_map f xs) u ≡ true →
+      Contains xs x →
+      matches (f x) u ≡ true
+  holds_each f xs x h j =
+      all_from (holds u) (f x) (λ m i. from_all (holds u) (flat_map f xs) m h (Contains-flat_map f xs x m j i))
 
   pub holds_both : (xs ys : List Literal) → matches xs u ≡ true → matches ys u ≡ true → matches (xs ++ ys) u ≡ true
-  holds_both xs ys h k = all_from (holds u) (xs ++ ys) (λ m j. elim (Contains-append_cases xs ys m j) [ inl i ↦ from_all (holds u) xs m h i | inr i ↦ from_all (holds u) ys m k i ])
+  holds_both xs ys h k = all_from (holds u) (xs ++ ys) (λ m j. elim (Contains-append_cases xs ys m j) [
+    | inl i ↦ from_all (holds u) xs m h i
+    | inr i ↦ from_all (holds u) ys m k i
+  ])
 
-  pub holds_all : {X : Type 0} (f : X → List Literal) (xs : List X) → ((x : X) → Contains xs x → matches (f x) u ≡ true) → matches (flat_map f xs) u ≡ true
-  holds_all f xs h = all_from (holds u) (flat_map f xs) (λ m j. let r = Contains-flat_map_parts f xs m j in from_all (holds u) (f r.0) m (h r.0 r.1) r.2)
+  pub holds_all : {X : Type 0} (f : X → List Literal) (xs : List X) →
+      ((x : X) → Contains xs x → matches (f x) u ≡ true) →
+      matches (flat_map f xs) u ≡ true
+  holds_all f xs h = all_from (holds u) (flat_map f xs)
+      (λ m j. let r = Contains-flat_map_parts f xs m j in from_all (holds u) (f r.0) m (h r.0 r.1) r.2)
 
   -- what was known of another scenario is so here
   pub same_number : (s : Scenario) (v : ℕ) → holds u (number_known s v) ≡ true → number_of u v ≡ number_of s v
   same_number s v h = omega (arith, holds-low u (number_known s v) h, holds-high u (number_known s v) h)
 
-  pub same_numbers : (s : Scenario) (vs : List ℕ) → matches (map (number_known s) vs) u ≡ true → (v : ℕ) → Contains vs v → number_of u v ≡ number_of s v
-  same_numbers s vs h v j = same_number s v (from_all (holds u) (map (number_known s) vs) (number_known s v) h (Contains-map (number_known s) vs v j))
+  pub same_numbers : (s : Scenario) (vs : List ℕ) → matches (map (number_known s) vs) u ≡ true → (v : ℕ) →
+      Contains vs v →
+      number_of u v ≡ number_of s v
+  same_numbers s vs h v j = same_number s v
+      (from_all (holds u) (map (number_known s) vs) (number_known s v) h (Contains-map (number_known s) vs v j))
 
   -- what is known of a scenario holds in it
   pub number_holds : (v : ℕ) → holds u (number_known u v) ≡ true
   number_holds v = holds-from u (number_known u v) (omega arith) (omega arith)
 
-pub number_at_most : (g : Graph) → process_count g ≤ 128 → (s : Scenario) → IsScenario g s → (v : ℕ) → number_of s v ≤ top g.faults v
+pub number_at_most : (g : Graph) → process_count g ≤ 128 → (s : Scenario) → IsScenario g s → (v : ℕ) →
+    number_of s v ≤ top g.faults v
 number_at_most g few s law v = elim (variable_or_not g v) [
   | inl known ↦ number_within g few s law v known
   | inr other ↦ omega (arith, unknown-zero g s law v other)
@@ -62,7 +80,8 @@ number_at_most g few s law v = elim (variable_or_not g v) [
 
 -- ---- what a cube of literals matches
 
-module _ (g : Graph) (few : process_count g ≤ 128) (literals cube : List Literal) (is : IsCubeOf g.faults literals cube) (s : Scenario) (law : IsScenario g s) where
+module _ (g : Graph) (few : process_count g ≤ 128) (literals cube : List Literal) (is : IsCubeOf g.faults literals cube)
+    (s : Scenario) (law : IsScenario g s) where
   -- a scenario in which the literals hold
   pub cube_matches : matches literals s ≡ true → matches cube s ≡ true
   cube_matches h = all_from (holds s) cube (λ l j.
@@ -70,7 +89,8 @@ module _ (g : Graph) (few : process_count g ≤ 128) (literals cube : List Liter
       let r = range_of_literal g.faults cube l is.rising j in
       let low : kept_low literals v ≤ number_of s v = kept_low_below literals v (number_of s v)
       (λ m i e. omega (arith, holds-low s m (from_all (holds s) literals m h i), ap (number_of s) e)) in
-      let high : number_of s v ≤ kept_high g.faults literals v = kept_high_above literals v g.faults (number_of s v) (number_at_most g few s law v)
+      let high : number_of s v ≤ kept_high g.faults literals v =
+      kept_high_above literals v g.faults (number_of s v) (number_at_most g few s law v)
       (λ m i e. omega (arith, holds-high s m (from_all (holds s) literals m h i), ap (number_of s) e)) in
       holds-from s l (omega (arith, r.0, is.low v, low)) (omega (arith, r.1, is.high v, high)))
 
@@ -80,21 +100,30 @@ module _ (g : Graph) (few : process_count g ≤ 128) (literals cube : List Liter
       let v : ℕ = m.variable in
       holds-from s m
       (omega (arith, low_kept literals v m j refl, is.low v, low_in-le cube s v h))
-      (omega (arith, high_kept literals v g.faults m j refl, is.high v, high_in-ge g.faults cube s v (number_at_most g few s law v) h)))
+      (omega (
+        arith,
+        high_kept literals v g.faults m j refl,
+        is.high v,
+        high_in-ge g.faults cube s v (number_at_most g few s law v) h,
+      )))
 
 -- its literals don't go past the whole range
-pub cube_within : (k : ℕ) (literals cube : List Literal) → IsCubeOf k literals cube → (l : Literal) → Contains cube l → l.high ≤ top k l.variable
-cube_within k literals cube is l j = omega (arith, (range_of_literal k cube l is.rising j).1, is.high l.variable, high_kept_top literals l.variable k)
+pub cube_within : (k : ℕ) (literals cube : List Literal) → IsCubeOf k literals cube → (l : Literal) → Contains cube l →
+    l.high ≤ top k l.variable
+cube_within k literals cube is l j =
+    omega (arith, (range_of_literal k cube l is.rising j).1, is.high l.variable, high_kept_top literals l.variable k)
 
 -- cubes with the same low ranges have the same least scenario
 pub same_lows : (g : Graph) (a b : List Literal) → ((v : ℕ) → low_in a v ≡ low_in b v) → lows g a ≡ lows g b
 same_lows g a b same =
-    let values = same_map (λ c. ltb 0 (low_in a (value_variable c))) (λ c. ltb 0 (low_in b (value_variable c))) (numbers_below (condition_count g)) (λ c j. ap (ltb 0) (same (value_variable c))) in
+    let values = same_map (λ c. ltb 0 (low_in a (value_variable c))) (λ c. ltb 0 (low_in b (value_variable c)))
+    (numbers_below (condition_count g)) (λ c j. ap (ltb 0) (same (value_variable c))) in
     let faults = same_map (low_in a) (low_in b) (numbers_below (process_count g)) (λ p j. same p) in
     λ i. record { values = values i; faults = faults i }
 
 -- two cubes of the same literals have the same least scenario
-pub same_least : (g : Graph) (xs a b : List Literal) → IsCubeOf g.faults xs a → IsCubeOf g.faults xs b → lows g a ≡ lows g b
+pub same_least : (g : Graph) (xs a b : List Literal) → IsCubeOf g.faults xs a → IsCubeOf g.faults xs b →
+    lows g a ≡ lows g b
 same_least g xs a b is other = same_lows g a b (λ v. is.low v ∙ sym (other.low v))
 
 -- ---- there is one
@@ -117,7 +146,8 @@ module _ (k : ℕ) (literals : List Literal) where
   rising : IsRising cube_of
   unfolding cube_of kept spoken_below
   rising = AllPairs-map (λ v w. v < w) (λ (l m : Literal). l.variable < m.variable) kept spoken_below (λ v w h. h)
-      (AllPairs-from_increasing spoken_below (IsStrictlyIncreasing-filter is_spoken (numbers_below (suc (greatest (map (λ (m : Literal). m.variable) literals))))
+      (AllPairs-from_increasing spoken_below (IsStrictlyIncreasing-filter is_spoken
+      (numbers_below (suc (greatest (map (λ (m : Literal). m.variable) literals))))
       (numbers_rise (suc (greatest (map (λ (m : Literal). m.variable) literals))))))
 
   -- a literal of the cube is what is kept of a variable of the literals
@@ -126,7 +156,8 @@ module _ (k : ℕ) (literals : List Literal) where
   from_cube l j =
       let r = Contains-map_parts kept spoken_below l j in
       let v : r.0 ≡ l.variable = ap (λ (m : Literal). m.variable) r.2 in (
-        subst (λ w. is_spoken w ≡ true) v (Contains-filter_parts is_spoken (numbers_below (suc (greatest (map (λ (m : Literal). m.variable) literals)))) r.0 r.1).1,
+        subst (λ w. is_spoken w ≡ true) v (Contains-filter_parts is_spoken
+            (numbers_below (suc (greatest (map (λ (m : Literal). m.variable) literals)))) r.0 r.1).1,
         subst (λ w. kept w ≡ l) v r.2,
       )
 
@@ -135,8 +166,10 @@ module _ (k : ℕ) (literals : List Literal) where
   in_cube v e =
       let r = list_any_parts (λ (m : Literal). m.variable == v) literals e in
       let same : r.0.variable ≡ v = eqb-true r.0.variable v r.2 in
-      let most = greatest_above (map (λ (m : Literal). m.variable) literals) r.0.variable (Contains-map (λ (m : Literal). m.variable) literals r.0 r.1) in
-      Contains-map kept spoken_below v (Contains-filter is_spoken (numbers_below (suc (greatest (map (λ (m : Literal). m.variable) literals)))) v e
+      let most = greatest_above (map (λ (m : Literal). m.variable) literals) r.0.variable
+      (Contains-map (λ (m : Literal). m.variable) literals r.0 r.1) in
+      Contains-map kept spoken_below v
+      (Contains-filter is_spoken (numbers_below (suc (greatest (map (λ (m : Literal). m.variable) literals)))) v e
       (Contains-numbers (suc (greatest (map (λ (m : Literal). m.variable) literals))) v (omega (arith, same, most))))
 
   not_in_cube : (v : ℕ) → is_spoken v ≡ false → (l : Literal) → Contains cube_of l → l.variable ≢ v
@@ -144,13 +177,18 @@ module _ (k : ℕ) (literals : List Literal) where
 
   unspoken : (v : ℕ) → is_spoken v ≡ false → (m : Literal) → Contains literals m → m.variable ≡ v → ⊥
   unfolding is_spoken
-  unspoken v e m j same = both_ways (list_any (λ (m : Literal). m.variable == v) literals) e (list_any_true (λ (m : Literal). m.variable == v) literals m j (eq-eqb m.variable v same))
+  unspoken v e m j same = both_ways (list_any (λ (m : Literal). m.variable == v) literals) e
+      (list_any_true (λ (m : Literal). m.variable == v) literals m j (eq-eqb m.variable v same))
 
   low_is : (v : ℕ) → low_in cube_of v ≡ kept_low literals v
   unfolding kept
   low_is v = elim (cases_Bool (is_spoken v)) [
     | inl e ↦ (range_of_literal k cube_of (kept v) rising (in_cube v e)).0
-    | inr e ↦ omega (arith, low_in-none cube_of v (not_in_cube v e), kept_low_below literals v 0 (λ m j same. absurd (unspoken v e m j same)))
+    | inr e ↦ omega (
+      arith,
+      low_in-none cube_of v (not_in_cube v e),
+      kept_low_below literals v 0 (λ m j same. absurd (unspoken v e m j same)),
+    )
   ]
 
   high_is : (v : ℕ) → high_in k cube_of v ≡ kept_high k literals v

@@ -1,5 +1,6 @@
 -- If a graph has processes, some process ends when a run finishes.
-use Rattle.std.proofs.Common.{◌≡◌, ◌∙◌, ℕ, zero, suc, ◌<◌, ◌≤◌, Bool, true, List, [], ◌∷◌, flat_map, map, length, get_or, Contains, Option, Some, None, option_to_list, arith, refl, sym, ap, subst}
+use Rattle.std.proofs.Common.{◌≡◌, ◌∙◌, ℕ, zero, suc, ◌<◌, ◌≤◌, Bool, true, List, [], ◌∷◌, flat_map, map, length}
+use Rattle.std.proofs.Common.{get_or, Contains, Option, Some, None, option_to_list, arith, refl, sym, ap, subst}
 use Rattle.std.proofs.Common.{inl, inr}
 use Rattle.std.proofs.lemmas.List.{get_or_default}
 use Rattle.std.proofs.lemmas.Option.{none-some}
@@ -8,7 +9,8 @@ use Rattle.cpg_base.specs.Numbers.{greatest, numbers_below}
 use Rattle.cpg_base.specs.Graph.{Graph, process_count, inputs, source, process_at}
 use Rattle.cpg_base.specs.Activity.{active, activation_by, is_active, live}
 use Rattle.cpg_base.proofs.Inputs.{inputs_parts}
-use Rattle.cpg_base.proofs.Lists.{Contains-first, Contains-rest, Contains-nil, Contains-cases, Contains-flat_map, Contains-flat_map_parts, greatest_above, greatest_in}
+use Rattle.cpg_base.proofs.Lists.{Contains-first, Contains-rest, Contains-nil, Contains-cases, Contains-flat_map}
+use Rattle.cpg_base.proofs.Lists.{Contains-flat_map_parts, greatest_above, greatest_in}
 use Rattle.cpg_order.specs.Urgency.{IsTopological}
 use Rattle.cpg_base.specs.Order.{place}
 use Rattle.cpg_base.specs.Scenario.{Scenario}
@@ -38,19 +40,29 @@ option_of (Some m) n c = elim (Contains-cases m [] n c) [
 ]
 
 -- no end is after the finish
-pub end_below : (g : Graph) (order : List ℕ) (frozen : List (Option ℕ)) (s : Scenario) (t : Times) → IsRun g order frozen s t → (p n : ℕ) → get_or t.ends p None ≡ Some n → n ≤ t.finish
-end_below g order frozen s t run p n e = omega (arith, run.finish, greatest_above (flat_map option_to_list t.ends) n (in_list t.ends p n e))
+pub end_below : (g : Graph) (order : List ℕ) (frozen : List (Option ℕ)) (s : Scenario) (t : Times) →
+    IsRun g order frozen s t → (p n : ℕ) → get_or t.ends p None ≡ Some n → n ≤ t.finish
+end_below g order frozen s t run p n e =
+    omega (arith, run.finish, greatest_above (flat_map option_to_list t.ends) n (in_list t.ends p n e))
 
 module _ (g : Graph) (order : List ℕ) (top : IsTopological g order) where
-  some_active : (o : List Bool) (n p : ℕ) → place order p < n → p < process_count g → (q : ℕ) × (q < process_count g) × (active g o q ≡ true)
+  some_active : (o : List Bool) (n p : ℕ) → place order p < n → p < process_count g →
+      (q : ℕ) × (q < process_count g) × (active g o q ≡ true)
   some_active o zero p m l = absurd (omega arith)
   some_active o (suc n) p m l = go (some_active o n) (inputs g p) refl
     where
-      go : ((q : ℕ) → place order q < n → q < process_count g → (r : ℕ) × (r < process_count g) × (active g o r ≡ true)) →
+      go : ((q : ℕ) → place order q < n → q < process_count g →
+          (r : ℕ) × (r < process_count g) × (active g o r ≡ true)) →
           (es : List ℕ) → inputs g p ≡ es → (q : ℕ) × (q < process_count g) × (active g o q ≡ true)
-      go ih [] e = (p, l, ap is_active (activation_is g order top o p (omega arith) ∙ ap (λ es. activation_by (process_at g p).join es (live g o)) e))
+      go ih [] e = (
+        p,
+        l,
+        ap is_active (activation_is g order top o p (omega arith)
+            ∙ ap (λ es. activation_by (process_at g p).join es (live g o)) e),
+      )
       go ih (f ∷ fs) e = let k : Contains (inputs g p) f = subst (λ es. Contains es f) (sym e) (Contains-first f fs) in
-          ih (source g f) (omega (arith, input_goes_up g order top p f k)) (source_in_order g order top f (inputs_parts g p f k).0)
+          ih (source g f) (omega (arith, input_goes_up g order top p f k))
+          (source_in_order g order top f (inputs_parts g p f k).0)
 
   module _ (frozen : List (Option ℕ)) (s : Scenario) (t : Times) (run : IsRun g order frozen s t) where
     pub finish_is_end : 0 < process_count g → (p : ℕ) × (p < process_count g) × (get_or t.ends p None ≡ Some t.finish)
@@ -58,14 +70,19 @@ module _ (g : Graph) (order : List ℕ) (top : IsTopological g order) where
         let a = some_active s.values (suc (place order 0)) 0 (omega arith) pos in
         let e = has_end g order frozen s t run a.0 a.1 a.2 in
         let there = greatest_there (flat_map option_to_list t.ends) _ (in_list t.ends a.0 _ e) in
-        let r = Contains-flat_map_parts option_to_list t.ends t.finish (subst (Contains (flat_map option_to_list t.ends)) (sym run.finish) there) in
-        let count : length t.ends ≡ process_count g = omega (arith, ap length run.ends, length-map-range_with_len (end_by g s t) 0 (process_count g)) in
+        let r = Contains-flat_map_parts option_to_list t.ends t.finish
+        (subst (Contains (flat_map option_to_list t.ends)) (sym run.finish) there) in
+        let count : length t.ends ≡ process_count g =
+        omega (arith, ap length run.ends, length-map-range_with_len (end_by g s t) 0 (process_count g)) in
         let is : r.0 ≡ Some t.finish = option_of r.0 t.finish r.2 in
         (r.1.0, omega (arith, count, r.1.1), there_is t.ends r.1.0 r.0 t.finish r.1.1 r.1.2 is)
       where
-        there_is : (os : List (Option ℕ)) (i : ℕ) (o : Option ℕ) (n : ℕ) → i < length os → get_or os i o ≡ o → o ≡ Some n → get_or os i None ≡ Some n
+        there_is : (os : List (Option ℕ)) (i : ℕ) (o : Option ℕ) (n : ℕ) → i < length os → get_or os i o ≡ o →
+            o ≡ Some n →
+            get_or os i None ≡ Some n
         there_is os i o n l at e = get_or_default os i None o l ∙ at ∙ e
 
     -- without processes a run finishes at 0
     pub finish_of_none : process_count g ≡ 0 → t.finish ≡ 0
-    finish_of_none zero_count = run.finish ∙ ap (λ es. greatest (flat_map option_to_list es)) (run.ends ∙ ap (λ n. map (end_by g s t) (numbers_below n)) zero_count)
+    finish_of_none zero_count = run.finish ∙ ap (λ es. greatest (flat_map option_to_list es))
+        (run.ends ∙ ap (λ n. map (end_by g s t) (numbers_below n)) zero_count)

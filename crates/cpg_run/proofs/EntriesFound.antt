@@ -1,5 +1,6 @@
 -- How the entries of an item are found: scenario after scenario, each passed over or taken.
-use Rattle.std.proofs.Common.{ℕ, ◌<◌, ◌≡◌, ◌≢◌, false, List, [], ◌∷◌, ◌++◌, length, map, take, get_or, Contains, AllPairs, Option, arith, sym, ap, ◌∙◌, subst, inl, inr, length-take}
+use Rattle.std.proofs.Common.{ℕ, ◌<◌, ◌≡◌, ◌≢◌, false, List, [], ◌∷◌, ◌++◌, length, map, take, get_or, Contains}
+use Rattle.std.proofs.Common.{AllPairs, Option, arith, sym, ap, ◌∙◌, subst, inl, inr, length-take}
 use Rattle.std.proofs.lemmas.Bool.{both_ways}
 use Rattle.std.proofs.lemmas.List.{get_or-take, get_or_default}
 use Rattle.std.proofs.lemmas.List.Elements.{Contains-append_cases, Contains-append_left, Contains-append_right}
@@ -17,12 +18,14 @@ use Rattle.cpg_run.proofs.CubesOf.{same_least}
 use Rattle.cpg_run.proofs.SameInRows.{only_one}
 
 -- no element of a list without repeats stands before its place
-pub not_before_place : {X : Type 0} (xs : List X) (i : ℕ) (d : X) → AllPairs (λ x y. x ≢ y) xs → i < length xs → Contains (take i xs) (get_or xs i d) → ⊥
+pub not_before_place : {X : Type 0} (xs : List X) (i : ℕ) (d : X) → AllPairs (λ x y. x ≢ y) xs → i < length xs →
+    Contains (take i xs) (get_or xs i d) → ⊥
 not_before_place {X} xs i d apart l j =
     let x : X = get_or xs i d in
     let long = length-take i xs in
     let below : j.0 < i = omega (arith, j.1, long) in
-    apart j.0 i d below l (get_or_default xs j.0 d x (omega (arith, below, l)) ∙ sym (get_or-take i xs j.0 x below) ∙ j.2)
+    apart j.0 i d below l
+    (get_or_default xs j.0 d x (omega (arith, below, l)) ∙ sym (get_or-take i xs j.0 x below) ∙ j.2)
 
 module _ (g : Graph) (order : List ℕ) (frozen : List (Option ℕ)) (rows : List (List Column)) (x : ℕ) where
   -- the entries of the scenarios so far
@@ -30,7 +33,8 @@ module _ (g : Graph) (order : List ℕ) (frozen : List (Option ℕ)) (rows : Lis
     pub each : (e : Column) → Contains entries e → IsEntryIn g order frozen rows x (lows g e.cube) e
     pub among : (e : Column) → Contains entries e → Contains done (lows g e.cube)
     pub apart : AllPairs (λ d e. lows g d.cube ≢ lows g e.cube) entries
-    pub all : (s : Scenario) (e : Column) → Contains done s → IsEntryIn g order frozen rows x s e → lows g e.cube ≡ s → Contains (map (λ d. lows g d.cube) entries) s
+    pub all : (s : Scenario) (e : Column) → Contains done s → IsEntryIn g order frozen rows x s e → lows g e.cube ≡ s →
+        Contains (map (λ d. lows g d.cube) entries) s
 
   pub none_yet : AreEntriesAmong [] []
   none_yet = record {
@@ -42,14 +46,16 @@ module _ (g : Graph) (order : List ℕ) (frozen : List (Option ℕ)) (rows : Lis
 
   module _ (done : List Scenario) (entries : List Column) (so_far : AreEntriesAmong done entries) (s : Scenario) where
     -- one that is the least of no cube of its own
-    pass_over : ((e : Column) → IsEntryIn g order frozen rows x s e → lows g e.cube ≡ s → ⊥) → AreEntriesAmong (done ++ s ∷ []) entries
+    pass_over : ((e : Column) → IsEntryIn g order frozen rows x s e → lows g e.cube ≡ s → ⊥) →
+        AreEntriesAmong (done ++ s ∷ []) entries
     pass_over never = record {
       each = so_far.each;
       among = λ e j. Contains-append_left done (s ∷ []) (lows g e.cube) (so_far.among e j);
       apart = so_far.apart;
       all = λ u e j is least. elim (Contains-append_cases done (s ∷ []) u j) [
         | inl i ↦ so_far.all u e i is least
-        | inr i ↦ let same = only_one s u i in absurd (never e (subst (λ v. IsEntryIn g order frozen rows x v e) (sym same) is) (least ∙ sym same))
+        | inr i ↦ let same = only_one s u i in
+            absurd (never e (subst (λ v. IsEntryIn g order frozen rows x v e) (sym same) is) (least ∙ sym same))
       ];
     }
 
@@ -58,36 +64,48 @@ module _ (g : Graph) (order : List ℕ) (frozen : List (Option ℕ)) (rows : Lis
     passed_inactive off = pass_over (λ e is least. both_ways _ off is.active)
 
     -- a scenario that isn't the least of its cube has no entry
-    pub passed_other : (cube : List Literal) → IsCubeOf g.faults (carried g order rows s x) cube → lows g cube ≢ s → AreEntriesAmong (done ++ s ∷ []) entries
-    passed_other cube is other = pass_over (λ e entry least. other (same_least g (carried g order rows s x) cube e.cube is entry.cube ∙ least))
+    pub passed_other : (cube : List Literal) → IsCubeOf g.faults (carried g order rows s x) cube → lows g cube ≢ s →
+        AreEntriesAmong (done ++ s ∷ []) entries
+    passed_other cube is other =
+        pass_over (λ e entry least. other (same_least g (carried g order rows s x) cube e.cube is entry.cube ∙ least))
 
     -- one that is has this entry
-    pub taken : (e : Column) → IsEntryIn g order frozen rows x s e → lows g e.cube ≡ s → (Contains done s → ⊥) → AreEntriesAmong (done ++ s ∷ []) (entries ++ e ∷ [])
+    pub taken : (e : Column) → IsEntryIn g order frozen rows x s e → lows g e.cube ≡ s → (Contains done s → ⊥) →
+        AreEntriesAmong (done ++ s ∷ []) (entries ++ e ∷ [])
     taken e is least new = record {
       each = λ d j. elim (Contains-append_cases entries (e ∷ []) d j) [
         | inl i ↦ so_far.each d i
-        | inr i ↦ subst (λ d. IsEntryIn g order frozen rows x (lows g d.cube) d) (only_one e d i) (subst (λ u. IsEntryIn g order frozen rows x u e) (sym least) is)
+        | inr i ↦ subst (λ d. IsEntryIn g order frozen rows x (lows g d.cube) d) (only_one e d i)
+            (subst (λ u. IsEntryIn g order frozen rows x u e) (sym least) is)
       ];
       among = λ d j. elim (Contains-append_cases entries (e ∷ []) d j) [
         | inl i ↦ Contains-append_left done (s ∷ []) (lows g d.cube) (so_far.among d i)
-        | inr i ↦ subst (λ d. Contains (done ++ s ∷ []) (lows g d.cube)) (only_one e d i) (subst (Contains (done ++ s ∷ [])) (sym least) (Contains-append_right done (s ∷ []) s (Contains-first s [])))
+        | inr i ↦
+            subst (λ d. Contains (done ++ s ∷ []) (lows g d.cube)) (only_one e d i) (subst (Contains (done ++ s ∷ []))
+            (sym least) (Contains-append_right done (s ∷ []) s (Contains-first s [])))
       ];
       apart = AllPairs-append (λ (d e : Column). lows g d.cube ≢ lows g e.cube) entries (e ∷ []) so_far.apart
-          (AllPairs-cons_by (λ (d e : Column). lows g d.cube ≢ lows g e.cube) e [] (λ y j. absurd (Contains-nil y j)) (AllPairs-nil (λ (d e : Column). lows g d.cube ≢ lows g e.cube)))
-          (λ d f i j same. new (subst (Contains done) (same ∙ ap (λ (c : Column). lows g c.cube) (sym (only_one e f j)) ∙ least) (so_far.among d i)));
+          (AllPairs-cons_by (λ (d e : Column). lows g d.cube ≢ lows g e.cube) e [] (λ y j. absurd (Contains-nil y j))
+          (AllPairs-nil (λ (d e : Column). lows g d.cube ≢ lows g e.cube)))
+          (λ d f i j same. new (subst (Contains done)
+          (same ∙ ap (λ (c : Column). lows g c.cube) (sym (only_one e f j)) ∙ least) (so_far.among d i)));
       all = λ u d j entry lowest. elim (Contains-append_cases done (s ∷ []) u j) [
         | inl i ↦
             let r = Contains-map_parts (λ (c : Column). lows g c.cube) entries u (so_far.all u d i entry lowest) in
             subst (Contains (map (λ (c : Column). lows g c.cube) (entries ++ e ∷ []))) r.2
-            (Contains-map (λ (c : Column). lows g c.cube) (entries ++ e ∷ []) r.0 (Contains-append_left entries (e ∷ []) r.0 r.1))
+            (Contains-map (λ (c : Column). lows g c.cube) (entries ++ e ∷ []) r.0
+            (Contains-append_left entries (e ∷ []) r.0 r.1))
         | inr i ↦
             subst (Contains (map (λ (c : Column). lows g c.cube) (entries ++ e ∷ []))) (least ∙ only_one s u i)
-            (Contains-map (λ (c : Column). lows g c.cube) (entries ++ e ∷ []) e (Contains-append_right entries (e ∷ []) e (Contains-first e [])))
+            (Contains-map (λ (c : Column). lows g c.cube) (entries ++ e ∷ []) e
+            (Contains-append_right entries (e ∷ []) e (Contains-first e [])))
       ];
     }
 
   -- once every scenario is done these are the entries
-  pub all_found : (done : List Scenario) (entries : List Column) → AreEntriesAmong done entries → ((s : Scenario) → IsScenario g s → Contains done s) → AreEntriesOf g order frozen rows x entries
+  pub all_found : (done : List Scenario) (entries : List Column) → AreEntriesAmong done entries →
+      ((s : Scenario) → IsScenario g s → Contains done s) →
+      AreEntriesOf g order frozen rows x entries
   all_found done entries so_far every = record {
     each = so_far.each;
     apart = so_far.apart;

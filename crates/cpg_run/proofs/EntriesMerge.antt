@@ -1,5 +1,6 @@
 -- Entries have the times of the runs, and no two match one scenario, so they can be merged.
-use Rattle.std.proofs.Common.{ℕ, ◌<◌, ◌≤◌, ◌≡◌, ◌≢◌, Bool, true, List, [], ◌∷◌, length, map, filter, get_or, Contains, All, AllPairs, Option, Some, None, option_to_list, arith, refl, sym, ap, ◌∙◌}
+use Rattle.std.proofs.Common.{ℕ, ◌<◌, ◌≤◌, ◌≡◌, ◌≢◌, Bool, true, List, [], ◌∷◌, length, map, filter, get_or, Contains}
+use Rattle.std.proofs.Common.{All, AllPairs, Option, Some, None, option_to_list, arith, refl, sym, ap, ◌∙◌}
 use Rattle.std.proofs.Common.{subst, inl, inr}
 use Rattle.std.proofs.lemmas.Bool.{cases_Bool, cond-false, both_ways, false_from_ne_true}
 use Rattle.std.proofs.lemmas.List.{length-map}
@@ -7,7 +8,8 @@ use Rattle.std.proofs.lemmas.List.Elements.{Contains-get_or}
 use Rattle.std.proofs.lemmas.List.Kept.{AllPairs-filter}
 use Rattle.cpg_base.specs.Graph.{Graph, process_count, item_count, item_at, IsVariable}
 use Rattle.cpg_base.specs.Activity.{item_active}
-use Rattle.cpg_base.proofs.Lists.{Contains-first, Contains-rest, Contains-cases, Contains-nil, Contains-map, Contains-map_parts, Contains-filter, Contains-filter_parts, filter_none}
+use Rattle.cpg_base.proofs.Lists.{Contains-first, Contains-rest, Contains-cases, Contains-nil, Contains-map}
+use Rattle.cpg_base.proofs.Lists.{Contains-map_parts, Contains-filter, Contains-filter_parts, filter_none}
 use Rattle.cpg_base.specs.Scenario.{Scenario, IsScenario}
 use Rattle.cpg_cube.specs.declared.literal.Literal.{Literal}
 use Rattle.cpg_cube.specs.Cube.{matches}
@@ -34,7 +36,8 @@ every P xs h k d l = h (get_or xs k d) (Contains-get_or xs k d l)
 
 -- at most one element passes of a list of which no two pass
 module _ {X : Type 0} (R : X → X → Type 0) (p : X → Bool) where
-  two_at_most : (xs ys : List X) → ((y : X) → Contains ys y → Contains xs y × (p y ≡ true)) → AllPairs R ys → ((x y : X) → Contains xs x → Contains xs y → p x ≡ true → p y ≡ true → R x y → ⊥) →
+  two_at_most : (xs ys : List X) → ((y : X) → Contains ys y → Contains xs y × (p y ≡ true)) → AllPairs R ys →
+      ((x y : X) → Contains xs x → Contains xs y → p x ≡ true → p y ≡ true → R x y → ⊥) →
       length ys ≤ 1
   two_at_most xs [] from pairs never = omega arith
   two_at_most xs (y ∷ []) from pairs never = omega arith
@@ -43,31 +46,39 @@ module _ {X : Type 0} (R : X → X → Type 0) (p : X → Bool) where
       let b = from z (Contains-rest y (z ∷ ys) z (Contains-first z ys)) in
       absurd (never y z a.0 b.0 a.1 b.1 (pairs 0 1 y (omega arith) (omega arith)))
 
-  pub one_passes : (xs : List X) → AllPairs R xs → ((x y : X) → Contains xs x → Contains xs y → p x ≡ true → p y ≡ true → R x y → ⊥) → length (filter p xs) ≤ 1
-  one_passes xs pairs never = two_at_most xs (filter p xs) (λ y j. Contains-filter_parts p xs y j) (AllPairs-filter R p xs pairs) never
+  pub one_passes : (xs : List X) → AllPairs R xs →
+      ((x y : X) → Contains xs x → Contains xs y → p x ≡ true → p y ≡ true → R x y → ⊥) →
+      length (filter p xs) ≤ 1
+  one_passes xs pairs never =
+      two_at_most xs (filter p xs) (λ y j. Contains-filter_parts p xs y j) (AllPairs-filter R p xs pairs) never
 
 pub the_one : {X : Type 0} (xs : List X) (x : X) → length xs ≤ 1 → Contains xs x → xs ≡ x ∷ []
 the_one [] x l j = absurd (Contains-nil x j)
-the_one (y ∷ []) x l j = elim (Contains-cases y [] x j) [ inl e ↦ ap (λ z. z ∷ []) e | inr none ↦ absurd (Contains-nil x none) ]
+the_one (y ∷ []) x l j =
+    elim (Contains-cases y [] x j) [ inl e ↦ ap (λ z. z ∷ []) e | inr none ↦ absurd (Contains-nil x none) ]
 the_one (y ∷ z ∷ xs) x l j = absurd (omega arith)
 
 -- ---- the cube of what is carried in a scenario
 
-module _ (g : Graph) (urgency order : List ℕ) (frozen : List (Option ℕ)) (rows : List (List Column)) (x : ℕ) (timed : IsTimed g urgency order frozen) (l : x < item_count g)
+module _ (g : Graph) (urgency order : List ℕ) (frozen : List (Option ℕ)) (rows : List (List Column)) (x : ℕ)
+    (timed : IsTimed g urgency order frozen) (l : x < item_count g)
     (earlier : AreRowsFor g order frozen x rows) where
   few : process_count g ≤ 128
   few = timed.admitted.formed.few_processes
 
-  holds_here : (s : Scenario) → item_active g s.values (item_at g x) ≡ true → matches (carried g order rows s x) s ≡ true
+  holds_here : (s : Scenario) → item_active g s.values (item_at g x) ≡ true →
+      matches (carried g order rows s x) s ≡ true
   holds_here s on = carried_holds g order rows s timed.admitted.topological few x l on
 
-  module _ (s : Scenario) (law : IsScenario g s) (on : item_active g s.values (item_at g x) ≡ true) (cube : List Literal) (is : IsCubeOf g.faults (carried g order rows s x) cube) where
+  module _ (s : Scenario) (law : IsScenario g s) (on : item_active g s.values (item_at g x) ≡ true)
+      (cube : List Literal) (is : IsCubeOf g.faults (carried g order rows s x) cube) where
     -- it is a cube of the graph, which matches the scenario
     pub cube_known : IsCube g cube
     cube_known = record {
       rising = is.rising;
       known = every (λ (m : Literal). IsVariable g m.variable) cube (λ m j. let r = is.spoken m j in
-          subst (IsVariable g) r.2 (carried_known g order rows s timed.admitted.topological few x l earlier.cubes on r.0 r.1));
+          subst (IsVariable g) r.2
+          (carried_known g order rows s timed.admitted.topological few x l earlier.cubes on r.0 r.1));
     }
 
     pub cube_own : matches cube s ≡ true
@@ -78,14 +89,17 @@ module _ (g : Graph) (urgency order : List ℕ) (frozen : List (Option ℕ)) (ro
 
     -- in each scenario that it matches the item is the same
     pub cube_same : (u : Scenario) → IsScenario g u → matches cube u ≡ true → IsSameIn g order frozen rows x s u
-    cube_same u lu h = carried_decides g urgency order frozen rows s u x timed l earlier law lu on (literals_hold g few (carried g order rows s x) cube is u lu h)
+    cube_same u lu h = carried_decides g urgency order frozen rows s u x timed l earlier law lu on
+        (literals_hold g few (carried g order rows s x) cube is u lu h)
 
     -- a cube is that of what is carried in each scenario that it matches
-    pub cube_there_too : (u : Scenario) → IsScenario g u → matches cube u ≡ true → IsCubeOf g.faults (carried g order rows u x) cube
+    pub cube_there_too : (u : Scenario) → IsScenario g u → matches cube u ≡ true →
+        IsCubeOf g.faults (carried g order rows u x) cube
     cube_there_too u lu h = subst (λ ls. IsCubeOf g.faults ls cube) (sym (cube_same u lu h).carried) is
 
     -- the entry of a cube is that of its least scenario
-    pub entry_of_least : (time : ℕ) → ((t : Times) → IsRun g order frozen s t → get_or t.times x None ≡ Some time) → IsEntryIn g order frozen rows x (lows g cube) (record { time = time; cube = cube })
+    pub entry_of_least : (time : ℕ) → ((t : Times) → IsRun g order frozen s t → get_or t.times x None ≡ Some time) →
+        IsEntryIn g order frozen rows x (lows g cube) (record { time = time; cube = cube })
     entry_of_least time here =
         let lawful = lows-lawful g few cube cube_known cube_met in
         let match = lows-match g few cube cube_known cube_met in
@@ -108,50 +122,72 @@ module _ (g : Graph) (urgency order : List ℕ) (frozen : List (Option ℕ)) (ro
       entry_own : matches e.cube (lows g e.cube) ≡ true
       entry_own = let a = are.each e j in cube_own (lows g e.cube) a.lawful a.active e.cube a.cube
 
-      entry_same : (u : Scenario) → IsScenario g u → matches e.cube u ≡ true → IsSameIn g order frozen rows x (lows g e.cube) u
+      entry_same : (u : Scenario) → IsScenario g u → matches e.cube u ≡ true →
+          IsSameIn g order frozen rows x (lows g e.cube) u
       entry_same = let a = are.each e j in cube_same (lows g e.cube) a.lawful a.active e.cube a.cube
 
       -- an entry that matches has the time of the run
-      pub entry_time : (u : Scenario) (w : Times) → IsScenario g u → IsRun g order frozen u w → matches e.cube u ≡ true → get_or w.times x None ≡ Some e.time
+      pub entry_time : (u : Scenario) (w : Times) → IsScenario g u → IsRun g order frozen u w →
+          matches e.cube u ≡ true →
+          get_or w.times x None ≡ Some e.time
       entry_time u w lu other h =
           let r = a_run g order frozen (lows g e.cube) timed.admitted.topological in
           sym ((entry_same u lu h).time r.0 w r.1 other) ∙ (are.each e j).time r.0 r.1
 
-      pub entry_cube : (u : Scenario) → IsScenario g u → matches e.cube u ≡ true → IsCubeOf g.faults (carried g order rows u x) e.cube
+      pub entry_cube : (u : Scenario) → IsScenario g u → matches e.cube u ≡ true →
+          IsCubeOf g.faults (carried g order rows u x) e.cube
       entry_cube = let a = are.each e j in cube_there_too (lows g e.cube) a.lawful a.active e.cube a.cube
 
     -- no two match
     matches_once : (u : Scenario) → IsScenario g u → length (filter (λ (c : Column). matches c.cube u) entries) ≤ 1
-    matches_once u lu = one_passes (λ (d e : Column). lows g d.cube ≢ lows g e.cube) (λ (c : Column). matches c.cube u) entries are.apart
-        (λ d e i j h k ne. ne (same_least g (carried g order rows u x) d.cube e.cube (entry_cube d i u lu h) (entry_cube e j u lu k)))
+    matches_once u lu = one_passes (λ (d e : Column). lows g d.cube ≢ lows g e.cube)
+        (λ (c : Column). matches c.cube u) entries are.apart
+        (λ d e i j h k ne.
+        ne (same_least g (carried g order rows u x) d.cube e.cube (entry_cube d i u lu h) (entry_cube e j u lu k)))
 
     -- one does if the item is active
-    a_match : (u : Scenario) (w : Times) → IsScenario g u → IsRun g order frozen u w → item_active g u.values (item_at g x) ≡ true → (e : Column) × Contains entries e × (matches e.cube u ≡ true)
+    a_match : (u : Scenario) (w : Times) → IsScenario g u → IsRun g order frozen u w →
+        item_active g u.values (item_at g x) ≡ true →
+        (e : Column) × Contains entries e × (matches e.cube u ≡ true)
     a_match u w lu other on =
         let cube : List Literal = cube_of g.faults (carried g order rows u x) in
         let is = cube_there g.faults (carried g order rows u x) in
         let least : Scenario = lows g cube in
         let known = cube_known u lu on cube is in
         let met = cube_met u lu on cube is in
-        let same = cube_same u lu on cube is least (lows-lawful g few cube known met) (lows-match g few cube known met) in
+        let same =
+        cube_same u lu on cube is least (lows-lawful g few cube known met) (lows-match g few cube known met) in
         let entry = entry_of_least u lu on cube is (time_in w x) (λ t run. one_time t run) in
-        let r = Contains-map_parts (λ (d : Column). lows g d.cube) entries least (are.all least (record { time = time_in w x; cube = cube }) entry refl) in
-        let there = subst (λ v. IsCubeOf g.faults (carried g order rows v x) r.0.cube) r.2 (are.each r.0 r.1).cube in
-        (r.0, r.1, cube_matches g few (carried g order rows u x) r.0.cube (subst (λ ls. IsCubeOf g.faults ls r.0.cube) same.carried there) u lu (holds_here u on))
+        let r = Contains-map_parts (λ (d : Column). lows g d.cube) entries least
+        (are.all least (record { time = time_in w x; cube = cube }) entry refl) in
+        let there = subst (λ v. IsCubeOf g.faults (carried g order rows v x) r.0.cube) r.2 (are.each r.0 r.1).cube in (
+          r.0,
+          r.1,
+          cube_matches g few (carried g order rows u x) r.0.cube
+              (subst (λ ls. IsCubeOf g.faults ls r.0.cube) same.carried there) u lu (holds_here u on),
+        )
       where
         one_time : (t : Times) → IsRun g order frozen u t → get_or t.times x None ≡ Some (time_in w x)
-        one_time t run = subst (λ v. get_or v.times x None ≡ Some (time_in w x)) (run_unique g order timed.admitted.topological frozen u w t other run) (has_time g order frozen u w other x l on)
+        one_time t run = subst (λ v. get_or v.times x None ≡ Some (time_in w x))
+            (run_unique g order timed.admitted.topological frozen u w t other run)
+            (has_time g order frozen u w other x l on)
 
     pub entries_times : HaveTimesOf g order frozen x entries
     entries_times u w lu other = elim (cases_Bool (item_active g u.values (item_at g x))) [
       | inl on ↦
           let m = a_match u w lu other on in
-          the_one (times_in entries u) m.0.time (omega (arith, length-map (filter (λ (c : Column). matches c.cube u) entries) (λ (c : Column). c.time), matches_once u lu))
-          (Contains-map (λ (c : Column). c.time) (filter (λ (c : Column). matches c.cube u) entries) m.0 (Contains-filter (λ (c : Column). matches c.cube u) entries m.0 m.2 m.1))
+          the_one (times_in entries u) m.0.time (omega (
+            arith,
+            length-map (filter (λ (c : Column). matches c.cube u) entries) (λ (c : Column). c.time),
+            matches_once u lu,
+          ))
+          (Contains-map (λ (c : Column). c.time) (filter (λ (c : Column). matches c.cube u) entries) m.0
+          (Contains-filter (λ (c : Column). matches c.cube u) entries m.0 m.2 m.1))
           ∙ sym (ap option_to_list (entry_time m.0 m.1 u w lu other m.2))
       | inr off ↦
           ap (map (λ (c : Column). c.time)) (filter_none (λ (c : Column). matches c.cube u) entries
-          (λ e j. false_from_ne_true (matches e.cube u) (λ h. both_ways (item_active g u.values (item_at g x)) off (entry_same e j u lu h).active)))
+          (λ e j. false_from_ne_true (matches e.cube u)
+          (λ h. both_ways (item_active g u.values (item_at g x)) off (entry_same e j u lu h).active)))
           ∙ sym (ap option_to_list (time_is g order frozen u w other x l ∙ cond-false _ _ _ off))
     ]
 
@@ -159,9 +195,15 @@ module _ (g : Graph) (urgency order : List ℕ) (frozen : List (Option ℕ)) (ro
     entries_mergeable = record {
       cubes = every (λ (c : Column). IsCube g c.cube) entries entry_known;
       within = every (λ (c : Column). All (λ (m : Literal). m.high ≤ top g.faults m.variable) c.cube) entries
-          (λ e j. every (λ (m : Literal). m.high ≤ top g.faults m.variable) e.cube (λ m i. cube_within g.faults (carried g order rows (lows g e.cube) x) e.cube (are.each e j).cube m i));
-      met = every (λ (c : Column). (s : Scenario) × IsScenario g s × (matches c.cube s ≡ true)) entries (λ e j. (lows g e.cube, (are.each e j).lawful, entry_own e j));
-      apart = λ s law. omega (arith, length-map (filter (λ (c : Column). matches c.cube s) entries) (λ (c : Column). c.time), matches_once s law);
+          (λ e j. every (λ (m : Literal). m.high ≤ top g.faults m.variable) e.cube
+          (λ m i. cube_within g.faults (carried g order rows (lows g e.cube) x) e.cube (are.each e j).cube m i));
+      met = every (λ (c : Column). (s : Scenario) × IsScenario g s × (matches c.cube s ≡ true)) entries
+          (λ e j. (lows g e.cube, (are.each e j).lawful, entry_own e j));
+      apart = λ s law. omega (
+        arith,
+        length-map (filter (λ (c : Column). matches c.cube s) entries) (λ (c : Column). c.time),
+        matches_once s law,
+      );
     }
 
 pub entries_have_times : EntriesHaveTimes

@@ -1,28 +1,36 @@
 -- Along a topological order the frozen items rise in moment, and there are no others.
-use Rattle.std.proofs.Common.{◌≡◌, ◌∙◌, ℕ, zero, suc, ◌+◌, ◌*◌, ◌<◌, true, List, [], ◌∷◌, filter, length, get_or, Contains, arith, refl, sym, ap, subst, inl, inr}
+use Rattle.std.proofs.Common.{◌≡◌, ◌∙◌, ℕ, zero, suc, ◌+◌, ◌*◌, ◌<◌, true, List, [], ◌∷◌, filter, length, get_or}
+use Rattle.std.proofs.Common.{Contains, arith, refl, sym, ap, subst, inl, inr}
 use Rattle.std.proofs.lemmas.Bool.{and_parts, true≢false}
 use Rattle.std.proofs.lemmas.List.Elements.{Contains-get_or}
-use Rattle.cpg_base.specs.Graph.{Graph, process_count, item_count, item_at, producer, producer_of_item, is_sent, is_sent_item, is_frozen, is_frozen_item}
+use Rattle.cpg_base.specs.Graph.{Graph, process_count, item_count, item_at, producer, producer_of_item, is_sent}
+use Rattle.cpg_base.specs.Graph.{is_sent_item, is_frozen, is_frozen_item}
 use Rattle.cpg_base.proofs.Items.{item_cases, ItemCases, item_at-start}
-use Rattle.cpg_base.proofs.Lists.{Contains-first, Contains-rest, Contains-cases, Contains-filter, Contains-filter_parts, Contains-flat_map, Contains-flat_map_parts}
+use Rattle.cpg_base.proofs.Lists.{Contains-first, Contains-rest, Contains-cases, Contains-filter, Contains-filter_parts}
+use Rattle.cpg_base.proofs.Lists.{Contains-flat_map, Contains-flat_map_parts}
 use Rattle.cpg_base.proofs.Ordered.{Rises, Rises-all_pairs, Rises-filter, Rises-flat_map, Rises-weaker}
 use Rattle.cpg_base.proofs.Pairs.{order_apart}
 use Rattle.cpg_base.specs.Order.{IsOrder, place}
 use Rattle.cpg_order.specs.Urgency.{IsTopological}
-use Rattle.cpg_order.proofs.Moments.{moment, phase, phases, phase_below, phase_is_rank, moment_of_start, producer_in_range, sooner}
+use Rattle.cpg_order.proofs.Moments.{moment, phase, phases, phase_below, phase_is_rank, moment_of_start}
+use Rattle.cpg_order.proofs.Moments.{producer_in_range, sooner}
 use Rattle.cpg_base.proofs.Places.{Contains-order, from_order, places_rise}
 use Rattle.cpg_bus.specs.Plan.{queue_of}
 use Rattle.cpg_bus.proofs.Queued.{rank_at, in_queue, queue-Contains, queue_rises}
 use Rattle.cpg_run.specs.FrozenItems.{frozen_items_of, frozen_along}
 
 -- a process of an order is one of the graph
-pub within_order : (g : Graph) (order processes : List ℕ) (i : ℕ) → processes ≡ order → IsOrder order → length order ≡ process_count g → i < length processes → get_or processes i 0 < process_count g
+pub within_order : (g : Graph) (order processes : List ℕ) (i : ℕ) → processes ≡ order → IsOrder order →
+    length order ≡ process_count g → i < length processes →
+    get_or processes i 0 < process_count g
 within_order g order processes i is o count l =
     let p = get_or processes i 0 in
-    subst (λ n. p < n) count (from_order (length order) order o.all p (subst (λ ps. Contains ps p) is (Contains-get_or processes i 0 l)))
+    subst (λ n. p < n) count
+    (from_order (length order) order o.all p (subst (λ ps. Contains ps p) is (Contains-get_or processes i 0 l)))
 
 -- what rises does so at any two places
-rises_at : {X : Type 0} (R : X → X → Type 0) (xs : List X) → Rises R xs → (i j : ℕ) (d : X) → i < j → j < length xs → R (get_or xs i d) (get_or xs j d)
+rises_at : {X : Type 0} (R : X → X → Type 0) (xs : List X) → Rises R xs → (i j : ℕ) (d : X) → i < j → j < length xs →
+    R (get_or xs i d) (get_or xs j d)
 rises_at R [] h i j d l m = absurd (omega arith)
 rises_at R (x ∷ xs) h zero zero d l m = absurd (omega arith)
 rises_at R (x ∷ xs) h zero (suc j) d l m = h.0 (get_or xs j d) (Contains-get_or xs j d (omega arith))
@@ -40,37 +48,51 @@ module _ (g : Graph) (order : List ℕ) (topological : IsTopological g order) wh
 
   made_by : (p x : ℕ) → p < process_count g → Contains (p ∷ queue_of g p) x → IsMadeBy p x
   made_by p x h c = elim (Contains-cases p (queue_of g p) x c) [
-    | inl e ↦ subst (IsMadeBy p) e (record { within = omega (arith, h); by = ap (producer_of_item g) (item_at-start g p h) })
+    | inl e ↦
+        subst (IsMadeBy p) e (record { within = omega (arith, h); by = ap (producer_of_item g) (item_at-start g p h) })
     | inr k ↦ let q = in_queue g p x k in record { within = q.within; by = q.by }
   ]
 
   -- what a process sends goes by rank
-  moment_of_sent : (p x : ℕ) → Contains (queue_of g p) x → moment g order x ≡ place order p * phases g + (rank_at g x + 2)
+  moment_of_sent : (p x : ℕ) → Contains (queue_of g p) x →
+      moment g order x ≡ place order p * phases g + (rank_at g x + 2)
   moment_of_sent p x c =
       let q = in_queue g p x c in
-      ap (λ r. place order r * phases g + phase (item_at g x)) q.by ∙ ap (λ n. place order p * phases g + n) (phase_is_rank g (item_at g x) q.sent)
+      ap (λ r. place order r * phases g + phase (item_at g x)) q.by
+      ∙ ap (λ n. place order p * phases g + n) (phase_is_rank g (item_at g x) q.sent)
 
   items_rise : (p : ℕ) → p < process_count g → Rises Sooner (frozen_items_of g p)
   items_rise p h = Rises-filter Sooner (is_frozen g) (p ∷ queue_of g p) (
     λ x c. omega (arith, moment_of_start g order topological p h, moment_of_sent p x c),
-    Rises-weaker (λ a b. rank_at g a < rank_at g b) Sooner (queue_of g p) (λ a b k m l. omega (arith, l, moment_of_sent p a k, moment_of_sent p b m)) (queue_rises g p),
+    Rises-weaker (λ a b. rank_at g a < rank_at g b) Sooner (queue_of g p)
+        (λ a b k m l. omega (arith, l, moment_of_sent p a k, moment_of_sent p b m)) (queue_rises g p),
   )
 
   listed : (p x : ℕ) → Contains order p → Contains (frozen_items_of g p) x → IsMadeBy p x
-  listed p x k c = made_by p x (from_order (process_count g) order topological.all p k) (Contains-filter_parts (is_frozen g) (p ∷ queue_of g p) x c).0
+  listed p x k c = made_by p x (from_order (process_count g) order topological.all p k)
+      (Contains-filter_parts (is_frozen g) (p ∷ queue_of g p) x c).0
 
   all_rise : Rises Sooner (frozen_along g order)
-  all_rise = Rises-flat_map Sooner (frozen_items_of g) order (λ p c. items_rise p (from_order (process_count g) order topological.all p c))
-      (Rises-weaker (λ p q. place order p < place order q) (λ p q. (x y : ℕ) → Contains (frozen_items_of g p) x → Contains (frozen_items_of g q) y → Sooner x y) order
+  all_rise = Rises-flat_map Sooner (frozen_items_of g) order
+      (λ p c. items_rise p (from_order (process_count g) order topological.all p c))
+      (Rises-weaker (λ p q. place order p < place order q)
+      (λ p q. (x y : ℕ) → Contains (frozen_items_of g p) x → Contains (frozen_items_of g q) y → Sooner x y) order
       (λ p q k m l x y c d.
       let a = listed p x k c in
       let b = listed q y m d in
-      let before : place order (producer g x) < place order (producer g y) = omega (arith, l, ap (place order) a.by, ap (place order) b.by) in
-      omega (arith, sooner (place order (producer g x)) (place order (producer g y)) (phase (item_at g x)) (phases g) before (phase_below g x a.within)))
-      (Rises-all_pairs (λ p q. place order p < place order q) order (places_rise order (order_apart (process_count g) order topological.all))))
+      let before : place order (producer g x) < place order (producer g y) =
+      omega (arith, l, ap (place order) a.by, ap (place order) b.by) in
+      omega (
+        arith,
+        sooner (place order (producer g x)) (place order (producer g y)) (phase (item_at g x)) (phases g) before
+            (phase_below g x a.within),
+      ))
+      (Rises-all_pairs (λ p q. place order p < place order q) order
+      (places_rise order (order_apart (process_count g) order topological.all))))
 
   -- a later one has a later moment
-  pub later_moment : (items : List ℕ) → items ≡ frozen_along g order → (i j : ℕ) → i < j → j < length items → moment g order (get_or items i 0) < moment g order (get_or items j 0)
+  pub later_moment : (items : List ℕ) → items ≡ frozen_along g order → (i j : ℕ) → i < j → j < length items →
+      moment g order (get_or items i 0) < moment g order (get_or items j 0)
   later_moment items is i j l m = rises_at Sooner items (subst (Rises Sooner) (sym is) all_rise) i j 0 l m
 
   pub frozen_listed : (x : ℕ) → Contains (frozen_along g order) x → (x < item_count g) × (is_frozen g x ≡ true)
@@ -79,14 +101,18 @@ module _ (g : Graph) (order : List ℕ) (topological : IsTopological g order) wh
       ((listed r.0 x r.1 r.2).within, (Contains-filter_parts (is_frozen g) (r.0 ∷ queue_of g r.0) x r.2).1)
 
   -- a frozen item is the start or a message of its process
-  among : (x : ℕ) → x < item_count g → is_frozen g x ≡ true → ItemCases g x → Contains (producer g x ∷ queue_of g (producer g x)) x
-  among x h f (inl c) = subst (λ p. Contains (p ∷ queue_of g (producer g x)) x) (sym (ap (producer_of_item g) c.1)) (Contains-first x (queue_of g (producer g x)))
+  among : (x : ℕ) → x < item_count g → is_frozen g x ≡ true → ItemCases g x →
+      Contains (producer g x ∷ queue_of g (producer g x)) x
+  among x h f (inl c) = subst (λ p. Contains (p ∷ queue_of g (producer g x)) x) (sym (ap (producer_of_item g) c.1))
+      (Contains-first x (queue_of g (producer g x)))
   among x h f (inr (inl c)) =
-      let sent : is_sent g x ≡ true = ap (is_sent_item g) c.3 ∙ (and_parts _ _ (sym (ap (is_frozen_item g) c.3) ∙ f)).0 in
+      let sent : is_sent g x ≡ true =
+      ap (is_sent_item g) c.3 ∙ (and_parts _ _ (sym (ap (is_frozen_item g) c.3) ∙ f)).0 in
       Contains-rest (producer g x) (queue_of g (producer g x)) x (queue-Contains g (producer g x) x h sent refl)
   among x h f (inr (inr c)) = absurd (true≢false (sym f ∙ ap (is_frozen_item g) c.3))
 
   pub lists_frozen : (x : ℕ) → x < item_count g → is_frozen g x ≡ true → Contains (frozen_along g order) x
   lists_frozen x h f =
-      Contains-flat_map (frozen_items_of g) order (producer g x) x (Contains-order (process_count g) order topological.all (producer g x) (producer_in_range g order topological x h))
+      Contains-flat_map (frozen_items_of g) order (producer g x) x (Contains-order (process_count g) order
+      topological.all (producer g x) (producer_in_range g order topological x h))
       (Contains-filter (is_frozen g) (producer g x ∷ queue_of g (producer g x)) x f (among x h f (item_cases g x h)))

@@ -14,15 +14,21 @@ use Rattle.cpg_run.proofs.CarryingTimed.{carrying_times, never_columns}
 use Rattle.cpg_run.proofs.RowsTimed.{all_before, rows_times}
 use Rattle.cpg_run.specs.Carrying.{ContainsKept, IsCarryingRow, AreCarrying, ListedRowsCarry}
 
-module _ (g : Graph) (urgency order : List ℕ) (frozen : List (Option ℕ)) (rows : List (List Column)) (timed : IsTimed g urgency order frozen) (found : AreRows g urgency order frozen rows) where
+module _ (g : Graph) (urgency order : List ℕ) (frozen : List (Option ℕ)) (rows : List (List Column))
+    (timed : IsTimed g urgency order frozen) (found : AreRows g urgency order frozen rows) where
   -- a column that matches is as wide as an entry that matches, whose cube is what is carried
-  carries : (x : ℕ) → x < item_count g → (s : Scenario) (c : Column) → IsScenario g s → Contains (row_at rows x) c → matches c.cube s ≡ true → ContainsKept g.faults c.cube (carried g order rows s x)
+  carries : (x : ℕ) → x < item_count g → (s : Scenario) (c : Column) → IsScenario g s → Contains (row_at rows x) c →
+      matches c.cube s ≡ true →
+      ContainsKept g.faults c.cube (carried g order rows s x)
   carries x l s c law j h =
       let row = found.each x l in
-      let there = Contains-map (λ (c : Column). c.time) (filter (λ (c : Column). matches c.cube s) (row_at rows x)) c (Contains-filter (λ (c : Column). matches c.cube s) (row_at rows x) c h j) in
-      let r = Contains-map_parts (λ (c : Column). c.time) (filter (λ (c : Column). matches c.cube s) row.entries) c.time (subst (λ ns. Contains ns c.time) (row.merge.times s law) there) in
+      let there = Contains-map (λ (c : Column). c.time) (filter (λ (c : Column). matches c.cube s) (row_at rows x)) c
+      (Contains-filter (λ (c : Column). matches c.cube s) (row_at rows x) c h j) in
+      let r = Contains-map_parts (λ (c : Column). c.time) (filter (λ (c : Column). matches c.cube s) row.entries) c.time
+      (subst (λ ns. Contains ns c.time) (row.merge.times s law) there) in
       let q = Contains-filter_parts (λ (c : Column). matches c.cube s) row.entries r.0 r.1 in
-      let is = entry_cube g urgency order frozen rows x timed l (all_before g urgency order frozen timed rows found (place order (producer g x))) row.entries row.are r.0 q.0 s law q.1 in
+      let is = entry_cube g urgency order frozen rows x timed l (all_before g urgency order frozen timed rows found
+      (place order (producer g x))) row.entries row.are r.0 q.0 s law q.1 in
       let wide = row.merge.wider s r.0 c law q.0 j q.1 h in
       record { low = λ v. omega (arith, (wide v).0, is.low v); high = λ v. omega (arith, (wide v).1, is.high v) }
 
@@ -38,7 +44,11 @@ module _ (g : Graph) (urgency order : List ℕ) (frozen : List (Option ℕ)) (ro
   }
 
   carrying : AreCarrying g urgency order frozen rows
-  carrying = record { count = found.count; each = carrying_row; merged = λ p l. (found.each p (omega (arith, l))).merge.merged }
+  carrying = record {
+    count = found.count;
+    each = carrying_row;
+    merged = λ p l. (found.each p (omega (arith, l))).merge.merged;
+  }
 
 pub listed_rows_carry : ListedRowsCarry
 listed_rows_carry g urgency order frozen rows timed found = carrying g urgency order frozen rows timed found

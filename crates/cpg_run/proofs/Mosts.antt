@@ -12,8 +12,10 @@ use Rattle.cpg_run.specs.Most.{IsMost}
 use Rattle.cpg_run.proofs.Bounded.{passing_le}
 
 module _ (f : ℕ → ℕ) where
-  pub most_same : (P Q : ℕ → Type 0) (v : ℕ) → ((y : ℕ) → P y → Q y) → ((y : ℕ) → Q y → P y) → IsMost P f v → IsMost Q f v
-  most_same P Q v to from m = record { above = λ y q. m.above y (from y q); least = λ b h. m.least b (λ y p. h y (to y p)) }
+  pub most_same : (P Q : ℕ → Type 0) (v : ℕ) → ((y : ℕ) → P y → Q y) → ((y : ℕ) → Q y → P y) → IsMost P f v →
+      IsMost Q f v
+  most_same P Q v to from m =
+      record { above = λ y q. m.above y (from y q); least = λ b h. m.least b (λ y p. h y (to y p)) }
 
   pub most_of_list : (xs : List ℕ) → IsMost (Contains xs) f (greatest (map f xs))
   most_of_list xs = record {
@@ -22,10 +24,15 @@ module _ (f : ℕ → ℕ) where
   }
 
   -- the conditions that decide a process, in whatever order
-  pub most_deciding : (g : Graph) (order : List ℕ) → IsTopological g order → (values : List Bool) (p v : ℕ) → v ≡ greatest (map f (deciding_along g order values p))
+  pub most_deciding : (g : Graph) (order : List ℕ) → IsTopological g order → (values : List Bool) (p v : ℕ) →
+      v ≡ greatest (map f (deciding_along g order values p))
       → IsMost (λ c. (c < condition_count g) × (decides g values p c ≡ true)) f v
-  most_deciding g order topological values p v is = subst (λ n. IsMost (λ c. (c < condition_count g) × (decides g values p c ≡ true)) f n) (sym is)
-      (most_same (Contains (deciding_along g order values p)) (λ c. (c < condition_count g) × (decides g values p c ≡ true)) _
-      (λ c k. let r = Contains-filter_parts (decides g values p) (conditions_along g order) c k in ((from_along g order c r.0).0, r.1))
-      (λ c k. Contains-filter (decides g values p) (conditions_along g order) c k.1 (Contains-along g order topological c k.0))
+  most_deciding g order topological values p v is =
+      subst (λ n. IsMost (λ c. (c < condition_count g) × (decides g values p c ≡ true)) f n) (sym is)
+      (most_same (Contains (deciding_along g order values p))
+      (λ c. (c < condition_count g) × (decides g values p c ≡ true)) _
+      (λ c k. let r = Contains-filter_parts (decides g values p) (conditions_along g order) c k in
+      ((from_along g order c r.0).0, r.1))
+      (λ c k. Contains-filter (decides g values p) (conditions_along g order) c k.1
+      (Contains-along g order topological c k.0))
       (most_of_list (deciding_along g order values p)))

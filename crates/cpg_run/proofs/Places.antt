@@ -1,5 +1,6 @@
 -- From all that holds before a place to all that holds before the next one.
-use Rattle.std.proofs.Common.{◌≡◌, ◌∙◌, ℕ, ◌+◌, ◌<◌, max, true, false, List, length, get_or, set, Option, Some, None, unwrap_or, arith, sym, ap, inl, inr, subst, get_or-set_same, get_or-set_other}
+use Rattle.std.proofs.Common.{◌≡◌, ◌∙◌, ℕ, ◌+◌, ◌<◌, max, true, false, List, length, get_or, set, Option, Some, None}
+use Rattle.std.proofs.Common.{unwrap_or, arith, sym, ap, inl, inr, subst, get_or-set_same, get_or-set_other}
 use Rattle.std.proofs.lemmas.Bool.{cases_eq}
 use Rattle.cpg_base.specs.Numbers.{greatest}
 use Rattle.cpg_base.specs.Graph.{Graph, process_count, condition_count, item_count, process_at, node_of}
@@ -17,67 +18,91 @@ use Rattle.cpg_bus.specs.Plan.{queue_of}
 use Rattle.cpg_run.specs.Progress.{IsFree, IsReady, IsAt, CanSend, HasSent, KeepsEnds}
 use Rattle.cpg_bus.proofs.Queued.{in_queue}
 use Rattle.cpg_run.proofs.Starts.{decided_in_run, start_is}
-use Rattle.cpg_run.proofs.Steps.{ready_other, ready_idle, ready_active, free_other, free_idle, free_here, knows_idle, knows_active}
+use Rattle.cpg_run.proofs.Steps.{ready_other, ready_idle, ready_active, free_other, free_idle, free_here, knows_idle}
+use Rattle.cpg_run.proofs.Steps.{knows_active}
 
-module _ (g : Graph) (order : List ℕ) (topological : IsTopological g order) (frozen : List (Option ℕ)) (s : Scenario) (t : Times) (run : IsRun g order frozen s t)
+module _ (g : Graph) (order : List ℕ) (topological : IsTopological g order) (frozen : List (Option ℕ)) (s : Scenario)
+    (t : Times) (run : IsRun g order frozen s t)
     (i p : ℕ) (l : p < process_count g) (at : place order p ≡ i) (on : node_of g p < length g.nodes)
-    (known : Times) (readies frees : List ℕ) (a : IsAt g order s t i known readies frees) (long : length readies ≡ length g.nodes) (far : length frees ≡ length g.nodes)
-    (heard : ℕ) (is_heard : IsMost (λ c. (c < condition_count g) × (decides g s.values p c ≡ true)) (heard_there g known (node_of g p)) heard) where
+    (known : Times) (readies frees : List ℕ) (a : IsAt g order s t i known readies frees)
+    (long : length readies ≡ length g.nodes) (far : length frees ≡ length g.nodes)
+    (heard : ℕ) (is_heard : IsMost (λ c. (c < condition_count g) × (decides g s.values p c ≡ true))
+    (heard_there g known (node_of g p)) heard) where
   abbrev node : ℕ
   node = node_of g p
 
-  heard_in_run : IsMost (λ c. (c < condition_count g) × (decides g s.values p c ≡ true)) (heard_there g t (node_of g p)) heard
+  heard_in_run : IsMost (λ c. (c < condition_count g) × (decides g s.values p c ≡ true))
+      (heard_there g t (node_of g p)) heard
   heard_in_run = decided_in_run g order t i known a.knows topological s p l at heard is_heard
 
-  readies_next : (v : ℕ) → IsReady g order s t (i + 1) (node_of g p) v → (n : ℕ) → n < length g.nodes → IsReady g order s t (i + 1) n (get_or (set readies (node_of g p) v) n 0)
+  readies_next : (v : ℕ) → IsReady g order s t (i + 1) (node_of g p) v → (n : ℕ) → n < length g.nodes →
+      IsReady g order s t (i + 1) n (get_or (set readies (node_of g p) v) n 0)
   readies_next v ready n k = elim (cases_eq n (node_of g p)) [
     | inl e ↦ subst (λ z. IsReady g order s t (i + 1) z (get_or (set readies (node_of g p) v) z 0)) (sym e)
-        (subst (IsReady g order s t (i + 1) (node_of g p)) (sym (get_or-set_same readies (node_of g p) v 0 (omega arith))) ready)
+        (subst (IsReady g order s t (i + 1) (node_of g p))
+        (sym (get_or-set_same readies (node_of g p) v 0 (omega arith))) ready)
     | inr other ↦ subst (IsReady g order s t (i + 1) n) (sym (get_or-set_other readies (node_of g p) n v 0 other))
         (ready_other g order topological frozen s t run i p l at n (get_or readies n 0) other (a.nodes_ready n k))
   ]
 
-  pub at_idle : (v : ℕ) → active g s.values p ≡ false → v ≡ max (get_or readies (node_of g p) 0) heard → IsAt g order s t (i + 1) known (set readies (node_of g p) v) frees
+  pub at_idle : (v : ℕ) → active g s.values p ≡ false → v ≡ max (get_or readies (node_of g p) 0) heard →
+      IsAt g order s t (i + 1) known (set readies (node_of g p) v) frees
   at_idle v idle is = record {
     knows = knows_idle g order topological frozen s t run i p l at known idle a.knows;
-    nodes_ready = readies_next v (ready_idle g order topological frozen s t run i p l at (get_or readies (node_of g p) 0) heard v idle is (a.nodes_ready (node_of g p) on) heard_in_run);
-    slots_free = λ n k. free_idle g order topological frozen s t run i p l at n (get_or frees n 0) idle (a.slots_free n k);
+    nodes_ready = readies_next v (ready_idle g order topological frozen s t run i p l at
+        (get_or readies (node_of g p) 0) heard v idle is (a.nodes_ready (node_of g p) on) heard_in_run);
+    slots_free =
+        λ n k. free_idle g order topological frozen s t run i p l at n (get_or frees n 0) idle (a.slots_free n k);
   }
 
-  module _ (acts : active g s.values p ≡ true) (ready start : ℕ) (ready_at : ready ≡ max (get_or readies (node_of g p) 0) heard)
-      (found : start ≡ max (max (max ready (process_at g p).release) (greatest (input_bounds g s known p))) (frozen_in frozen p)) where
+  module _ (acts : active g s.values p ≡ true) (ready start : ℕ)
+      (ready_at : ready ≡ max (get_or readies (node_of g p) 0) heard)
+      (found : start ≡ max (max (max ready (process_at g p).release) (greatest (input_bounds g s known p)))
+      (frozen_in frozen p)) where
     pub start_right : start ≡ time_in t p
-    start_right = found ∙ ap (λ r. max (max (max r (process_at g p).release) (greatest (input_bounds g s known p))) (frozen_in frozen p)) ready_at
-        ∙ start_is g order t i known a.knows topological s p l at frozen run acts (get_or readies (node_of g p) 0) heard (a.nodes_ready (node_of g p) on) is_heard
+    start_right = found ∙ ap (λ r.
+        max (max (max r (process_at g p).release) (greatest (input_bounds g s known p))) (frozen_in frozen p)) ready_at
+        ∙ start_is g order t i known a.knows topological s p l at frozen run acts (get_or readies (node_of g p) 0) heard
+        (a.nodes_ready (node_of g p) on) is_heard
 
     module _ (end : ℕ) (ends : end ≡ start + duration g p (fault_of s p)) where
       pub end_right : end ≡ end_in t p
-      end_right = ends ∙ ap (λ n. n + duration g p (fault_of s p)) start_right ∙ sym (end_active g order frozen s t run p l acts)
+      end_right = ends ∙ ap (λ n. n + duration g p (fault_of s p)) start_right
+          ∙ sym (end_active g order frozen s t run p l acts)
 
-      module _ (begun : Times) (times_long : length known.times ≡ item_count g) (ends_long : length known.ends ≡ process_count g)
-          (started : begun.times ≡ set known.times p (Some start)) (ended : begun.ends ≡ set known.ends p (Some end)) where
+      module _ (begun : Times) (times_long : length known.times ≡ item_count g)
+          (ends_long : length known.ends ≡ process_count g)
+          (started : begun.times ≡ set known.times p (Some start))
+          (ended : begun.ends ≡ set known.ends p (Some end)) where
         pub can_send : (free : ℕ) → free ≡ get_or frees (node_of g p) 0 → CanSend g order s t p begun free
         can_send free is = record {
-          ends = ap (λ es. unwrap_or (get_or es p None) 0) ended ∙ ap (λ o. unwrap_or o 0) (get_or-set_same known.ends p (Some end) None (omega arith)) ∙ end_right;
+          ends = ap (λ es. unwrap_or (get_or es p None) 0) ended
+              ∙ ap (λ o. unwrap_or o 0) (get_or-set_same known.ends p (Some end) None (omega arith)) ∙ end_right;
           none = λ x c. let q = in_queue g p x c in
               ap (λ ts. get_or ts x None) started
               ∙ get_or-set_other known.times p x (Some start) None (λ e. absurd (omega (arith, q.above)))
               ∙ a.knows.later x q.within (omega (arith, ap (place order) q.by));
           slots_free = subst (IsFree g order s t (place order p) (node_of g p)) (sym is)
-              (subst (λ j. IsFree g order s t j (node_of g p) (get_or frees (node_of g p) 0)) (sym at) (a.slots_free (node_of g p) on));
+              (subst (λ j. IsFree g order s t j (node_of g p) (get_or frees (node_of g p) 0)) (sym at)
+              (a.slots_free (node_of g p) on));
         }
 
-        pub at_active : (new : Times) (free : ℕ) → HasSent g order s t p (length (queue_of g p)) begun new free → KeepsEnds begun new
+        pub at_active : (new : Times) (free : ℕ) → HasSent g order s t p (length (queue_of g p)) begun new free →
+            KeepsEnds begun new
             → IsAt g order s t (i + 1) new (set readies (node_of g p) end) (set frees (node_of g p) free)
         at_active new free sent keeps = record {
-          knows = knows_active g order topological frozen s t run i p l at acts known begun new start end free a.knows times_long ends_long started ended start_right end_right sent keeps;
-          nodes_ready = readies_next end (ready_active g order topological frozen s t run i p l at (get_or readies (node_of g p) 0) heard end acts end_right
+          knows = knows_active g order topological frozen s t run i p l at acts known begun new start end free a.knows
+              times_long ends_long started ended start_right end_right sent keeps;
+          nodes_ready = readies_next end (ready_active g order topological frozen s t run i p l at
+              (get_or readies (node_of g p) 0) heard end acts end_right
               (omega (arith, ready_at, found, ends)) (a.nodes_ready (node_of g p) on) heard_in_run);
           slots_free = λ n k. elim (cases_eq n (node_of g p)) [
             | inl e ↦ subst (λ z. IsFree g order s t (i + 1) z (get_or (set frees (node_of g p) free) z 0)) (sym e)
-                (subst (IsFree g order s t (i + 1) (node_of g p)) (sym (get_or-set_same frees (node_of g p) free 0 (omega arith)))
+                (subst (IsFree g order s t (i + 1) (node_of g p))
+                (sym (get_or-set_same frees (node_of g p) free 0 (omega arith)))
                 (free_here g order topological frozen s t run i p l at free sent.slots_free))
-            | inr other ↦ subst (IsFree g order s t (i + 1) n) (sym (get_or-set_other frees (node_of g p) n free 0 other))
+            | inr other ↦
+                subst (IsFree g order s t (i + 1) n) (sym (get_or-set_other frees (node_of g p) n free 0 other))
                 (free_other g order topological frozen s t run i p l at n (get_or frees n 0) other (a.slots_free n k))
           ];
         }

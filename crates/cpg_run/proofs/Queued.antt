@@ -1,5 +1,6 @@
 -- A node's queue: what stands before what stands before an item stands before it.
-use Rattle.std.proofs.Common.{ℕ, ◌<◌, ◌≤◌, ◌≡◌, true, ◌&&◌, ◌==◌, ◌⊎◌, inl, inr, List, Contains, arith, sym, ap, ◌∙◌, subst, eqb-true, eq-eqb, ltb-true, lt-ltb}
+use Rattle.std.proofs.Common.{ℕ, ◌<◌, ◌≤◌, ◌≡◌, true, ◌&&◌, ◌==◌, ◌⊎◌, inl, inr, List, Contains, arith, sym, ap, ◌∙◌}
+use Rattle.std.proofs.Common.{subst, eqb-true, eq-eqb, ltb-true, lt-ltb}
 use Rattle.std.proofs.lemmas.Bool.{and_parts, and_from, or_cases, or_left, or_right}
 use Rattle.cpg_base.specs.Numbers.{numbers_below}
 use Rattle.cpg_base.specs.Graph.{Graph, item_count, item_at, is_sent, home, producer}
@@ -13,7 +14,8 @@ module _ (g : Graph) (order : List ℕ) where
   record GoesBefore (y x : ℕ) : Type 0 where
     sent : is_sent g y ≡ true
     home : home g y ≡ home g x
-    first : (comes_before order (producer g y) (producer g x) ≡ true) ⊎ ((producer g y ≡ producer g x) × (rank_of_item (item_at g y) < rank_of_item (item_at g x)))
+    first : (comes_before order (producer g y) (producer g x) ≡ true) ⊎
+        ((producer g y ≡ producer g x) × (rank_of_item (item_at g y) < rank_of_item (item_at g x)))
 
   goes_before : (y x : ℕ) → is_queued_before g order y x ≡ true → GoesBefore y x
   goes_before y x e =
@@ -45,7 +47,8 @@ module _ (g : Graph) (order : List ℕ) where
     sent = a.sent;
     home = a.home ∙ b.home;
     first = elim a.first [
-      | inl c ↦ inl (comes_before_from_places order (producer g z) (producer g x) (before_contains order (producer g z) (producer g y) c)
+      | inl c ↦ inl (comes_before_from_places order (producer g z) (producer g x)
+          (before_contains order (producer g z) (producer g y) c)
           (omega (arith, places_from_comes_before order (producer g z) (producer g y) c, place_of y x b)))
       | inr c ↦ elim b.first [
         | inl d ↦ inl (subst (λ p. comes_before order p (producer g x) ≡ true) (sym c.0) d)
@@ -54,15 +57,19 @@ module _ (g : Graph) (order : List ℕ) where
     ];
   }
 
-  in_queue : (x y : ℕ) → Contains (queued_before g order x) y → Contains (numbers_below (item_count g)) y × (is_queued_before g order y x ≡ true)
+  in_queue : (x y : ℕ) → Contains (queued_before g order x) y →
+      Contains (numbers_below (item_count g)) y × (is_queued_before g order y x ≡ true)
   in_queue x y j = Contains-filter_parts (λ y. is_queued_before g order y x) (numbers_below (item_count g)) y j
 
   -- what stands before an item in its queue comes from no later a process
-  pub producer_no_later : (x y : ℕ) → Contains (queued_before g order x) y → place order (producer g y) ≤ place order (producer g x)
+  pub producer_no_later : (x y : ℕ) → Contains (queued_before g order x) y →
+      place order (producer g y) ≤ place order (producer g x)
   producer_no_later x y j = place_of y x (goes_before y x (in_queue x y j).1)
 
-  pub queue_chain : (x y z : ℕ) → Contains (queued_before g order x) y → Contains (queued_before g order y) z → Contains (queued_before g order x) z
+  pub queue_chain : (x y z : ℕ) → Contains (queued_before g order x) y → Contains (queued_before g order y) z →
+      Contains (queued_before g order x) z
   queue_chain x y z j i =
       let a = in_queue x y j in
       let b = in_queue y z i in
-      Contains-filter (λ z. is_queued_before g order z x) (numbers_below (item_count g)) z (queued_by z x (chain z y x (goes_before z y b.1) (goes_before y x a.1))) b.0
+      Contains-filter (λ z. is_queued_before g order z x) (numbers_below (item_count g)) z
+      (queued_by z x (chain z y x (goes_before z y b.1) (goes_before y x a.1))) b.0

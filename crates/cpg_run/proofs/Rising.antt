@@ -1,5 +1,7 @@
--- With each moment the times of a run rise by an execution and two rounds at most, above a base that the frozen times keep to.
-use Rattle.std.proofs.Common.{◌≡◌, ◌∙◌, ℕ, zero, suc, ◌+◌, ◌-◌, ◌*◌, ◌<◌, ◌≤◌, ◌==◌, List, [], ◌∷◌, ◌++◌, length, get_or, flat_map, Contains, Option, Some, None, option_to_list, option_map, unwrap_or}
+-- With each moment the times of a run rise by an execution and two rounds at most, above a base that the frozen times
+-- keep to.
+use Rattle.std.proofs.Common.{◌≡◌, ◌∙◌, ℕ, zero, suc, ◌+◌, ◌-◌, ◌*◌, ◌<◌, ◌≤◌, ◌==◌, List, [], ◌∷◌, ◌++◌, length}
+use Rattle.std.proofs.Common.{get_or, flat_map, Contains, Option, Some, None, option_to_list, option_map, unwrap_or}
 use Rattle.std.proofs.Common.{arith, refl, sym, ap, inl, inr, subst}
 use Rattle.std.proofs.lemmas.Bool.{cases_Bool, cases_lt, cond-true, cond-false}
 use Rattle.std.proofs.lemmas.Grind.{div_ceil_times}
@@ -8,7 +10,8 @@ use Rattle.std.proofs.Math.Nat.{mul-le-mul}
 use Rattle.std.specs.Int.{div_ceil}
 use Rattle.cpg_base.specs.Numbers.{numbers_below, greatest}
 use Rattle.cpg_base.specs.declared.process.Slot.{Slot}
-use Rattle.cpg_base.specs.Graph.{Graph, process_count, condition_count, item_count, message_item, broadcast_item, item_at, producer, process_of, process_at, node_of, home, source, inputs, is_message}
+use Rattle.cpg_base.specs.Graph.{Graph, process_count, condition_count, item_count, message_item, broadcast_item}
+use Rattle.cpg_base.specs.Graph.{item_at, producer, process_of, process_at, node_of, home, source, inputs, is_message}
 use Rattle.cpg_base.specs.Activity.{item_active}
 use Rattle.cpg_base.specs.Bus.{round, offset, slot_place, slot_length, next_slot}
 use Rattle.cpg_base.specs.Duration.{duration}
@@ -24,9 +27,11 @@ use Rattle.cpg_order.specs.Deciding.{decides, deciding}
 use Rattle.cpg_order.specs.Queue.{is_queued_before, rank_of_item}
 use Rattle.cpg_order.proofs.Acyclic.{input_goes_up, source_in_order}
 use Rattle.cpg_order.proofs.DecidingLaws.{decides_earlier}
-use Rattle.cpg_order.proofs.Moments.{phase, phases, moment, moment_of_end, moment_of_start, last, message_sooner, broadcast_sooner, end_sooner, queued_sooner, producer_in_range}
+use Rattle.cpg_order.proofs.Moments.{phase, phases, moment, moment_of_end, moment_of_start, last, message_sooner}
+use Rattle.cpg_order.proofs.Moments.{broadcast_sooner, end_sooner, queued_sooner, producer_in_range}
 use Rattle.cpg_base.proofs.Places.{from_order, not_later, on_node_before}
-use Rattle.cpg_run.specs.Run.{Times, IsRun, time_in, end_in, frame_there, input_there, heard_there, bounds_of_item, unfrozen_time, start_bounds, send_bounds, end_by}
+use Rattle.cpg_run.specs.Run.{Times, IsRun, time_in, end_in, frame_there, input_there, heard_there, bounds_of_item}
+use Rattle.cpg_run.specs.Run.{unfrozen_time, start_bounds, send_bounds, end_by}
 use Rattle.cpg_run.proofs.Runs.{time_is, time_in_active, end_is}
 use Rattle.cpg_run.proofs.Bounded.{start_bounds_le, send_bounds_le}
 
@@ -34,7 +39,8 @@ use Rattle.cpg_run.proofs.Bounded.{start_bounds_le, send_bounds_le}
 times_le : (away turn : ℕ) → div_ceil away turn * turn ≤ away + turn
 times_le away turn = elim (cases_lt 0 turn) [
   | inl l ↦ let r = (div_ceil_times away turn l).1 in omega arith
-  | inr l ↦ let e : turn ≡ 0 = omega arith in subst (λ n. div_ceil away n * n ≤ away + n) (sym e) (let z : div_ceil away 0 * 0 ≡ 0 = omega arith in omega arith)
+  | inr l ↦ let e : turn ≡ 0 = omega arith in
+      subst (λ n. div_ceil away n * n ≤ away + n) (sym e) (let z : div_ceil away 0 * 0 ≡ 0 = omega arith in omega arith)
 ]
 
 -- the next slot is no more than two rounds away
@@ -53,7 +59,8 @@ bound base m = base + m * 700000000000
 
 -- a frozen time is no later than its item could be
 pub record AreLow (base : ℕ) (g : Graph) (order : List ℕ) (frozen : List (Option ℕ)) : Type 0 where
-  pub low : (x time : ℕ) → x < item_count g → get_or frozen x None ≡ Some time → time ≤ bound base (moment g order x) + 32000000000
+  pub low : (x time : ℕ) → x < item_count g → get_or frozen x None ≡ Some time →
+      time ≤ bound base (moment g order x) + 32000000000
 
 module _ (base : ℕ) (g : Graph) (order : List ℕ) (frozen : List (Option ℕ)) (s : Scenario) (t : Times) where
   -- what is settled before a moment is small
@@ -61,8 +68,10 @@ module _ (base : ℕ) (g : Graph) (order : List ℕ) (frozen : List (Option ℕ)
     pub items : (x : ℕ) → x < item_count g → moment g order x < m → time_in t x ≤ bound base m
     pub ends : (p : ℕ) → p < process_count g → moment_of_end g order p < m → end_in t p ≤ bound base m
 
-  module _ (within : IsWithinLimits g) (topological : IsTopological g order) (lawful : IsScenario g s) (low : AreLow base g order frozen) (run : IsRun g order frozen s t) where
-    frame_le : (m x : ℕ) → SmallBefore m → x < item_count g → moment g order x < m → frame_there g t x ≤ bound base m + 16000000000
+  module _ (within : IsWithinLimits g) (topological : IsTopological g order) (lawful : IsScenario g s)
+      (low : AreLow base g order frozen) (run : IsRun g order frozen s t) where
+    frame_le : (m x : ℕ) → SmallBefore m → x < item_count g → moment g order x < m →
+        frame_there g t x ≤ bound base m + 16000000000
     frame_le m x a l h = omega (arith, a.items x l h, slot_length-le g (home g x), round-le g within)
 
     module _ (m p : ℕ) (a : SmallBefore m) (at : place order p * phases g ≤ m) where
@@ -72,56 +81,94 @@ module _ (base : ℕ) (g : Graph) (order : List ℕ) (frozen : List (Option ℕ)
           let up = input_goes_up g order topological p e c in
           elim (cases_Bool (is_message g e)) [
             | inl is ↦ subst (λ n. n ≤ bound base m + 16000000000) (sym (cond-true _ _ _ is))
-                (frame_le m (message_item g e) a (omega arith) (omega (arith, message_sooner g order topological p e h up)))
+                (frame_le m (message_item g e) a (omega arith)
+                (omega (arith, message_sooner g order topological p e h up)))
             | inr is ↦ subst (λ n. n ≤ bound base m + 16000000000) (sym (cond-false _ _ _ is))
-                (omega (arith, a.ends (source g e) (source_in_order g order topological e h) (omega (arith, end_sooner g order topological p (source g e) up))))
+                (omega (
+                  arith,
+                  a.ends (source g e) (source_in_order g order topological e h)
+                      (omega (arith, end_sooner g order topological p (source g e) up)),
+                ))
           ]
 
       ended_le : (q : ℕ) → Contains (before_on_node g order p) q → end_in t q ≤ bound base m + 16000000000
       ended_le q c =
           let b = on_node_before g order p q c in
-          omega (arith, a.ends q (from_order (process_count g) order topological.all q b.0) (omega (arith, end_sooner g order topological p q b.1)))
+          omega (
+            arith,
+            a.ends q (from_order (process_count g) order topological.all q b.0)
+                (omega (arith, end_sooner g order topological p q b.1)),
+          )
 
-      heard_le : (c : ℕ) → Contains (flat_map (deciding g s.values) (before_on_node g order p ++ p ∷ [])) c → heard_there g t (node_of g p) c ≤ bound base m + 16000000000
+      heard_le : (c : ℕ) → Contains (flat_map (deciding g s.values) (before_on_node g order p ++ p ∷ [])) c →
+          heard_there g t (node_of g p) c ≤ bound base m + 16000000000
       heard_le c d =
           let q = Contains-flat_map_parts (deciding g s.values) (before_on_node g order p ++ p ∷ []) c d in
           let r = Contains-filter_parts (decides g s.values q.0) (numbers_below (condition_count g)) c q.2 in
           let h = numbers-Contains (condition_count g) c r.0 in
           let l = not_later g order p q.0 q.1 in
-          let up : place order (process_of g c) < place order p = omega (arith, decides_earlier g order topological s.values q.0 c h r.1) in
+          let up : place order (process_of g c) < place order p =
+          omega (arith, decides_earlier g order topological s.values q.0 c h r.1) in
           elim (cases_Bool (node_of g (process_of g c) == node_of g p)) [
             | inl is ↦ subst (λ n. n ≤ bound base m + 16000000000) (sym (cond-true _ _ _ is))
-                (omega (arith, a.ends (process_of g c) (process_of_below g c h) (omega (arith, end_sooner g order topological p (process_of g c) up))))
+                (omega (
+                  arith,
+                  a.ends (process_of g c) (process_of_below g c h)
+                      (omega (arith, end_sooner g order topological p (process_of g c) up)),
+                ))
             | inr is ↦ subst (λ n. n ≤ bound base m + 16000000000) (sym (cond-false _ _ _ is))
-                (frame_le m (broadcast_item g c) a (omega arith) (omega (arith, broadcast_sooner g order topological p c up)))
+                (frame_le m (broadcast_item g c) a (omega arith)
+                (omega (arith, broadcast_sooner g order topological p c up)))
           ]
 
       start_le : p < process_count g → greatest (start_bounds g order s t p) ≤ bound base m + 16000000000
       start_le l =
           let release : (process_at g p).release ≤ 1000000000 = (within.processes p _ l).release in
-          start_bounds_le g order s t p (bound base m + 16000000000) (omega arith) (λ e c k. input_le e c) (λ q c k. ended_le q c) heard_le
+          start_bounds_le g order s t p (bound base m + 16000000000) (omega arith) (λ e c k. input_le e c)
+          (λ q c k. ended_le q c) heard_le
 
-    send_le : (m x : ℕ) → SmallBefore m → moment g order x ≤ m → x < item_count g → phase (item_at g x) ≡ rank_of_item (item_at g x) + 2 →
+    send_le : (m x : ℕ) → SmallBefore m → moment g order x ≤ m → x < item_count g →
+        phase (item_at g x) ≡ rank_of_item (item_at g x) + 2 →
         greatest (send_bounds g order s t x) ≤ bound base m + 32000000000
     send_le m x a before l sends = send_bounds_le g order s t x (bound base m + 32000000000)
-        (omega (arith, next_slot-le g (home g x) (end_in t (producer g x)), round-le g within, a.ends (producer g x) (producer_in_range g order topological x l) (omega arith)))
+        (omega (
+          arith,
+          next_slot-le g (home g x) (end_in t (producer g x)),
+          round-le g within,
+          a.ends (producer g x) (producer_in_range g order topological x l) (omega arith),
+        ))
         (λ y c active.
         let q = Contains-filter_parts (λ (z : ℕ). is_queued_before g order z x) (numbers_below (item_count g)) y c in
         let k = numbers-Contains (item_count g) y q.0 in
-        omega (arith, round-le g within, a.items y k (omega (arith, queued_sooner g order topological y x k sends q.1))))
+        omega
+        (arith, round-le g within, a.items y k (omega (arith, queued_sooner g order topological y x k sends q.1))))
 
-    unfrozen_le : (m x : ℕ) → SmallBefore m → moment g order x ≤ m → x < item_count g → ItemCases g x → unfrozen_time g order s t x ≤ bound base m + 32000000000
-    unfrozen_le m x a before l (inl c) = subst (λ i. greatest (bounds_of_item g order s t x i) ≤ bound base m + 32000000000) (sym c.1)
+    unfrozen_le : (m x : ℕ) → SmallBefore m → moment g order x ≤ m → x < item_count g → ItemCases g x →
+        unfrozen_time g order s t x ≤ bound base m + 32000000000
+    unfrozen_le m x a before l (inl c) =
+        subst (λ i. greatest (bounds_of_item g order s t x i) ≤ bound base m + 32000000000) (sym c.1)
         (omega (arith, start_le m x a (omega (arith, moment_of_start g order topological x c.0)) c.0))
-    unfrozen_le m x a before l (inr (inl c)) = subst (λ i. greatest (bounds_of_item g order s t x i) ≤ bound base m + 32000000000) (sym c.3)
-        (send_le m x a before l (subst (λ i. phase i ≡ rank_of_item i + 2) (sym c.3) (let r : c.0 + 3 ≡ c.0 + 1 + 2 = omega arith in r)))
-    unfrozen_le m x a before l (inr (inr c)) = subst (λ i. greatest (bounds_of_item g order s t x i) ≤ bound base m + 32000000000) (sym c.3)
-        (send_le m x a before l (subst (λ i. phase i ≡ rank_of_item i + 2) (sym c.3) (let r : 2 ≡ 0 + 2 = omega arith in r)))
+    unfrozen_le m x a before l (inr (inl c)) =
+        subst (λ i. greatest (bounds_of_item g order s t x i) ≤ bound base m + 32000000000) (sym c.3)
+        (send_le m x a before l
+        (subst (λ i. phase i ≡ rank_of_item i + 2) (sym c.3) (let r : c.0 + 3 ≡ c.0 + 1 + 2 = omega arith in r)))
+    unfrozen_le m x a before l (inr (inr c)) =
+        subst (λ i. greatest (bounds_of_item g order s t x i) ≤ bound base m + 32000000000) (sym c.3)
+        (send_le m x a before l
+        (subst (λ i. phase i ≡ rank_of_item i + 2) (sym c.3) (let r : 2 ≡ 0 + 2 = omega arith in r)))
 
-    time_le : (x b : ℕ) → x < item_count g → unfrozen_time g order s t x ≤ b → ((time : ℕ) → get_or frozen x None ≡ Some time → time ≤ b) → time_in t x ≤ b
+    time_le : (x b : ℕ) → x < item_count g → unfrozen_time g order s t x ≤ b →
+        ((time : ℕ) → get_or frozen x None ≡ Some time → time ≤ b) → time_in t x ≤ b
     time_le x b l h k = elim (cases_Bool (item_active g s.values (item_at g x))) [
-      | inl a ↦ omega (arith, time_in_active g order frozen s t run x l a, greatest-cons (unfrozen_time g order s t x) (option_to_list (get_or frozen x None)), frozen_le (get_or frozen x None) b k)
-      | inr a ↦ let e : time_in t x ≡ 0 = ap (λ o. unwrap_or o 0) (time_is g order frozen s t run x l ∙ cond-false _ _ _ a) in omega arith
+      | inl a ↦ omega (
+        arith,
+        time_in_active g order frozen s t run x l a,
+        greatest-cons (unfrozen_time g order s t x) (option_to_list (get_or frozen x None)),
+        frozen_le (get_or frozen x None) b k,
+      )
+      | inr a ↦ let e : time_in t x ≡ 0 =
+          ap (λ o. unwrap_or o 0) (time_is g order frozen s t run x l ∙ cond-false _ _ _ a) in
+          omega arith
     ]
 
     end_from : (o : Option ℕ) (d b : ℕ) → unwrap_or o 0 ≤ b → unwrap_or (option_map (λ start. start + d) o) 0 ≤ b + d
@@ -129,24 +176,44 @@ module _ (base : ℕ) (g : Graph) (order : List ℕ) (frozen : List (Option ℕ)
     end_from (Some n) d b h = omega arith
 
     fault_le : (p : ℕ) → p < process_count g → fault_of s p ≤ 8
-    fault_le p l = omega (arith, get_or-le-sum_by (λ (n : ℕ). n) s.faults p 0 (omega (arith, lawful.faults)), lawful.budget, within.faults)
+    fault_le p l = omega (
+      arith,
+      get_or-le-sum_by (λ (n : ℕ). n) s.faults p 0 (omega (arith, lawful.faults)),
+      lawful.budget,
+      within.faults,
+    )
 
     end_le : (p b : ℕ) → p < process_count g → time_in t p ≤ b → end_in t p ≤ b + 600000000000
     end_le p b l h =
-        let e : end_in t p ≡ unwrap_or (end_by g s t p) 0 = ap (λ o. unwrap_or o 0) (end_is g order frozen s t run p l) in
-        omega (arith, end_from (get_or t.times p None) (duration g p (fault_of s p)) b h, duration-le g p (fault_of s p) within l (fault_le p l))
+        let e : end_in t p ≡ unwrap_or (end_by g s t p) 0 =
+        ap (λ o. unwrap_or o 0) (end_is g order frozen s t run p l) in
+        omega (
+          arith,
+          end_from (get_or t.times p None) (duration g p (fault_of s p)) b h,
+          duration-le g p (fault_of s p) within l (fault_le p l),
+        )
 
     pub small_before : (m : ℕ) → SmallBefore m
     small_before zero = record { items = λ x l h. absurd (omega arith); ends = λ p l h. absurd (omega arith) }
     small_before (suc m) =
         let a = small_before m in
         record {
-          items = λ x l h. omega (arith, time_le x (bound base m + 32000000000) l (unfrozen_le m x a (omega arith) l (item_cases g x l)) (λ time e. omega (arith, low.low x time l e)));
-          ends = λ p l h. omega (arith, end_le p (bound base m) l (a.items p (omega arith) (omega (arith, moment_of_start g order topological p l))));
+          items = λ x l h. omega (
+            arith,
+            time_le x (bound base m + 32000000000) l (unfrozen_le m x a (omega arith) l (item_cases g x l))
+                (λ time e. omega (arith, low.low x time l e)),
+          );
+          ends = λ p l h. omega (
+            arith,
+            end_le p (bound base m) l
+                (a.items p (omega arith) (omega (arith, moment_of_start g order topological p l))),
+          );
         }
 
-    pub unfrozen_low : (x : ℕ) → x < item_count g → unfrozen_time g order s t x ≤ bound base (moment g order x) + 32000000000
-    unfrozen_low x l = unfrozen_le (moment g order x) x (small_before (moment g order x)) (omega arith) l (item_cases g x l)
+    pub unfrozen_low : (x : ℕ) → x < item_count g →
+        unfrozen_time g order s t x ≤ bound base (moment g order x) + 32000000000
+    unfrozen_low x l =
+        unfrozen_le (moment g order x) x (small_before (moment g order x)) (omega arith) l (item_cases g x l)
 
 -- the last moment is no later than this
 pub last_le : (g : Graph) → IsWithinLimits g → last g ≤ 128 * 259

@@ -1,4 +1,5 @@
--- Rows have the times of the runs, process after process; and what is said of a row rests on the rows of earlier processes.
+-- Rows have the times of the runs, process after process; and what is said of a row rests on the rows of earlier
+-- processes.
 use Rattle.std.proofs.Common.{ℕ, zero, suc, ◌<◌, ◌≤◌, ◌≡◌, List, Contains, Option, arith, sym, ◌∙◌, subst}
 use Rattle.cpg_base.specs.Graph.{Graph, item_count, producer}
 use Rattle.cpg_base.specs.Order.{place}
@@ -13,45 +14,74 @@ use Rattle.cpg_run.proofs.EntriesMerge.{entries_times}
 
 -- ---- the rows of later processes may change
 
-module _ (g : Graph) (urgency order : List ℕ) (frozen : List (Option ℕ)) (timed : IsTimed g urgency order frozen) (rows others : List (List Column)) (x : ℕ) (l : x < item_count g)
+module _ (g : Graph) (urgency order : List ℕ) (frozen : List (Option ℕ)) (timed : IsTimed g urgency order frozen)
+    (rows others : List (List Column)) (x : ℕ) (l : x < item_count g)
     (same : SameRowsBefore g order (place order (producer g x)) rows others) where
   carried_alike : (s : Scenario) → carried g order rows s x ≡ carried g order others s x
-  carried_alike s = carried_same g order timed.admitted.topological rows others (place order (producer g x)) same s x l (omega arith)
+  carried_alike s =
+      carried_same g order timed.admitted.topological rows others (place order (producer g x)) same s x l (omega arith)
 
-  pub entry_alike : (s : Scenario) (e : Column) → IsEntryIn g order frozen rows x s e → IsEntryIn g order frozen others x s e
-  entry_alike s e is = record { lawful = is.lawful; active = is.active; time = is.time; cube = subst (λ ls. IsCubeOf g.faults ls e.cube) (carried_alike s) is.cube }
+  pub entry_alike : (s : Scenario) (e : Column) → IsEntryIn g order frozen rows x s e →
+      IsEntryIn g order frozen others x s e
+  entry_alike s e is = record {
+    lawful = is.lawful;
+    active = is.active;
+    time = is.time;
+    cube = subst (λ ls. IsCubeOf g.faults ls e.cube) (carried_alike s) is.cube;
+  }
 
   entry_back : (s : Scenario) (e : Column) → IsEntryIn g order frozen others x s e → IsEntryIn g order frozen rows x s e
-  entry_back s e is = record { lawful = is.lawful; active = is.active; time = is.time; cube = subst (λ ls. IsCubeOf g.faults ls e.cube) (sym (carried_alike s)) is.cube }
+  entry_back s e is = record {
+    lawful = is.lawful;
+    active = is.active;
+    time = is.time;
+    cube = subst (λ ls. IsCubeOf g.faults ls e.cube) (sym (carried_alike s)) is.cube;
+  }
 
-  pub entries_alike : (entries : List Column) → AreEntriesOf g order frozen rows x entries → AreEntriesOf g order frozen others x entries
+  pub entries_alike : (entries : List Column) → AreEntriesOf g order frozen rows x entries →
+      AreEntriesOf g order frozen others x entries
   entries_alike entries are = record {
     each = λ e j. entry_alike _ e (are.each e j);
     apart = are.apart;
     all = λ s e is least. are.all s e (entry_back s e is) least;
   }
 
-  pub row_alike : row_at rows x ≡ row_at others x → IsRowOf g urgency order frozen rows x → IsRowOf g urgency order frozen others x
-  row_alike own is = record { entries = is.entries; are = entries_alike is.entries is.are; merge = subst (λ columns. IsMergeOf g urgency is.entries columns) own is.merge }
+  pub row_alike : row_at rows x ≡ row_at others x → IsRowOf g urgency order frozen rows x →
+      IsRowOf g urgency order frozen others x
+  row_alike own is = record {
+    entries = is.entries;
+    are = entries_alike is.entries is.are;
+    merge = subst (λ columns. IsMergeOf g urgency is.entries columns) own is.merge;
+  }
 
 -- ---- rows have the times of the runs
 
-module _ (g : Graph) (urgency order : List ℕ) (frozen : List (Option ℕ)) (timed : IsTimed g urgency order frozen) (rows : List (List Column)) where
-  rows_below : (n bound : ℕ) → bound ≤ n → ((y : ℕ) → IsEarlier g order bound y → IsRowOf g urgency order frozen rows y) → AreRowsBefore g order frozen bound rows
-  rows_below zero bound h found = record { cubes = λ y e. absurd (omega (arith, e.1, h)); times = λ y e. absurd (omega (arith, e.1, h)) }
+module _ (g : Graph) (urgency order : List ℕ) (frozen : List (Option ℕ)) (timed : IsTimed g urgency order frozen)
+    (rows : List (List Column)) where
+  rows_below : (n bound : ℕ) → bound ≤ n →
+      ((y : ℕ) → IsEarlier g order bound y → IsRowOf g urgency order frozen rows y) →
+      AreRowsBefore g order frozen bound rows
+  rows_below zero bound h found =
+      record { cubes = λ y e. absurd (omega (arith, e.1, h)); times = λ y e. absurd (omega (arith, e.1, h)) }
   rows_below (suc n) bound h found = record {
     cubes = λ y e. (found y e).merge.cubes;
     times = λ y e s t law run.
-        let earlier = rows_below n (place order (producer g y)) (omega (arith, e.1, h)) (λ v i. found v (i.0, omega (arith, i.1, e.1))) in
-        (found y e).merge.times s law ∙ entries_times g urgency order frozen rows y timed e.0 earlier (found y e).entries (found y e).are s t law run;
+        let earlier = rows_below n (place order (producer g y)) (omega (arith, e.1, h))
+        (λ v i. found v (i.0, omega (arith, i.1, e.1))) in
+        (found y e).merge.times s law ∙ entries_times g urgency order frozen rows y timed e.0 earlier
+        (found y e).entries (found y e).are s t law run;
   }
 
   -- the rows of earlier processes, each found from those before it
-  pub rows_before : (bound : ℕ) → ((y : ℕ) → IsEarlier g order bound y → IsRowOf g urgency order frozen rows y) → AreRowsBefore g order frozen bound rows
+  pub rows_before : (bound : ℕ) → ((y : ℕ) → IsEarlier g order bound y → IsRowOf g urgency order frozen rows y) →
+      AreRowsBefore g order frozen bound rows
   rows_before bound found = rows_below bound bound (omega arith) found
 
-  pub row_times : (x : ℕ) → x < item_count g → AreRowsBefore g order frozen (place order (producer g x)) rows → IsRowOf g urgency order frozen rows x → HaveTimesOf g order frozen x (row_at rows x)
-  row_times x l earlier is s t law run = is.merge.times s law ∙ entries_times g urgency order frozen rows x timed l earlier is.entries is.are s t law run
+  pub row_times : (x : ℕ) → x < item_count g → AreRowsBefore g order frozen (place order (producer g x)) rows →
+      IsRowOf g urgency order frozen rows x →
+      HaveTimesOf g order frozen x (row_at rows x)
+  row_times x l earlier is s t law run =
+      is.merge.times s law ∙ entries_times g urgency order frozen rows x timed l earlier is.entries is.are s t law run
 
   module _ (all : AreRows g urgency order frozen rows) where
     pub all_before : (bound : ℕ) → AreRowsBefore g order frozen bound rows

@@ -1,10 +1,13 @@
--- Two scenarios, the second of which has literals that were told in the first: what a row of an earlier process tells there.
-use Rattle.std.proofs.Common.{ℕ, ◌<◌, ◌≡◌, true, false, List, [], ◌∷◌, length, map, filter, flat_map, get_or, Contains, Option, Some, None, option_to_list, append-nil, arith, refl, sym, ap, ◌∙◌}
+-- Two scenarios, the second of which has literals that were told in the first: what a row of an earlier process tells
+-- there.
+use Rattle.std.proofs.Common.{ℕ, ◌<◌, ◌≡◌, true, false, List, [], ◌∷◌, length, map, filter, flat_map, get_or, Contains}
+use Rattle.std.proofs.Common.{Option, Some, None, option_to_list, append-nil, arith, refl, sym, ap, ◌∙◌}
 use Rattle.std.proofs.Common.{subst, inl, inr}
 use Rattle.std.proofs.lemmas.Bool.{cond-false}
 use Rattle.cpg_base.specs.Graph.{Graph, item_count, item_at}
 use Rattle.cpg_base.specs.Activity.{item_active}
-use Rattle.cpg_base.proofs.Lists.{Contains-first, Contains-cases, Contains-nil, Contains-map, Contains-filter, Contains-filter_parts, in_option}
+use Rattle.cpg_base.proofs.Lists.{Contains-first, Contains-cases, Contains-nil, Contains-map, Contains-filter}
+use Rattle.cpg_base.proofs.Lists.{Contains-filter_parts, in_option}
 use Rattle.cpg_base.specs.Scenario.{Scenario, IsScenario}
 use Rattle.cpg_cube.specs.Cube.{matches}
 use Rattle.cpg_cube.specs.Column.{Column}
@@ -14,7 +17,8 @@ use Rattle.cpg_run.specs.Carried.{row_at, carried_by_row}
 use Rattle.cpg_run.specs.RowLaws.{HaveTimesOf}
 
 -- a list that a function makes one of is one, and one that it makes nothing of is nothing
-pub one_of_map : {X : Type 0} (f : X → ℕ) (xs : List X) (z : ℕ) → map f xs ≡ z ∷ [] → (x : X) × (xs ≡ x ∷ []) × (f x ≡ z)
+pub one_of_map : {X : Type 0} (f : X → ℕ) (xs : List X) (z : ℕ) → map f xs ≡ z ∷ [] →
+    (x : X) × (xs ≡ x ∷ []) × (f x ≡ z)
 one_of_map f [] z e = absurd (omega (arith, ap length e))
 one_of_map f (x ∷ []) z e = (x, refl, ap (λ (ns : List ℕ). get_or ns 0 z) e)
 one_of_map f (x ∷ y ∷ xs) z e = absurd (omega (arith, ap length e))
@@ -30,11 +34,15 @@ only_one x y j = elim (Contains-cases x [] y j) [ inl e ↦ e | inr none ↦ abs
 matching_in : List (List Column) → Scenario → ℕ → List Column
 matching_in rows s y = filter (λ (c : Column). matches c.cube s) (row_at rows y)
 
-module _ (g : Graph) (order : List ℕ) (frozen : List (Option ℕ)) (rows : List (List Column)) (y : ℕ) (l : y < item_count g) (times : HaveTimesOf g order frozen y (row_at rows y)) where
+module _ (g : Graph) (order : List ℕ) (frozen : List (Option ℕ)) (rows : List (List Column)) (y : ℕ)
+    (l : y < item_count g) (times : HaveTimesOf g order frozen y (row_at rows y)) where
   -- an inactive item's row tells nothing
-  pub tells_nothing : (s : Scenario) → IsScenario g s → (t : Times) → IsRun g order frozen s t → item_active g s.values (item_at g y) ≡ false → carried_by_row rows s y ≡ []
+  pub tells_nothing : (s : Scenario) → IsScenario g s → (t : Times) → IsRun g order frozen s t →
+      item_active g s.values (item_at g y) ≡ false →
+      carried_by_row rows s y ≡ []
   unfolding matching_in
-  tells_nothing s law t run off = ap (flat_map (λ (c : Column). c.cube)) (none_of_map (λ (c : Column). c.time) (matching_in rows s y)
+  tells_nothing s law t run off =
+      ap (flat_map (λ (c : Column). c.cube)) (none_of_map (λ (c : Column). c.time) (matching_in rows s y)
       (times s t law run ∙ ap option_to_list (time_is g order frozen s t run y l ∙ cond-false _ _ _ off)))
 
   -- one column of an active item's row matches, with the time of the run
@@ -46,11 +54,14 @@ module _ (g : Graph) (order : List ℕ) (frozen : List (Option ℕ)) (rows : Lis
     pub matched : matches column.cube s ≡ true
     pub tells : carried_by_row rows s y ≡ column.cube
 
-  pub the_match : (s : Scenario) → IsScenario g s → (t : Times) → IsRun g order frozen s t → item_active g s.values (item_at g y) ≡ true → Match s t
+  pub the_match : (s : Scenario) → IsScenario g s → (t : Times) → IsRun g order frozen s t →
+      item_active g s.values (item_at g y) ≡ true → Match s t
   unfolding matching_in
   the_match s law t run on =
-      let r = one_of_map (λ (c : Column). c.time) (matching_in rows s y) (time_in t y) (times s t law run ∙ ap option_to_list (has_time g order frozen s t run y l on)) in
-      let q = Contains-filter_parts (λ (c : Column). matches c.cube s) (row_at rows y) r.0 (subst (λ cs. Contains cs r.0) (sym r.1) (Contains-first r.0 [])) in
+      let r = one_of_map (λ (c : Column). c.time) (matching_in rows s y) (time_in t y)
+      (times s t law run ∙ ap option_to_list (has_time g order frozen s t run y l on)) in
+      let q = Contains-filter_parts (λ (c : Column). matches c.cube s) (row_at rows y) r.0
+      (subst (λ cs. Contains cs r.0) (sym r.1) (Contains-first r.0 [])) in
       record {
         column = r.0;
         only = r.1;
@@ -60,7 +71,8 @@ module _ (g : Graph) (order : List ℕ) (frozen : List (Option ℕ)) (rows : Lis
         tells = ap (flat_map (λ (c : Column). c.cube)) r.1 ∙ append-nil r.0.cube;
       }
 
-  module _ (s u : Scenario) (ls : IsScenario g s) (lu : IsScenario g u) (t w : Times) (run : IsRun g order frozen s t) (other : IsRun g order frozen u w) where
+  module _ (s u : Scenario) (ls : IsScenario g s) (lu : IsScenario g u) (t w : Times) (run : IsRun g order frozen s t)
+      (other : IsRun g order frozen u w) where
     -- the item is active in the second scenario too, at the same time, and its row tells the same
     pub record SameTold : Type 0 where
       pub acts : item_active g u.values (item_at g y) ≡ true
@@ -73,7 +85,8 @@ module _ (g : Graph) (order : List ℕ) (frozen : List (Option ℕ)) (rows : Lis
         let m = the_match s ls t run on in
         let c : Column = m.column in
         let matched : matches c.cube u ≡ true = subst (λ ls. matches ls u ≡ true) m.tells h in
-        let there : Contains (filter (λ (c : Column). matches c.cube u) (row_at rows y)) c = Contains-filter (λ (c : Column). matches c.cube u) (row_at rows y) c matched m.stands in
+        let there : Contains (filter (λ (c : Column). matches c.cube u) (row_at rows y)) c =
+        Contains-filter (λ (c : Column). matches c.cube u) (row_at rows y) c matched m.stands in
         let found : get_or w.times y None ≡ Some c.time = in_option (get_or w.times y None) c.time
         (subst (λ ns. Contains ns c.time) (times u w lu other) (Contains-map (λ (c : Column). c.time) _ c there)) in
         let acts = (time_parts g order frozen u w other y c.time found).1 in

@@ -1,9 +1,11 @@
 -- Two scenarios, the second of which has what is carried beside an item in the first: the item is the same in it.
-use Rattle.std.proofs.Common.{ℕ, zero, suc, ◌+◌, ◌<◌, ◌≤◌, ◌≡◌, ◌&&◌, Bool, true, false, not, if◌then◌else◌, List, [], ◌∷◌, ◌++◌, map, filter, flat_map, get_or, Contains, Option, Some, None, is_some}
+use Rattle.std.proofs.Common.{ℕ, zero, suc, ◌+◌, ◌<◌, ◌≤◌, ◌≡◌, ◌&&◌, Bool, true, false, not, if◌then◌else◌, List, []}
+use Rattle.std.proofs.Common.{◌∷◌, ◌++◌, map, filter, flat_map, get_or, Contains, Option, Some, None, is_some}
 use Rattle.std.proofs.Common.{option_to_list, unwrap_or, arith, refl, sym, ap, ap₂, ◌∙◌, subst, inl, inr}
 use Rattle.std.proofs.lemmas.Bool.{cases_Bool, cond-true, cond-false, and_parts, and_from, not_from_false, not-true}
 use Rattle.cpg_base.specs.Numbers.{greatest}
-use Rattle.cpg_base.specs.Graph.{Graph, process_count, edge_count, condition_count, item_count, item_at, edge_at, source, is_sent, is_sent_item, is_frozen, home, producer, producer_of_item}
+use Rattle.cpg_base.specs.Graph.{Graph, process_count, edge_count, condition_count, item_count, item_at, edge_at}
+use Rattle.cpg_base.specs.Graph.{source, is_sent, is_sent_item, is_frozen, home, producer, producer_of_item}
 use Rattle.cpg_base.specs.Graph.{process_of, condition_of, value_variable}
 use Rattle.cpg_base.specs.declared.item.Item.{Item}
 use Rattle.cpg_base.specs.declared.item.Item.TheVariants.{Start, Message, Broadcast}
@@ -26,97 +28,134 @@ use Rattle.cpg_table.specs.Heard.{exactly}
 use Rattle.cpg_run.specs.Run.{Times, IsRun, time_in, send_bounds}
 use Rattle.cpg_run.proofs.RunExists.{a_run}
 use Rattle.cpg_run.proofs.Runs.{unfrozen_sent}
-use Rattle.cpg_run.specs.Carried.{number_known, decided, carried_at_start, carried_at_end, sent_by_value, queued, carried_at_send, carried_by_item, carried}
+use Rattle.cpg_run.specs.Carried.{number_known, decided, carried_at_start, carried_at_end, sent_by_value, queued}
+use Rattle.cpg_run.specs.Carried.{carried_at_send, carried_by_item, carried}
 use Rattle.cpg_run.specs.RowLaws.{CarriedDecides}
 use Rattle.cpg_run.proofs.CubesOf.{holds_left, holds_right, holds_each, holds_both, holds_all, same_numbers}
 use Rattle.cpg_run.proofs.Queued.{producer_no_later, queue_chain}
-use Rattle.cpg_run.proofs.SameStarts.{Two, SameStart, start_alike, end_is_same, end_told_same, active_is_same, decided_is_same, frozen_time_same, free_time_same}
+use Rattle.cpg_run.proofs.SameStarts.{Two, SameStart, start_alike, end_is_same, end_told_same, active_is_same}
+use Rattle.cpg_run.proofs.SameStarts.{decided_is_same, frozen_time_same, free_time_same}
 
 -- an active item's producer is active
-pub producer_active : (g : Graph) (values : List Bool) (i : Item) → item_active g values i ≡ true → active g values (producer_of_item g i) ≡ true
+pub producer_active : (g : Graph) (values : List Bool) (i : Item) → item_active g values i ≡ true →
+    active g values (producer_of_item g i) ≡ true
 producer_active g values (Start p) a = a
-producer_active g values (Message e) a = (and_parts _ _ (and_parts (is_sent_item g (Message e)) (live g values e) a).1).0
+producer_active g values (Message e) a =
+    (and_parts _ _ (and_parts (is_sent_item g (Message e)) (live g values e) a).1).0
 producer_active g values (Broadcast c) a = (and_parts (is_sent_item g (Broadcast c)) _ a).1
 
 -- the source's value is told of a conditional edge
-pub value_in_source : (g : Graph) (e c : ℕ) (wanted : Bool) → c < condition_count g → process_of g c ≡ source g e → (edge_at g e).when ≡ Some wanted → Contains (source_value g e) (value_variable c)
+pub value_in_source : (g : Graph) (e c : ℕ) (wanted : Bool) → c < condition_count g → process_of g c ≡ source g e →
+    (edge_at g e).when ≡ Some wanted →
+    Contains (source_value g e) (value_variable c)
 value_in_source g e c wanted h at is =
-    subst (λ o. Contains (if is_some o then map value_variable (option_to_list (condition_of g (source g e))) else []) (value_variable c)) (sym is)
-    (subst (λ o. Contains (map value_variable (option_to_list o)) (value_variable c)) (sym (subst (λ q. condition_of g q ≡ Some c) at (condition_of_process_of g c h)))
+    subst (λ o. Contains (if is_some o then map value_variable (option_to_list (condition_of g (source g e))) else [])
+    (value_variable c)) (sym is)
+    (subst (λ o. Contains (map value_variable (option_to_list o)) (value_variable c))
+    (sym (subst (λ q. condition_of g q ≡ Some c) at (condition_of_process_of g c h)))
     (Contains-first (value_variable c) []))
 
-module _ (g : Graph) (urgency order : List ℕ) (frozen : List (Option ℕ)) (rows : List (List Column)) (bound : ℕ) (s u : Scenario) (t w : Times)
+module _ (g : Graph) (urgency order : List ℕ) (frozen : List (Option ℕ)) (rows : List (List Column)) (bound : ℕ)
+    (s u : Scenario) (t w : Times)
     (z : Two g urgency order frozen rows bound s u t w) where
   -- ---- whether an item is sent
 
-  takes_is_same : (e : ℕ) → e < edge_count g → matches (map (number_known s) (source_value g e)) u ≡ true → (o : Option Bool) → (edge_at g e).when ≡ o →
+  takes_is_same : (e : ℕ) → e < edge_count g → matches (map (number_known s) (source_value g e)) u ≡ true →
+      (o : Option Bool) →
+      (edge_at g e).when ≡ o →
       takes o (value_of g s.values (source g e)) ≡ takes o (value_of g u.values (source g e))
   takes_is_same e l h None is = refl
   takes_is_same e l h (Some wanted) is = takes_same g order z.timed.admitted.topological s.values u.values e l
-      (λ c n at. one_value _ _ (sym (number_of-value s c) ∙ sym (same_numbers u s (source_value g e) h (value_variable c) (value_in_source g e c wanted n at is)) ∙ number_of-value u c))
+      (λ c n at. one_value _ _ (sym (number_of-value s c)
+      ∙ sym (same_numbers u s (source_value g e) h (value_variable c) (value_in_source g e c wanted n at is))
+      ∙ number_of-value u c))
       (Some wanted) is
 
   -- an item whose producer is as active, and whose value is the same if it is
-  item_is_same : (x : ℕ) → x < item_count g → active g s.values (producer g x) ≡ active g u.values (producer g x) → (active g s.values (producer g x) ≡ true → matches (sent_by_value g s x) u ≡ true) →
+  item_is_same : (x : ℕ) → x < item_count g → active g s.values (producer g x) ≡ active g u.values (producer g x) →
+      (active g s.values (producer g x) ≡ true → matches (sent_by_value g s x) u ≡ true) →
       item_active g s.values (item_at g x) ≡ item_active g u.values (item_at g x)
   item_is_same x l same h = elim (item_cases g x l) [
-    | inl c ↦ at c.1 (ap (λ i. active g s.values (producer_of_item g i)) (sym c.1) ∙ same ∙ ap (λ i. active g u.values (producer_of_item g i)) c.1)
+    | inl c ↦ at c.1 (ap (λ i. active g s.values (producer_of_item g i)) (sym c.1) ∙ same
+        ∙ ap (λ i. active g u.values (producer_of_item g i)) c.1)
     | inr (inl c) ↦ at c.3 (ap (λ b. is_sent_item g (Message c.0) && b) (edge c.0 c.1
-        (ap (λ i. active g s.values (producer_of_item g i)) (sym c.3) ∙ same ∙ ap (λ i. active g u.values (producer_of_item g i)) c.3)
-        (λ on. subst (λ i. matches (map (number_known s) (sent_value g i)) u ≡ true) c.3 (h (ap (λ i. active g s.values (producer_of_item g i)) c.3 ∙ on)))))
+        (ap (λ i. active g s.values (producer_of_item g i)) (sym c.3) ∙ same
+        ∙ ap (λ i. active g u.values (producer_of_item g i)) c.3)
+        (λ on. subst (λ i. matches (map (number_known s) (sent_value g i)) u ≡ true) c.3
+        (h (ap (λ i. active g s.values (producer_of_item g i)) c.3 ∙ on)))))
     | inr (inr c) ↦ at c.3 (ap (λ b. is_sent_item g (Broadcast c.0) && b)
-        (ap (λ i. active g s.values (producer_of_item g i)) (sym c.3) ∙ same ∙ ap (λ i. active g u.values (producer_of_item g i)) c.3))
+        (ap (λ i. active g s.values (producer_of_item g i)) (sym c.3) ∙ same
+        ∙ ap (λ i. active g u.values (producer_of_item g i)) c.3))
   ]
     where
-      at : {i : Item} → item_at g x ≡ i → item_active g s.values i ≡ item_active g u.values i → item_active g s.values (item_at g x) ≡ item_active g u.values (item_at g x)
+      at : {i : Item} → item_at g x ≡ i → item_active g s.values i ≡ item_active g u.values i →
+          item_active g s.values (item_at g x) ≡ item_active g u.values (item_at g x)
       at {i} e same = ap (item_active g s.values) e ∙ same ∙ sym (ap (item_active g u.values) e)
 
       edge : (e : ℕ) → e < edge_count g → active g s.values (source g e) ≡ active g u.values (source g e) →
-          (active g s.values (source g e) ≡ true → matches (map (number_known s) (source_value g e)) u ≡ true) → live g s.values e ≡ live g u.values e
+          (active g s.values (source g e) ≡ true → matches (map (number_known s) (source_value g e)) u ≡ true) →
+          live g s.values e ≡ live g u.values e
       edge e m same h = elim (cases_Bool (active g s.values (source g e))) [
         | inl on ↦ ap₂ ◌&&◌ same (takes_is_same e m (h on) (edge_at g e).when refl)
-        | inr off ↦ ap (λ b. b && takes (edge_at g e).when (value_of g s.values (source g e))) off ∙ sym (ap (λ b. b && takes (edge_at g e).when (value_of g u.values (source g e))) (sym same ∙ off))
+        | inr off ↦ ap (λ b. b && takes (edge_at g e).when (value_of g s.values (source g e))) off
+            ∙ sym (ap (λ b. b && takes (edge_at g e).when (value_of g u.values (source g e))) (sym same ∙ off))
       ]
 
   value_told_same : (x : ℕ) → matches (sent_by_value g s x) u ≡ true → sent_by_value g u x ≡ sent_by_value g s x
-  value_told_same x h = same_map (number_known u) (number_known s) (sent_value g (item_at g x)) (λ v j. ap (exactly v) (same_numbers u s (sent_value g (item_at g x)) h v j))
+  value_told_same x h = same_map (number_known u) (number_known s) (sent_value g (item_at g x))
+      (λ v j. ap (exactly v) (same_numbers u s (sent_value g (item_at g x)) h v j))
 
   -- ---- what an item leaves to those behind it
 
   record Leaves (y : ℕ) : Type 0 where
     decided : matches (decided g s (producer g y)) u ≡ true
     value : active g s.values (producer g y) ≡ true → matches (sent_by_value g s y) u ≡ true
-    sent : item_active g s.values (item_at g y) ≡ true → is_frozen g y ≡ false → matches (carried_at_end g order rows s (producer g y)) u ≡ true
+    sent : item_active g s.values (item_at g y) ≡ true → is_frozen g y ≡ false →
+        matches (carried_at_end g order rows s (producer g y)) u ≡ true
 
   leaves_parts : (y : ℕ) → matches (queued g order rows s y) u ≡ true → Leaves y
   leaves_parts y h =
-      let front = holds_left u (decided g s (producer g y) ++ (if active g s.values (producer g y) then sent_by_value g s y else []))
-      (if item_active g s.values (item_at g y) && not (is_frozen g y) then carried_at_end g order rows s (producer g y) else []) h in
+      let front = holds_left u
+      (decided g s (producer g y) ++ (if active g s.values (producer g y) then sent_by_value g s y else []))
+      (if item_active g s.values (item_at g y) && not (is_frozen g y)
+      then carried_at_end g order rows s (producer g y) else []) h in
       record {
-        decided = holds_left u (decided g s (producer g y)) (if active g s.values (producer g y) then sent_by_value g s y else []) front;
-        value = λ on. subst (λ ls. matches ls u ≡ true) (cond-true _ _ _ on) (holds_right u (decided g s (producer g y)) (if active g s.values (producer g y) then sent_by_value g s y else []) front);
+        decided = holds_left u (decided g s (producer g y))
+            (if active g s.values (producer g y) then sent_by_value g s y else []) front;
+        value = λ on. subst (λ ls. matches ls u ≡ true) (cond-true _ _ _ on) (holds_right u (decided g s (producer g y))
+            (if active g s.values (producer g y) then sent_by_value g s y else []) front);
         sent = λ on free. subst (λ ls. matches ls u ≡ true) (cond-true _ _ _ (and_from _ _ on (not_from_false _ free)))
-            (holds_right u (decided g s (producer g y) ++ (if active g s.values (producer g y) then sent_by_value g s y else []))
-            (if item_active g s.values (item_at g y) && not (is_frozen g y) then carried_at_end g order rows s (producer g y) else []) h);
+            (holds_right u
+            (decided g s (producer g y) ++ (if active g s.values (producer g y) then sent_by_value g s y else []))
+            (if item_active g s.values (item_at g y) && not (is_frozen g y)
+            then carried_at_end g order rows s (producer g y) else []) h);
       }
 
-  leaves_active : (y : ℕ) → y < item_count g → Leaves y → item_active g s.values (item_at g y) ≡ item_active g u.values (item_at g y)
-  leaves_active y l h = item_is_same y l (active_is_same g urgency order frozen rows bound s u t w z (producer g y) h.decided) h.value
+  leaves_active : (y : ℕ) → y < item_count g → Leaves y →
+      item_active g s.values (item_at g y) ≡ item_active g u.values (item_at g y)
+  leaves_active y l h =
+      item_is_same y l (active_is_same g urgency order frozen rows bound s u t w z (producer g y) h.decided) h.value
 
   -- ---- what is carried beside an end
 
   end_count : (p : ℕ) → matches (carried_at_end g order rows s p) u ≡ true → holds u (number_known s p) ≡ true
-  end_count p h = from_all (holds u) (number_known s p ∷ []) (number_known s p) (holds_right u (carried_at_start g order rows s p) (number_known s p ∷ []) h) (Contains-first (number_known s p) [])
+  end_count p h = from_all (holds u) (number_known s p ∷ []) (number_known s p) (holds_right u
+      (carried_at_start g order rows s p) (number_known s p ∷ []) h) (Contains-first (number_known s p) [])
 
-  end_start : (p : ℕ) → p < process_count g → place order p ≤ bound → active g s.values p ≡ true → matches (carried_at_end g order rows s p) u ≡ true →
+  end_start : (p : ℕ) → p < process_count g → place order p ≤ bound → active g s.values p ≡ true →
+      matches (carried_at_end g order rows s p) u ≡ true →
       SameStart g urgency order frozen rows bound s u t w z p
-  end_start p l at on h = start_alike g urgency order frozen rows bound s u t w z p l at on (holds_left u (carried_at_start g order rows s p) (number_known s p ∷ []) h)
+  end_start p l at on h = start_alike g urgency order frozen rows bound s u t w z p l at on
+      (holds_left u (carried_at_start g order rows s p) (number_known s p ∷ []) h)
 
-  end_told : (p : ℕ) → p < process_count g → place order p ≤ bound → active g s.values p ≡ true → matches (carried_at_end g order rows s p) u ≡ true →
+  end_told : (p : ℕ) → p < process_count g → place order p ≤ bound → active g s.values p ≡ true →
+      matches (carried_at_end g order rows s p) u ≡ true →
       carried_at_end g order rows u p ≡ carried_at_end g order rows s p
-  end_told p l at on h = end_told_same g urgency order frozen rows bound s u t w z p (end_start p l at on h) (end_count p h)
+  end_told p l at on h =
+      end_told_same g urgency order frozen rows bound s u t w z p (end_start p l at on h) (end_count p h)
 
-  leaves_same : (y : ℕ) → y < item_count g → place order (producer g y) ≤ bound → Leaves y → queued g order rows u y ≡ queued g order rows s y
+  leaves_same : (y : ℕ) → y < item_count g → place order (producer g y) ≤ bound → Leaves y →
+      queued g order rows u y ≡ queued g order rows s y
   leaves_same y l at h =
       let producers = active_is_same g urgency order frozen rows bound s u t w z (producer g y) h.decided in
       let acts = leaves_active y l h in
@@ -129,7 +168,8 @@ module _ (g : Graph) (urgency order : List ℕ) (frozen : List (Option ℕ)) (ro
       (elim (cases_Bool (item_active g s.values (item_at g y) && not (is_frozen g y))) [
         | inl on ↦ let r = and_parts _ _ on in
             cond-true _ _ _ (ap (λ b. b && not (is_frozen g y)) (sym acts) ∙ on)
-            ∙ end_told (producer g y) (producer_in_range g order z.timed.admitted.topological y l) at (producer_active g s.values (item_at g y) r.0) (h.sent r.0 (not-true _ r.1))
+            ∙ end_told (producer g y) (producer_in_range g order z.timed.admitted.topological y l) at
+            (producer_active g s.values (item_at g y) r.0) (h.sent r.0 (not-true _ r.1))
             ∙ sym (cond-true _ _ _ on)
         | inr off ↦ cond-false _ _ _ (ap (λ b. b && not (is_frozen g y)) (sym acts) ∙ off) ∙ sym (cond-false _ _ _ off)
       ])
@@ -143,64 +183,85 @@ module _ (g : Graph) (urgency order : List ℕ) (frozen : List (Option ℕ)) (ro
 
   -- the sends at moments before n
   Sooner : ℕ → Type 0
-  Sooner n = (y : ℕ) → moment g order y < n → y < item_count g → is_sent g y ≡ true → place order (producer g y) ≤ bound → item_active g s.values (item_at g y) ≡ true →
+  Sooner n = (y : ℕ) → moment g order y < n → y < item_count g → is_sent g y ≡ true →
+      place order (producer g y) ≤ bound → item_active g s.values (item_at g y) ≡ true →
       matches (carried_at_send g order rows s y) u ≡ true → SameSend y
 
   -- the parts of what is carried beside it
   front_of : (x : ℕ) → matches (carried_at_send g order rows s x) u ≡ true →
-      matches (if is_frozen g x then decided g s (producer g x) else flat_map (queued g order rows s) (queued_before g order x) ++ carried_at_end g order rows s (producer g x)) u ≡ true
-  front_of x h = holds_left u (if is_frozen g x then decided g s (producer g x) else flat_map (queued g order rows s) (queued_before g order x) ++ carried_at_end g order rows s (producer g x))
+      matches (if is_frozen g x then decided g s (producer g x) else flat_map (queued g order rows s)
+      (queued_before g order x) ++ carried_at_end g order rows s (producer g x)) u ≡ true
+  front_of x h = holds_left u (if is_frozen g x then decided g s (producer g x)
+      else flat_map (queued g order rows s) (queued_before g order x) ++ carried_at_end g order rows s (producer g x))
       (sent_by_value g s x) h
 
   value_of_send : (x : ℕ) → matches (carried_at_send g order rows s x) u ≡ true → matches (sent_by_value g s x) u ≡ true
-  value_of_send x h = holds_right u (if is_frozen g x then decided g s (producer g x) else flat_map (queued g order rows s) (queued_before g order x) ++ carried_at_end g order rows s (producer g x))
+  value_of_send x h = holds_right u (if is_frozen g x then decided g s (producer g x)
+      else flat_map (queued g order rows s) (queued_before g order x) ++ carried_at_end g order rows s (producer g x))
       (sent_by_value g s x) h
 
   free_front : (x : ℕ) → is_frozen g x ≡ false → matches (carried_at_send g order rows s x) u ≡ true →
-      matches (flat_map (queued g order rows s) (queued_before g order x) ++ carried_at_end g order rows s (producer g x)) u ≡ true
+      matches (flat_map (queued g order rows s) (queued_before g order x)
+      ++ carried_at_end g order rows s (producer g x)) u ≡ true
   free_front x free h = subst (λ ls. matches ls u ≡ true) (cond-false _ _ _ free) (front_of x h)
 
-  queued_holds : (x : ℕ) → is_frozen g x ≡ false → matches (carried_at_send g order rows s x) u ≡ true → (y : ℕ) → Contains (queued_before g order x) y → matches (queued g order rows s y) u ≡ true
+  queued_holds : (x : ℕ) → is_frozen g x ≡ false → matches (carried_at_send g order rows s x) u ≡ true → (y : ℕ) →
+      Contains (queued_before g order x) y →
+      matches (queued g order rows s y) u ≡ true
   queued_holds x free h y j = holds_each u (queued g order rows s) (queued_before g order x) y
-      (holds_left u (flat_map (queued g order rows s) (queued_before g order x)) (carried_at_end g order rows s (producer g x)) (free_front x free h)) j
+      (holds_left u (flat_map (queued g order rows s) (queued_before g order x))
+      (carried_at_end g order rows s (producer g x)) (free_front x free h)) j
 
-  end_holds : (x : ℕ) → is_frozen g x ≡ false → matches (carried_at_send g order rows s x) u ≡ true → matches (carried_at_end g order rows s (producer g x)) u ≡ true
-  end_holds x free h = holds_right u (flat_map (queued g order rows s) (queued_before g order x)) (carried_at_end g order rows s (producer g x)) (free_front x free h)
+  end_holds : (x : ℕ) → is_frozen g x ≡ false → matches (carried_at_send g order rows s x) u ≡ true →
+      matches (carried_at_end g order rows s (producer g x)) u ≡ true
+  end_holds x free h = holds_right u (flat_map (queued g order rows s) (queued_before g order x))
+      (carried_at_end g order rows s (producer g x)) (free_front x free h)
 
-  frozen_send : (x : ℕ) → x < item_count g → is_frozen g x ≡ true → item_active g s.values (item_at g x) ≡ true → matches (carried_at_send g order rows s x) u ≡ true → SameSend x
+  frozen_send : (x : ℕ) → x < item_count g → is_frozen g x ≡ true → item_active g s.values (item_at g x) ≡ true →
+      matches (carried_at_send g order rows s x) u ≡ true → SameSend x
   frozen_send x l f on h =
       let d = subst (λ ls. matches ls u ≡ true) (cond-true _ _ _ f) (front_of x h) in
-      let also = sym (item_is_same x l (active_is_same g urgency order frozen rows bound s u t w z (producer g x) d) (λ a. value_of_send x h)) ∙ on in
+      let also = sym (item_is_same x l (active_is_same g urgency order frozen rows bound s u t w z (producer g x) d)
+      (λ a. value_of_send x h)) ∙ on in
       record {
         acts = also;
         time = frozen_time_same g urgency order frozen rows bound s u t w z x l f on also;
-        told = ap₂ ◌++◌ (cond-true _ _ _ f ∙ decided_is_same g urgency order frozen rows bound s u t w z (producer g x) d ∙ sym (cond-true _ _ _ f)) (value_told_same x (value_of_send x h));
+        told =
+            ap₂ ◌++◌ (cond-true _ _ _ f ∙ decided_is_same g urgency order frozen rows bound s u t w z (producer g x) d
+            ∙ sym (cond-true _ _ _ f)) (value_told_same x (value_of_send x h));
       }
 
-  module _ (x : ℕ) (within : x < item_count g) (sent : is_sent g x ≡ true) (at : place order (producer g x) ≤ bound) (free : is_frozen g x ≡ false) (on : item_active g s.values (item_at g x) ≡ true)
+  module _ (x : ℕ) (within : x < item_count g) (sent : is_sent g x ≡ true) (at : place order (producer g x) ≤ bound)
+      (free : is_frozen g x ≡ false) (on : item_active g s.values (item_at g x) ≡ true)
       (h : matches (carried_at_send g order rows s x) u ≡ true) (sooner : Sooner (moment g order x)) where
     leaves : (y : ℕ) → Contains (queued_before g order x) y → Leaves y
     leaves y j = leaves_parts y (queued_holds x free h y j)
 
     -- what is carried beside an item before it in the queue
-    carried_before : (y : ℕ) → Contains (queued_before g order x) y → item_active g s.values (item_at g y) ≡ true → matches (carried_at_send g order rows s y) u ≡ true
+    carried_before : (y : ℕ) → Contains (queued_before g order x) y → item_active g s.values (item_at g y) ≡ true →
+        matches (carried_at_send g order rows s y) u ≡ true
     carried_before y j acts =
         let mine = leaves y j in
         let value = mine.value (producer_active g s.values (item_at g y) acts) in
-        holds_both u (if is_frozen g y then decided g s (producer g y) else flat_map (queued g order rows s) (queued_before g order y) ++ carried_at_end g order rows s (producer g y))
+        holds_both u (if is_frozen g y then decided g s (producer g y) else flat_map (queued g order rows s)
+        (queued_before g order y) ++ carried_at_end g order rows s (producer g y))
         (sent_by_value g s y)
         (elim (cases_Bool (is_frozen g y)) [
           | inl f ↦ subst (λ ls. matches ls u ≡ true) (sym (cond-true _ _ _ f)) mine.decided
           | inr f ↦ subst (λ ls. matches ls u ≡ true) (sym (cond-false _ _ _ f))
-              (holds_both u (flat_map (queued g order rows s) (queued_before g order y)) (carried_at_end g order rows s (producer g y))
-              (holds_all u (queued g order rows s) (queued_before g order y) (λ v i. queued_holds x free h v (queue_chain g order x y v j i)))
+              (holds_both u (flat_map (queued g order rows s) (queued_before g order y))
+              (carried_at_end g order rows s (producer g y))
+              (holds_all u (queued g order rows s) (queued_before g order y)
+              (λ v i. queued_holds x free h v (queue_chain g order x y v j i)))
               (mine.sent acts f))
         ]) value
 
-    queued_same : (y : ℕ) → Contains (queued_before g order x) y → item_active g s.values (item_at g y) ≡ true → get_or t.times y None ≡ get_or w.times y None
+    queued_same : (y : ℕ) → Contains (queued_before g order x) y → item_active g s.values (item_at g y) ≡ true →
+        get_or t.times y None ≡ get_or w.times y None
     unfolding Sooner
     queued_same y j acts = let q = queued_parts g order z.timed.admitted.topological x y within sent j in
-        (sooner y q.less q.within q.sent (omega (arith, producer_no_later g order x y j, at)) acts (carried_before y j acts)).time
+        (sooner y q.less q.within q.sent (omega (arith, producer_no_later g order x y j, at)) acts
+        (carried_before y j acts)).time
 
     producer_within : producer g x < process_count g
     producer_within = producer_in_range g order z.timed.admitted.topological x within
@@ -213,11 +274,17 @@ module _ (g : Graph) (urgency order : List ℕ) (frozen : List (Option ℕ)) (ro
 
     bounds_same : send_bounds g order s t x ≡ send_bounds g order u w x
     bounds_same = ap₂ ◌∷◌
-        (ap (next_slot g (home g x)) (end_is_same g urgency order frozen rows bound s u t w z (producer g x) producer_within producer_on start (end_count (producer g x) (end_holds x free h))))
-        (same_map (λ y. time_in t y + round g) (λ y. time_in w y + round g) (filter (λ y. item_active g s.values (item_at g y)) (queued_before g order x))
-        (λ y j. let r = Contains-filter_parts (λ y. item_active g s.values (item_at g y)) (queued_before g order x) y j in ap (λ o. unwrap_or o 0 + round g) (queued_same y r.0 r.1))
-        ∙ ap (map (λ y. time_in w y + round g)) (same_filter (λ y. item_active g s.values (item_at g y)) (λ y. item_active g u.values (item_at g y)) (queued_before g order x)
-        (λ y j. leaves_active y (queued_parts g order z.timed.admitted.topological x y within sent j).within (leaves y j))))
+        (ap (next_slot g (home g x)) (end_is_same g urgency order frozen rows bound s u t w z
+        (producer g x) producer_within producer_on start (end_count (producer g x) (end_holds x free h))))
+        (same_map (λ y. time_in t y + round g) (λ y. time_in w y + round g)
+        (filter (λ y. item_active g s.values (item_at g y)) (queued_before g order x))
+        (λ y j.
+        let r = Contains-filter_parts (λ y. item_active g s.values (item_at g y)) (queued_before g order x) y j in
+        ap (λ o. unwrap_or o 0 + round g) (queued_same y r.0 r.1))
+        ∙ ap (map (λ y. time_in w y + round g)) (same_filter (λ y. item_active g s.values (item_at g y))
+        (λ y. item_active g u.values (item_at g y)) (queued_before g order x)
+        (λ y j.
+        leaves_active y (queued_parts g order z.timed.admitted.topological x y within sent j).within (leaves y j))))
 
     free_send : SameSend x
     free_send =
@@ -225,12 +292,14 @@ module _ (g : Graph) (urgency order : List ℕ) (frozen : List (Option ℕ)) (ro
         record {
           acts = also;
           time = free_time_same g urgency order frozen rows bound s u t w z x within on also
-              (unfrozen_sent g order frozen s t z.run x sent ∙ ap greatest bounds_same ∙ sym (unfrozen_sent g order frozen u w z.other x sent));
+              (unfrozen_sent g order frozen s t z.run x sent ∙ ap greatest bounds_same
+              ∙ sym (unfrozen_sent g order frozen u w z.other x sent));
           told = ap₂ ◌++◌
               (cond-false _ _ _ free
               ∙ ap₂ ◌++◌
               (same_flat_map (queued g order rows u) (queued g order rows s) (queued_before g order x)
-              (λ y j. leaves_same y (queued_parts g order z.timed.admitted.topological x y within sent j).within (omega (arith, producer_no_later g order x y j, at)) (leaves y j)))
+              (λ y j. leaves_same y (queued_parts g order z.timed.admitted.topological x y within sent j).within
+              (omega (arith, producer_no_later g order x y j, at)) (leaves y j)))
               (end_told (producer g x) producer_within at producer_on (end_holds x free h))
               ∙ sym (cond-false _ _ _ free))
               (value_told_same x (value_of_send x h));
@@ -244,7 +313,8 @@ module _ (g : Graph) (urgency order : List ℕ) (frozen : List (Option ℕ)) (ro
     | inr free ↦ free_send y l e at free on h (λ v c. sends_below n v (omega (arith, b, c)))
   ]
 
-  send_alike : (x : ℕ) → x < item_count g → is_sent g x ≡ true → place order (producer g x) ≤ bound → item_active g s.values (item_at g x) ≡ true →
+  send_alike : (x : ℕ) → x < item_count g → is_sent g x ≡ true → place order (producer g x) ≤ bound →
+      item_active g s.values (item_at g x) ≡ true →
       matches (carried_at_send g order rows s x) u ≡ true → SameSend x
   unfolding Sooner
   send_alike x l e at on h = sends_below (suc (moment g order x)) x (omega arith) l e at on h
@@ -256,42 +326,55 @@ module _ (g : Graph) (urgency order : List ℕ) (frozen : List (Option ℕ)) (ro
     pub time : get_or t.times x None ≡ get_or w.times x None
     pub told : carried g order rows u x ≡ carried g order rows s x
 
-  from_send : (x : ℕ) (i : Item) → item_at g x ≡ i → carried_by_item g order rows u x i ≡ carried_at_send g order rows u x → carried_by_item g order rows s x i ≡ carried_at_send g order rows s x →
+  from_send : (x : ℕ) (i : Item) → item_at g x ≡ i →
+      carried_by_item g order rows u x i ≡ carried_at_send g order rows u x →
+      carried_by_item g order rows s x i ≡ carried_at_send g order rows s x →
       SameSend x → SameItem x
   from_send x i item a b same = record {
     acts = same.acts;
     time = same.time;
-    told = ap (carried_by_item g order rows u x) item ∙ a ∙ same.told ∙ sym (ap (carried_by_item g order rows s x) item ∙ b);
+    told = ap (carried_by_item g order rows u x) item ∙ a ∙ same.told
+        ∙ sym (ap (carried_by_item g order rows s x) item ∙ b);
   }
 
   -- an item with what is carried beside it is the same in both
-  pub item_alike : (x : ℕ) → x < item_count g → place order (producer g x) ≤ bound → item_active g s.values (item_at g x) ≡ true → matches (carried g order rows s x) u ≡ true → SameItem x
+  pub item_alike : (x : ℕ) → x < item_count g → place order (producer g x) ≤ bound →
+      item_active g s.values (item_at g x) ≡ true → matches (carried g order rows s x) u ≡ true → SameItem x
   item_alike x l at on h = elim (item_cases g x l) [
     | inl c ↦
-        let same = start_alike g urgency order frozen rows bound s u t w z x c.0 (omega (arith, at, ap (λ i. place order (producer_of_item g i)) c.1)) (sym (ap (item_active g s.values) c.1) ∙ on)
+        let same = start_alike g urgency order frozen rows bound s u t w z x c.0
+        (omega (arith, at, ap (λ i. place order (producer_of_item g i)) c.1))
+        (sym (ap (item_active g s.values) c.1) ∙ on)
         (subst (λ i. matches (carried_by_item g order rows s x i) u ≡ true) c.1 h) in
         record {
           acts = ap (item_active g u.values) c.1 ∙ same.acts;
           time = same.time;
-          told = ap (carried_by_item g order rows u x) c.1 ∙ same.told ∙ sym (ap (carried_by_item g order rows s x) c.1);
+          told =
+              ap (carried_by_item g order rows u x) c.1 ∙ same.told ∙ sym (ap (carried_by_item g order rows s x) c.1);
         }
     | inr (inl c) ↦ from_send x (Message c.0) c.3 refl refl
-        (send_alike x l (ap (is_sent_item g) c.3 ∙ (and_parts (is_sent_item g (Message c.0)) (live g s.values c.0) (sym (ap (item_active g s.values) c.3) ∙ on)).0) at on
+        (send_alike x l (ap (is_sent_item g) c.3 ∙ (and_parts (is_sent_item g (Message c.0)) (live g s.values c.0)
+        (sym (ap (item_active g s.values) c.3) ∙ on)).0) at on
         (subst (λ i. matches (carried_by_item g order rows s x i) u ≡ true) c.3 h))
     | inr (inr c) ↦ from_send x (Broadcast c.0) c.3 refl refl
-        (send_alike x l (ap (is_sent_item g) c.3 ∙ (and_parts (is_sent_item g (Broadcast c.0)) (active g s.values (process_of g c.0)) (sym (ap (item_active g s.values) c.3) ∙ on)).0) at on
+        (send_alike x l (ap (is_sent_item g) c.3 ∙ (and_parts (is_sent_item g (Broadcast c.0))
+        (active g s.values (process_of g c.0)) (sym (ap (item_active g s.values) c.3) ∙ on)).0) at on
         (subst (λ i. matches (carried_by_item g order rows s x i) u ≡ true) c.3 h))
   ]
 
 pub carried_decides : CarriedDecides
 carried_decides g urgency order frozen rows s u x timed l earlier ls lu on h =
-    let two : (t w : Times) → IsRun g order frozen s t → IsRun g order frozen u w → Two g urgency order frozen rows (place order (producer g x)) s u t w =
-    λ t w run other. record { timed = timed; times = earlier.times; first = ls; second = lu; run = run; other = other } in
+    let two : (t w : Times) → IsRun g order frozen s t → IsRun g order frozen u w →
+    Two g urgency order frozen rows (place order (producer g x)) s u t w =
+    λ t w run other.
+    record { timed = timed; times = earlier.times; first = ls; second = lu; run = run; other = other } in
     let r = a_run g order frozen s timed.admitted.topological in
     let q = a_run g order frozen u timed.admitted.topological in
-    let same = item_alike g urgency order frozen rows (place order (producer g x)) s u r.0 q.0 (two r.0 q.0 r.1 q.1) x l (omega arith) on h in
+    let same = item_alike g urgency order frozen rows (place order (producer g x)) s u r.0 q.0 (two r.0 q.0 r.1 q.1) x l
+    (omega arith) on h in
     record {
       active = same.acts;
-      time = λ t w run other. (item_alike g urgency order frozen rows (place order (producer g x)) s u t w (two t w run other) x l (omega arith) on h).time;
+      time = λ t w run other. (item_alike g urgency order frozen rows (place order (producer g x)) s u t w
+          (two t w run other) x l (omega arith) on h).time;
       carried = same.told;
     }

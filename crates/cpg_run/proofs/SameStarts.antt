@@ -1,14 +1,20 @@
--- Two scenarios, the second of which has what is carried beside a start in the first: it has the start too, at the same time.
-use Rattle.std.proofs.Common.{ℕ, zero, suc, ◌+◌, ◌<◌, ◌≤◌, ◌≡◌, ◌==◌, Bool, true, false, if◌then◌else◌, List, [], ◌∷◌, ◌++◌, length, map, filter, flat_map, get_or, Contains, Option, Some, None}
-use Rattle.std.proofs.Common.{option_to_list, unwrap_or, arith, sym, ap, ap₂, ◌∙◌, subst, inl, inr, eqb-true, lt-ltb, ◌&&◌}
+-- Two scenarios, the second of which has what is carried beside a start in the first: it has the start too, at the same
+-- time.
+use Rattle.std.proofs.Common.{ℕ, zero, suc, ◌+◌, ◌<◌, ◌≤◌, ◌≡◌, ◌==◌, Bool, true, false, if◌then◌else◌, List, [], ◌∷◌}
+use Rattle.std.proofs.Common.{◌++◌, length, map, filter, flat_map, get_or, Contains, Option, Some, None}
+use Rattle.std.proofs.Common.{option_to_list, unwrap_or, arith, sym, ap, ap₂, ◌∙◌, subst, inl, inr, eqb-true, lt-ltb}
+use Rattle.std.proofs.Common.{◌&&◌}
 use Rattle.std.proofs.lemmas.Bool.{cases_Bool, cond-true, cond-false, and_parts, and_from, eqb-false, not-false}
 use Rattle.cpg_base.specs.Numbers.{numbers_below, greatest}
-use Rattle.cpg_base.specs.Graph.{Graph, process_count, edge_count, condition_count, item_count, item_at, process_at, node_of, source, target, inputs, is_message, is_frozen, is_frozen_item}
+use Rattle.cpg_base.specs.Graph.{Graph, process_count, edge_count, condition_count, item_count, item_at, process_at}
+use Rattle.cpg_base.specs.Graph.{node_of, source, target, inputs, is_message, is_frozen, is_frozen_item}
 use Rattle.cpg_base.specs.Graph.{message_item, broadcast_item, process_of, home, value_variable}
 use Rattle.cpg_base.specs.Activity.{is_active, activation, active, live, item_active}
 use Rattle.cpg_base.specs.Duration.{duration}
 use Rattle.cpg_base.specs.Bus.{slot_length}
-use Rattle.cpg_base.proofs.Lists.{Contains-first, Contains-map, Contains-filter, Contains-filter_parts, Contains-flat_map_parts, Contains-numbers, numbers-Contains, from_all, same_map, same_filter}
+use Rattle.cpg_base.proofs.Lists.{Contains-first, Contains-map, Contains-filter, Contains-filter_parts}
+use Rattle.cpg_base.proofs.Lists.{Contains-flat_map_parts, Contains-numbers, numbers-Contains, from_all, same_map}
+use Rattle.cpg_base.proofs.Lists.{same_filter}
 use Rattle.cpg_base.proofs.Lists.{same_flat_map, same_truth}
 use Rattle.cpg_base.proofs.Inputs.{inputs_parts}
 use Rattle.cpg_base.proofs.Items.{item_at-start, item_at-message, item_at-broadcast, process_of_below}
@@ -25,12 +31,15 @@ use Rattle.cpg_cube.specs.Cube.{holds, matches}
 use Rattle.cpg_table.specs.Heard.{exactly}
 use Rattle.cpg_cube.specs.Column.{Column}
 use Rattle.cpg_run.specs.Alike.{Admitted}
-use Rattle.cpg_run.specs.Run.{Times, IsRun, end_in, input_there, heard_there, start_bounds, input_bounds, processor_bounds, hearing_bounds, bounds_of_item, unfrozen_time}
+use Rattle.cpg_run.specs.Run.{Times, IsRun, end_in, input_there, heard_there, start_bounds, input_bounds}
+use Rattle.cpg_run.specs.Run.{processor_bounds, hearing_bounds, bounds_of_item, unfrozen_time}
 use Rattle.cpg_run.specs.Supported.{up_to}
-use Rattle.cpg_run.proofs.Awaited.{Earlier, earlier_parts, earlier_from, up_to_before, up_to_cases, up_to_earlier, up_to_parts}
+use Rattle.cpg_run.proofs.Awaited.{Earlier, earlier_parts, earlier_from, up_to_before, up_to_cases, up_to_earlier}
+use Rattle.cpg_run.proofs.Awaited.{up_to_parts}
 use Rattle.cpg_run.proofs.Rule8.{has_frozen_time}
 use Rattle.cpg_run.proofs.Runs.{time_active, has_time, end_active}
-use Rattle.cpg_run.specs.Carried.{row_at, carried_by_row, number_known, decided, heard, received, executed, passed, carried_at_start, carried_at_end}
+use Rattle.cpg_run.specs.Carried.{row_at, carried_by_row, number_known, decided, heard, received, executed, passed}
+use Rattle.cpg_run.specs.Carried.{carried_at_start, carried_at_end}
 use Rattle.cpg_run.specs.RowLaws.{IsEarlier, HaveTimesOf, IsTimed}
 use Rattle.cpg_run.proofs.CarriedBefore.{hears_earlier, receives_earlier}
 use Rattle.cpg_run.proofs.CubesOf.{holds_left, holds_right, holds_each, holds_both, holds_all, same_number}
@@ -42,8 +51,10 @@ same_filter_at p q xs e x j = same_truth (p x) (q x)
     (λ h. (Contains-filter_parts q xs x (subst (λ ys. Contains ys x) e (Contains-filter p xs x h j))).1)
     (λ h. (Contains-filter_parts p xs x (subst (λ ys. Contains ys x) (sym e) (Contains-filter q xs x h j))).1)
 
--- what the laws on two scenarios stand on: rows with the times of the runs, of the items from processes at earlier places
-pub record Two (g : Graph) (urgency order : List ℕ) (frozen : List (Option ℕ)) (rows : List (List Column)) (bound : ℕ) (s u : Scenario) (t w : Times) : Type 0 where
+-- what the laws on two scenarios stand on: rows with the times of the runs, of the items from processes at earlier
+-- places
+pub record Two (g : Graph) (urgency order : List ℕ) (frozen : List (Option ℕ)) (rows : List (List Column)) (bound : ℕ)
+    (s u : Scenario) (t w : Times) : Type 0 where
   pub timed : IsTimed g urgency order frozen
   pub times : (y : ℕ) → IsEarlier g order bound y → HaveTimesOf g order frozen y (row_at rows y)
   pub first : IsScenario g s
@@ -51,27 +62,35 @@ pub record Two (g : Graph) (urgency order : List ℕ) (frozen : List (Option ℕ
   pub run : IsRun g order frozen s t
   pub other : IsRun g order frozen u w
 
-module _ (g : Graph) (urgency order : List ℕ) (frozen : List (Option ℕ)) (rows : List (List Column)) (bound : ℕ) (s u : Scenario) (t w : Times)
+module _ (g : Graph) (urgency order : List ℕ) (frozen : List (Option ℕ)) (rows : List (List Column)) (bound : ℕ)
+    (s u : Scenario) (t w : Times)
     (z : Two g urgency order frozen rows bound s u t w) where
   k : Admitted g urgency order
   k = z.timed.admitted
 
   -- a frozen item that is active in both has its frozen time
-  pub frozen_time_same : (x : ℕ) → x < item_count g → is_frozen g x ≡ true → item_active g s.values (item_at g x) ≡ true → item_active g u.values (item_at g x) ≡ true →
+  pub frozen_time_same : (x : ℕ) → x < item_count g → is_frozen g x ≡ true →
+      item_active g s.values (item_at g x) ≡ true →
+      item_active g u.values (item_at g x) ≡ true →
       get_or t.times x None ≡ get_or w.times x None
   frozen_time_same x l f on also =
-      has_time g order frozen s t z.run x l on ∙ sym (has_frozen_time g order frozen z.timed.frozen_times s z.first t z.run x l f on)
-      ∙ has_frozen_time g order frozen z.timed.frozen_times u z.second w z.other x l f also ∙ sym (has_time g order frozen u w z.other x l also)
+      has_time g order frozen s t z.run x l on
+      ∙ sym (has_frozen_time g order frozen z.timed.frozen_times s z.first t z.run x l f on)
+      ∙ has_frozen_time g order frozen z.timed.frozen_times u z.second w z.other x l f also
+      ∙ sym (has_time g order frozen u w z.other x l also)
 
   -- another has the same time if its bounds are the same
-  pub free_time_same : (x : ℕ) → x < item_count g → item_active g s.values (item_at g x) ≡ true → item_active g u.values (item_at g x) ≡ true →
+  pub free_time_same : (x : ℕ) → x < item_count g → item_active g s.values (item_at g x) ≡ true →
+      item_active g u.values (item_at g x) ≡ true →
       unfrozen_time g order s t x ≡ unfrozen_time g order u w x → get_or t.times x None ≡ get_or w.times x None
-  free_time_same x l on also e = time_active g order frozen s t z.run x l on ∙ ap (λ n. Some (greatest (n ∷ option_to_list (get_or frozen x None)))) e ∙
+  free_time_same x l on also e = time_active g order frozen s t z.run x l on
+      ∙ ap (λ n. Some (greatest (n ∷ option_to_list (get_or frozen x None)))) e ∙
       sym (time_active g order frozen u w z.other x l also)
 
   -- an item of an earlier process, and what its row tells
   Told : ℕ → Type 0
-  Told y = (e : IsEarlier g order bound y) → SameTold g order frozen rows y e.0 (z.times y e) s u z.first z.second t w z.run z.other
+  Told y = (e : IsEarlier g order bound y) →
+      SameTold g order frozen rows y e.0 (z.times y e) s u z.first z.second t w z.run z.other
 
   told : (y : ℕ) → item_active g s.values (item_at g y) ≡ true → matches (carried_by_row rows s y) u ≡ true → Told y
   unfolding Told
@@ -80,13 +99,17 @@ module _ (g : Graph) (urgency order : List ℕ) (frozen : List (Option ℕ)) (ro
   -- ---- if what decides a process holds
 
   module _ (p : ℕ) (d : matches (decided g s p) u ≡ true) where
-    value_same : (c : ℕ) → Contains (deciding g s.values p) c → number_of u (value_variable c) ≡ number_of s (value_variable c)
+    value_same : (c : ℕ) → Contains (deciding g s.values p) c →
+        number_of u (value_variable c) ≡ number_of s (value_variable c)
     value_same c j = same_number u s (value_variable c)
-        (from_all (holds u) (decided g s p) (number_known s (value_variable c)) d (Contains-map (λ (c : ℕ). number_known s (value_variable c)) (deciding g s.values p) c j))
+        (from_all (holds u) (decided g s p) (number_known s (value_variable c)) d
+        (Contains-map (λ (c : ℕ). number_known s (value_variable c)) (deciding g s.values p) c j))
 
-    agrees : (c : ℕ) → c < condition_count g → decides g s.values p c ≡ true → get_or s.values c false ≡ get_or u.values c false
+    agrees : (c : ℕ) → c < condition_count g → decides g s.values p c ≡ true →
+        get_or s.values c false ≡ get_or u.values c false
     agrees c l e = one_value _ _ (sym (number_of-value s c) ∙
-        sym (value_same c (Contains-filter (decides g s.values p) (numbers_below (condition_count g)) c e (Contains-numbers (condition_count g) c l))) ∙ number_of-value u c)
+        sym (value_same c (Contains-filter (decides g s.values p) (numbers_below (condition_count g)) c e
+        (Contains-numbers (condition_count g) c l))) ∙ number_of-value u c)
 
     activation_is_same : activation g s.values p ≡ activation g u.values p
     unfolding k
@@ -101,20 +124,26 @@ module _ (g : Graph) (urgency order : List ℕ) (frozen : List (Option ℕ)) (ro
 
     pub decided_is_same : decided g u p ≡ decided g s p
     decided_is_same = ap (map (λ (c : ℕ). number_known u (value_variable c))) (sym deciding_is_same)
-        ∙ same_map (λ (c : ℕ). number_known u (value_variable c)) (λ (c : ℕ). number_known s (value_variable c)) (deciding g s.values p) (λ c j. ap (exactly (value_variable c)) (value_same c j))
+        ∙ same_map (λ (c : ℕ). number_known u (value_variable c)) (λ (c : ℕ). number_known s (value_variable c))
+        (deciding g s.values p) (λ c j. ap (exactly (value_variable c)) (value_same c j))
 
     module _ (within : p < process_count g) where
-      decides_is_active : (c : ℕ) → Contains (deciding g s.values p) c → (c < condition_count g) × (active g s.values (process_of g c) ≡ true)
+      decides_is_active : (c : ℕ) → Contains (deciding g s.values p) c →
+          (c < condition_count g) × (active g s.values (process_of g c) ≡ true)
       unfolding k
       decides_is_active c j =
           let r = Contains-filter_parts (decides g s.values p) (numbers_below (condition_count g)) c j in
-          let l = numbers-Contains (condition_count g) c r.0 in
-          (l, deciding_is_active g urgency k.urgent (urgency_is_topological g k.formed order k.topological urgency k.urgent) s.values p c l r.1)
+          let l = numbers-Contains (condition_count g) c r.0 in (
+            l,
+            deciding_is_active g urgency k.urgent
+                (urgency_is_topological g k.formed order k.topological urgency k.urgent) s.values p c l r.1,
+          )
 
       module _ (at : place order p ≤ bound) where
         -- what is heard of the conditions that decide a process is the same, if it holds
         module _ (h : matches (heard g rows s p) u ≡ true) where
-          hears : (c : ℕ) → Contains (deciding g s.values p) c → (node_of g (process_of g c) == node_of g p) ≡ false → Told (broadcast_item g c)
+          hears : (c : ℕ) → Contains (deciding g s.values p) c → (node_of g (process_of g c) == node_of g p) ≡ false →
+              Told (broadcast_item g c)
           unfolding k
           hears c j far =
               let a = decides_is_active c j in
@@ -124,29 +153,37 @@ module _ (g : Graph) (urgency order : List ℕ) (frozen : List (Option ℕ)) (ro
                 k.formed.nodes p within,
                 k.formed.nodes (process_of g c) (process_of_below g c a.0),
               ) in
-              let tells : matches (carried_by_row rows s (broadcast_item g c)) u ≡ true = subst (λ b. matches (if b then [] else carried_by_row rows s (broadcast_item g c)) u ≡ true) far
-              (holds_each u (λ c. if node_of g (process_of g c) == node_of g p then [] else carried_by_row rows s (broadcast_item g c)) (deciding g s.values p) c h j) in
-              told (broadcast_item g c) (ap (item_active g s.values) (item_at-broadcast g c) ∙ and_from _ _ (lt-ltb 1 (length g.nodes) two) a.1) tells
+              let tells : matches (carried_by_row rows s (broadcast_item g c)) u ≡ true =
+              subst (λ b. matches (if b then [] else carried_by_row rows s (broadcast_item g c)) u ≡ true) far
+              (holds_each u (λ c. if node_of g (process_of g c) == node_of g p then []
+              else carried_by_row rows s (broadcast_item g c)) (deciding g s.values p) c h j) in
+              told (broadcast_item g c) (ap (item_active g s.values) (item_at-broadcast g c)
+              ∙ and_from _ _ (lt-ltb 1 (length g.nodes) two) a.1) tells
 
           hears_at : (c : ℕ) → Contains (deciding g s.values p) c → IsEarlier g order bound (broadcast_item g c)
           unfolding k
           hears_at c j = let r = hears_earlier g order k.topological s p c j in (r.0, omega (arith, r.1, at))
 
-          pub hears_time : (c : ℕ) → Contains (deciding g s.values p) c → (node_of g (process_of g c) == node_of g p) ≡ false →
+          pub hears_time : (c : ℕ) → Contains (deciding g s.values p) c →
+              (node_of g (process_of g c) == node_of g p) ≡ false →
               get_or t.times (broadcast_item g c) None ≡ get_or w.times (broadcast_item g c) None
           unfolding Told
           hears_time c j far = (hears c j far (hears_at c j)).time
 
           pub heard_is_same : heard g rows u p ≡ heard g rows s p
           unfolding Told
-          heard_is_same = ap (flat_map (λ c. if node_of g (process_of g c) == node_of g p then [] else carried_by_row rows u (broadcast_item g c))) (sym deciding_is_same)
+          heard_is_same = ap (flat_map (λ c. if node_of g (process_of g c) == node_of g p then []
+              else carried_by_row rows u (broadcast_item g c))) (sym deciding_is_same)
               ∙ same_flat_map
-              (λ c. if node_of g (process_of g c) == node_of g p then [] else carried_by_row rows u (broadcast_item g c))
-              (λ c. if node_of g (process_of g c) == node_of g p then [] else carried_by_row rows s (broadcast_item g c))
+              (λ c. if node_of g (process_of g c) == node_of g p then []
+              else carried_by_row rows u (broadcast_item g c))
+              (λ c. if node_of g (process_of g c) == node_of g p then []
+              else carried_by_row rows s (broadcast_item g c))
               (deciding g s.values p)
               (λ c j. elim (cases_Bool (node_of g (process_of g c) == node_of g p)) [
                 | inl near ↦ cond-true _ _ _ near ∙ sym (cond-true _ _ _ near)
-                | inr far ↦ ap (λ ls. if node_of g (process_of g c) == node_of g p then [] else ls) (hears c j far (hears_at c j)).tells
+                | inr far ↦ ap (λ ls. if node_of g (process_of g c) == node_of g p then [] else ls)
+                    (hears c j far (hears_at c j)).tells
               ])
 
         -- ---- its inputs, if it is active
@@ -166,7 +203,8 @@ module _ (g : Graph) (urgency order : List ℕ) (frozen : List (Option ℕ)) (ro
           live_at : (e : ℕ) → Contains (inputs g p) e → live g s.values e ≡ live g u.values e
           live_at e j = same_filter_at (live g s.values) (live g u.values) (inputs g p) live_is_same e j
 
-          message_acts : (v : List Bool) (e : ℕ) → e < edge_count g → is_message g e ≡ true → item_active g v (item_at g (message_item g e)) ≡ live g v e
+          message_acts : (v : List Bool) (e : ℕ) → e < edge_count g → is_message g e ≡ true →
+              item_active g v (item_at g (message_item g e)) ≡ live g v e
           message_acts v e l m = ap (item_active g v) (item_at-message g e l) ∙ ap (λ b. b && live g v e) m
 
           receives_at : (e : ℕ) → Contains (inputs g p) e → IsEarlier g order bound (message_item g e)
@@ -174,23 +212,32 @@ module _ (g : Graph) (urgency order : List ℕ) (frozen : List (Option ℕ)) (ro
           receives_at e j = let r = receives_earlier g order k.topological p e j in (r.0, omega (arith, r.1, at))
 
           module _ (m : matches (received g rows s p) u ≡ true) where
-            receives : (e : ℕ) → Contains (inputs g p) e → is_message g e ≡ true → live g s.values e ≡ true → Told (message_item g e)
+            receives : (e : ℕ) → Contains (inputs g p) e → is_message g e ≡ true → live g s.values e ≡ true →
+                Told (message_item g e)
             receives e j is v = told (message_item g e) (message_acts s.values e (inputs_parts g p e j).0 is ∙ v)
                 (subst (λ b. matches (if b then carried_by_row rows s (message_item g e) else []) u ≡ true) is
-                (holds_each u (λ e. if is_message g e then carried_by_row rows s (message_item g e) else []) (inputs g p) e m j))
+                (holds_each u (λ e. if is_message g e then carried_by_row rows s (message_item g e) else [])
+                (inputs g p) e m j))
 
-            pub receives_time : (e : ℕ) → Contains (inputs g p) e → is_message g e ≡ true → live g s.values e ≡ true → get_or t.times (message_item g e) None ≡ get_or w.times (message_item g e) None
+            pub receives_time : (e : ℕ) → Contains (inputs g p) e → is_message g e ≡ true → live g s.values e ≡ true →
+                get_or t.times (message_item g e) None ≡ get_or w.times (message_item g e) None
             unfolding Told
             receives_time e j is v = (receives e j is v (receives_at e j)).time
 
             -- a message that is not sent tells nothing in either
-            message_same : (e : ℕ) → Contains (inputs g p) e → is_message g e ≡ true → carried_by_row rows u (message_item g e) ≡ carried_by_row rows s (message_item g e)
+            message_same : (e : ℕ) → Contains (inputs g p) e → is_message g e ≡ true →
+                carried_by_row rows u (message_item g e) ≡ carried_by_row rows s (message_item g e)
             unfolding Told
-            message_same e j is = let l = (inputs_parts g p e j).0 in let at = receives_at e j in elim (cases_Bool (live g s.values e)) [
-              | inl v ↦ (receives e j is v at).tells
-              | inr off ↦ tells_nothing g order frozen rows (message_item g e) at.0 (z.times (message_item g e) at) u z.second w z.other (message_acts u.values e l is ∙ sym (live_at e j) ∙ off)
-                  ∙ sym (tells_nothing g order frozen rows (message_item g e) at.0 (z.times (message_item g e) at) s z.first t z.run (message_acts s.values e l is ∙ off))
-            ]
+            message_same e j is = let l = (inputs_parts g p e j).0 in
+                let at = receives_at e j in
+                elim (cases_Bool (live g s.values e)) [
+                  | inl v ↦ (receives e j is v at).tells
+                  | inr off ↦
+                      tells_nothing g order frozen rows (message_item g e) at.0 (z.times (message_item g e) at) u
+                      z.second w z.other (message_acts u.values e l is ∙ sym (live_at e j) ∙ off)
+                      ∙ sym (tells_nothing g order frozen rows (message_item g e) at.0
+                      (z.times (message_item g e) at) s z.first t z.run (message_acts s.values e l is ∙ off))
+                ]
 
             pub received_is_same : received g rows u p ≡ received g rows s p
             received_is_same = same_flat_map
@@ -206,7 +253,8 @@ module _ (g : Graph) (urgency order : List ℕ) (frozen : List (Option ℕ)) (ro
 
   count_same : (p : ℕ) → p < process_count g → holds u (number_known s p) ≡ true → fault_of s p ≡ fault_of u p
   unfolding k
-  count_same p l h = sym (number_of-fault s p (omega (arith, l, k.formed.few_processes))) ∙ sym (same_number u s p h) ∙ number_of-fault u p (omega (arith, l, k.formed.few_processes))
+  count_same p l h = sym (number_of-fault s p (omega (arith, l, k.formed.few_processes))) ∙ sym (same_number u s p h)
+      ∙ number_of-fault u p (omega (arith, l, k.formed.few_processes))
 
   -- a start that is the same in the second scenario
   pub record SameStart (p : ℕ) : Type 0 where
@@ -214,12 +262,15 @@ module _ (g : Graph) (urgency order : List ℕ) (frozen : List (Option ℕ)) (ro
     pub time : get_or t.times p None ≡ get_or w.times p None
     pub told : carried_at_start g order rows u p ≡ carried_at_start g order rows s p
 
-  pub end_is_same : (p : ℕ) → p < process_count g → active g s.values p ≡ true → SameStart p → holds u (number_known s p) ≡ true → end_in t p ≡ end_in w p
+  pub end_is_same : (p : ℕ) → p < process_count g → active g s.values p ≡ true → SameStart p →
+      holds u (number_known s p) ≡ true →
+      end_in t p ≡ end_in w p
   end_is_same p l on same h = end_active g order frozen s t z.run p l on
       ∙ ap₂ (λ o f. unwrap_or o 0 + duration g p f) same.time (count_same p l h)
       ∙ sym (end_active g order frozen u w z.other p l same.acts)
 
-  pub end_told_same : (p : ℕ) → SameStart p → holds u (number_known s p) ≡ true → carried_at_end g order rows u p ≡ carried_at_end g order rows s p
+  pub end_told_same : (p : ℕ) → SameStart p → holds u (number_known s p) ≡ true →
+      carried_at_end g order rows u p ≡ carried_at_end g order rows s p
   end_told_same p same h = ap₂ (λ ls n. ls ++ exactly p n ∷ []) same.told (same_number u s p h)
 
   -- ---- what a node carries on from a process
@@ -232,8 +283,10 @@ module _ (g : Graph) (urgency order : List ℕ) (frozen : List (Option ℕ)) (ro
 
   passes_parts : (q : ℕ) → matches (passed g rows s q) u ≡ true → Passes q
   passes_parts q h =
-      let front = holds_left u (decided g s q ++ heard g rows s q) (if active g s.values q then executed g rows s q else []) h in
-      let last = holds_right u (decided g s q ++ heard g rows s q) (if active g s.values q then executed g rows s q else []) h in
+      let front = holds_left u (decided g s q ++ heard g rows s q)
+      (if active g s.values q then executed g rows s q else []) h in
+      let last = holds_right u (decided g s q ++ heard g rows s q)
+      (if active g s.values q then executed g rows s q else []) h in
       record {
         decided = holds_left u (decided g s q) (heard g rows s q) front;
         heard = holds_right u (decided g s q) (heard g rows s q) front;
@@ -241,27 +294,34 @@ module _ (g : Graph) (urgency order : List ℕ) (frozen : List (Option ℕ)) (ro
       }
 
   executed_count : (q : ℕ) → matches (executed g rows s q) u ≡ true → holds u (number_known s q) ≡ true
-  executed_count q h = from_all (holds u) (number_known s q ∷ []) (number_known s q) (holds_right u (if (process_at g q).frozen then [] else received g rows s q) (number_known s q ∷ []) h)
+  executed_count q h = from_all (holds u) (number_known s q ∷ []) (number_known s q)
+      (holds_right u (if (process_at g q).frozen then [] else received g rows s q) (number_known s q ∷ []) h)
       (Contains-first (number_known s q) [])
 
-  executed_received : (q : ℕ) → (process_at g q).frozen ≡ false → matches (executed g rows s q) u ≡ true → matches (received g rows s q) u ≡ true
+  executed_received : (q : ℕ) → (process_at g q).frozen ≡ false → matches (executed g rows s q) u ≡ true →
+      matches (received g rows s q) u ≡ true
   executed_received q free h = subst (λ b. matches (if b then [] else received g rows s q) u ≡ true) free
       (holds_left u (if (process_at g q).frozen then [] else received g rows s q) (number_known s q ∷ []) h)
 
-  executed_is_same : (q : ℕ) → q < process_count g → place order q ≤ bound → Passes q → active g s.values q ≡ true → executed g rows u q ≡ executed g rows s q
+  executed_is_same : (q : ℕ) → q < process_count g → place order q ≤ bound → Passes q → active g s.values q ≡ true →
+      executed g rows u q ≡ executed g rows s q
   executed_is_same q l at h on =
       let e = h.executed on in
-      ap (λ n. (if (process_at g q).frozen then [] else received g rows u q) ++ exactly q n ∷ []) (same_number u s q (executed_count q e))
+      ap (λ n. (if (process_at g q).frozen then [] else received g rows u q) ++ exactly q n ∷ [])
+      (same_number u s q (executed_count q e))
       ∙ ap (λ ls. ls ++ number_known s q ∷ []) (elim (cases_Bool (process_at g q).frozen) [
         | inl f ↦ cond-true _ _ _ f ∙ sym (cond-true _ _ _ f)
-        | inr free ↦ cond-false _ _ _ free ∙ received_is_same q h.decided l at on (executed_received q free e) ∙ sym (cond-false _ _ _ free)
+        | inr free ↦ cond-false _ _ _ free ∙ received_is_same q h.decided l at on (executed_received q free e)
+            ∙ sym (cond-false _ _ _ free)
       ])
 
-  passed_is_same : (q : ℕ) → q < process_count g → place order q ≤ bound → Passes q → passed g rows u q ≡ passed g rows s q
+  passed_is_same : (q : ℕ) → q < process_count g → place order q ≤ bound → Passes q →
+      passed g rows u q ≡ passed g rows s q
   passed_is_same q l at h = ap₂ ◌++◌
       (ap₂ ◌++◌ (decided_is_same q h.decided) (heard_is_same q h.decided l at h.heard))
       (elim (cases_Bool (active g s.values q)) [
-        | inl on ↦ cond-true _ _ _ (sym (active_is_same q h.decided) ∙ on) ∙ executed_is_same q l at h on ∙ sym (cond-true _ _ _ on)
+        | inl on ↦ cond-true _ _ _ (sym (active_is_same q h.decided) ∙ on) ∙ executed_is_same q l at h on
+            ∙ sym (cond-true _ _ _ on)
         | inr off ↦ cond-false _ _ _ (sym (active_is_same q h.decided) ∙ off) ∙ sym (cond-false _ _ _ off)
       ])
 
@@ -269,7 +329,8 @@ module _ (g : Graph) (urgency order : List ℕ) (frozen : List (Option ℕ)) (ro
 
   -- the starts at places before n
   Before : ℕ → Type 0
-  Before n = (q : ℕ) → place order q < n → q < process_count g → active g s.values q ≡ true → matches (carried_at_start g order rows s q) u ≡ true → SameStart q
+  Before n = (q : ℕ) → place order q < n → q < process_count g → active g s.values q ≡ true →
+      matches (carried_at_start g order rows s q) u ≡ true → SameStart q
 
   -- the parts of what is carried beside it
   record Starts (p : ℕ) : Type 0 where
@@ -279,35 +340,50 @@ module _ (g : Graph) (urgency order : List ℕ) (frozen : List (Option ℕ)) (ro
     received : matches (received g rows s p) u ≡ true
 
   free_parts : (p : ℕ) → (process_at g p).frozen ≡ false → matches (carried_at_start g order rows s p) u ≡ true →
-      matches (flat_map (passed g rows s) (before_on_node g order p) ++ decided g s p ++ heard g rows s p ++ received g rows s p) u ≡ true
+      matches (flat_map (passed g rows s) (before_on_node g order p) ++ decided g s p ++ heard g rows s p
+      ++ received g rows s p) u ≡ true
   free_parts p free h = subst (λ ls. matches ls u ≡ true) (cond-false _ _ _ free) h
 
-  free_from : (p : ℕ) → (process_at g p).frozen ≡ false → matches (flat_map (passed g rows s) (before_on_node g order p)) u ≡ true → matches (decided g s p) u ≡ true →
+  free_from : (p : ℕ) → (process_at g p).frozen ≡ false →
+      matches (flat_map (passed g rows s) (before_on_node g order p)) u ≡ true →
+      matches (decided g s p) u ≡ true →
       matches (heard g rows s p) u ≡ true →
       matches (received g rows s p) u ≡ true → matches (carried_at_start g order rows s p) u ≡ true
   free_from p free a b c d = subst (λ ls. matches ls u ≡ true) (sym (cond-false _ _ _ free))
-      (holds_both u (flat_map (passed g rows s) (before_on_node g order p) ++ decided g s p ++ heard g rows s p) (received g rows s p)
+      (holds_both u (flat_map (passed g rows s) (before_on_node g order p) ++ decided g s p ++ heard g rows s p)
+      (received g rows s p)
       (holds_both u (flat_map (passed g rows s) (before_on_node g order p) ++ decided g s p) (heard g rows s p)
       (holds_both u (flat_map (passed g rows s) (before_on_node g order p)) (decided g s p) a b) c) d)
 
-  passes_at : (p : ℕ) → (process_at g p).frozen ≡ false → matches (carried_at_start g order rows s p) u ≡ true → (q : ℕ) → Contains (before_on_node g order p) q → matches (passed g rows s q) u ≡ true
+  passes_at : (p : ℕ) → (process_at g p).frozen ≡ false → matches (carried_at_start g order rows s p) u ≡ true →
+      (q : ℕ) → Contains (before_on_node g order p) q →
+      matches (passed g rows s q) u ≡ true
   passes_at p free h q j = holds_each u (passed g rows s) (before_on_node g order p) q
       (holds_left u (flat_map (passed g rows s) (before_on_node g order p)) (decided g s p)
       (holds_left u (flat_map (passed g rows s) (before_on_node g order p) ++ decided g s p) (heard g rows s p)
-      (holds_left u (flat_map (passed g rows s) (before_on_node g order p) ++ decided g s p ++ heard g rows s p) (received g rows s p) (free_parts p free h)))) j
+      (holds_left u (flat_map (passed g rows s) (before_on_node g order p) ++ decided g s p ++ heard g rows s p)
+      (received g rows s p) (free_parts p free h)))) j
 
-  starts_parts : (p : ℕ) → (process_at g p).frozen ≡ false → matches (carried_at_start g order rows s p) u ≡ true → Starts p
+  starts_parts : (p : ℕ) → (process_at g p).frozen ≡ false → matches (carried_at_start g order rows s p) u ≡ true →
+      Starts p
   starts_parts p free h =
-      let three = holds_left u (flat_map (passed g rows s) (before_on_node g order p) ++ decided g s p ++ heard g rows s p) (received g rows s p) (free_parts p free h) in
+      let three =
+      holds_left u (flat_map (passed g rows s) (before_on_node g order p) ++ decided g s p ++ heard g rows s p)
+      (received g rows s p) (free_parts p free h) in
       record {
         before = λ q j. passes_parts q (passes_at p free h q j);
         decided = holds_right u (flat_map (passed g rows s) (before_on_node g order p)) (decided g s p)
-            (holds_left u (flat_map (passed g rows s) (before_on_node g order p) ++ decided g s p) (heard g rows s p) three);
-        heard = holds_right u (flat_map (passed g rows s) (before_on_node g order p) ++ decided g s p) (heard g rows s p) three;
-        received = holds_right u (flat_map (passed g rows s) (before_on_node g order p) ++ decided g s p ++ heard g rows s p) (received g rows s p) (free_parts p free h);
+            (holds_left u (flat_map (passed g rows s) (before_on_node g order p) ++ decided g s p)
+            (heard g rows s p) three);
+        heard = holds_right u (flat_map (passed g rows s) (before_on_node g order p) ++ decided g s p)
+            (heard g rows s p) three;
+        received =
+            holds_right u (flat_map (passed g rows s) (before_on_node g order p) ++ decided g s p ++ heard g rows s p)
+            (received g rows s p) (free_parts p free h);
       }
 
-  module _ (p : ℕ) (within : p < process_count g) (at : place order p ≤ bound) (free : (process_at g p).frozen ≡ false) (on : active g s.values p ≡ true)
+  module _ (p : ℕ) (within : p < process_count g) (at : place order p ≤ bound) (free : (process_at g p).frozen ≡ false)
+      (on : active g s.values p ≡ true)
       (h : matches (carried_at_start g order rows s p) u ≡ true) (earlier : Before (place order p)) where
     parts : Starts p
     parts = starts_parts p free h
@@ -316,7 +392,8 @@ module _ (g : Graph) (urgency order : List ℕ) (frozen : List (Option ℕ)) (ro
     earlier_at q j = earlier_parts g order z.timed.admitted.topological p q j
 
     -- what is carried beside the start of a process before it on its node
-    carried_before : (q : ℕ) → Contains (before_on_node g order p) q → active g s.values q ≡ true → matches (carried_at_start g order rows s q) u ≡ true
+    carried_before : (q : ℕ) → Contains (before_on_node g order p) q → active g s.values q ≡ true →
+        matches (carried_at_start g order rows s q) u ≡ true
     carried_before q j acts =
         let e = earlier_at q j in
         let mine = parts.before q j in
@@ -324,7 +401,8 @@ module _ (g : Graph) (urgency order : List ℕ) (frozen : List (Option ℕ)) (ro
           | inl f ↦ subst (λ ls. matches ls u ≡ true) (sym (cond-true _ _ _ f)) mine.decided
           | inr f ↦ free_from q f
               (holds_all u (passed g rows s) (before_on_node g order q)
-              (λ r i. passes_at p free h r (up_to_earlier g order z.timed.admitted.topological p q r e (up_to_before g order z.timed.admitted.topological q r i))))
+              (λ r i. passes_at p free h r (up_to_earlier g order z.timed.admitted.topological p q r e
+              (up_to_before g order z.timed.admitted.topological q r i))))
               mine.decided mine.heard (executed_received q f (mine.executed acts))
         ]
 
@@ -333,7 +411,8 @@ module _ (g : Graph) (urgency order : List ℕ) (frozen : List (Option ℕ)) (ro
     start_before q j acts = let e = earlier_at q j in earlier q e.earlier e.within acts (carried_before q j acts)
 
     end_before : (q : ℕ) → Contains (before_on_node g order p) q → active g s.values q ≡ true → end_in t q ≡ end_in w q
-    end_before q j acts = end_is_same q (earlier_at q j).within acts (start_before q j acts) (executed_count q ((parts.before q j).executed acts))
+    end_before q j acts = end_is_same q (earlier_at q j).within acts (start_before q j acts)
+        (executed_count q ((parts.before q j).executed acts))
 
     -- what decides a process up to it, and what is heard of that
     decided_up_to : (q : ℕ) → Contains (up_to g order p) q → matches (decided g s q) u ≡ true
@@ -350,16 +429,20 @@ module _ (g : Graph) (urgency order : List ℕ) (frozen : List (Option ℕ)) (ro
 
     processor_same : processor_bounds g order s t p ≡ processor_bounds g order u w p
     processor_same = same_map (end_in t) (end_in w) (filter (active g s.values) (before_on_node g order p))
-        (λ q j. let r = Contains-filter_parts (active g s.values) (before_on_node g order p) q j in end_before q r.0 r.1)
-        ∙ ap (map (end_in w)) (same_filter (active g s.values) (active g u.values) (before_on_node g order p) (λ q j. active_is_same q (parts.before q j).decided))
+        (λ q j. let r = Contains-filter_parts (active g s.values) (before_on_node g order p) q j in
+        end_before q r.0 r.1)
+        ∙ ap (map (end_in w)) (same_filter (active g s.values) (active g u.values) (before_on_node g order p)
+        (λ q j. active_is_same q (parts.before q j).decided))
 
-    hearing_at : (c : ℕ) → Contains (flat_map (deciding g s.values) (up_to g order p)) c → heard_there g t (node_of g p) c ≡ heard_there g w (node_of g p) c
+    hearing_at : (c : ℕ) → Contains (flat_map (deciding g s.values) (up_to g order p)) c →
+        heard_there g t (node_of g p) c ≡ heard_there g w (node_of g p) c
     hearing_at c j =
         let r = Contains-flat_map_parts (deciding g s.values) (up_to g order p) c j in
         let q : ℕ = r.0 in
         let up = up_to_parts g order z.timed.admitted.topological p q within r.1 in
         let a = decides_is_active q (decided_up_to q r.1) up.within c r.2 in
-        let sooner = decides_earlier g order z.timed.admitted.topological s.values q c a.0 (Contains-filter_parts (decides g s.values q) (numbers_below (condition_count g)) c r.2).1 in
+        let sooner = decides_earlier g order z.timed.admitted.topological s.values q c a.0
+        (Contains-filter_parts (decides g s.values q) (numbers_below (condition_count g)) c r.2).1 in
         elim (cases_Bool (node_of g (process_of g c) == node_of g p)) [
           | inl near ↦ cond-true _ _ _ near
               ∙ end_before (process_of g c) (earlier_from g order z.timed.admitted.topological p (process_of g c)
@@ -367,25 +450,30 @@ module _ (g : Graph) (urgency order : List ℕ) (frozen : List (Option ℕ)) (ro
               ∙ sym (cond-true _ _ _ near)
           | inr far ↦ cond-false _ _ _ far
               ∙ ap (λ o. unwrap_or o 0 + slot_length g (home g (broadcast_item g c)))
-              (hears_time q (decided_up_to q r.1) up.within (omega (arith, up.place, at)) (heard_up_to q r.1) c r.2 (subst (λ n. (node_of g (process_of g c) == n) ≡ false) (sym up.node) far))
+              (hears_time q (decided_up_to q r.1) up.within (omega (arith, up.place, at)) (heard_up_to q r.1) c r.2
+              (subst (λ n. (node_of g (process_of g c) == n) ≡ false) (sym up.node) far))
               ∙ sym (cond-false _ _ _ far)
         ]
 
     hearing_same : hearing_bounds g order s t p ≡ hearing_bounds g order u w p
-    hearing_same = same_map (heard_there g t (node_of g p)) (heard_there g w (node_of g p)) (flat_map (deciding g s.values) (up_to g order p)) hearing_at
-        ∙ ap (map (heard_there g w (node_of g p))) (same_flat_map (deciding g s.values) (deciding g u.values) (up_to g order p) (λ q j. deciding_is_same q (decided_up_to q j)))
+    hearing_same = same_map (heard_there g t (node_of g p)) (heard_there g w (node_of g p))
+        (flat_map (deciding g s.values) (up_to g order p)) hearing_at
+        ∙ ap (map (heard_there g w (node_of g p))) (same_flat_map (deciding g s.values) (deciding g u.values)
+        (up_to g order p) (λ q j. deciding_is_same q (decided_up_to q j)))
 
     input_at : (e : ℕ) → Contains (inputs g p) e → live g s.values e ≡ true → input_there g t e ≡ input_there g w e
     input_at e j v =
         let r = inputs_parts g p e j in
         elim (cases_Bool (is_message g e)) [
-          | inl m ↦ cond-true _ _ _ m ∙ ap (λ o. unwrap_or o 0 + slot_length g (home g (message_item g e))) (receives_time p parts.decided within at on parts.received e j m v) ∙
+          | inl m ↦ cond-true _ _ _ m ∙ ap (λ o. unwrap_or o 0 + slot_length g (home g (message_item g e)))
+              (receives_time p parts.decided within at on parts.received e j m v) ∙
               sym (cond-true _ _ _ m)
           | inr m ↦
               let near : node_of g (source g e) ≡ node_of g (target g e) = eqb-true _ _ (not-false _ m) in
               cond-false _ _ _ m
               ∙ end_before (source g e) (earlier_from g order z.timed.admitted.topological p (source g e)
-              (record { within = z.timed.admitted.formed.sources e r.0; node = near ∙ ap (node_of g) r.1; earlier = input_goes_up g order z.timed.admitted.topological p e j })) (and_parts _ _ v).0
+              (record { within = z.timed.admitted.formed.sources e r.0; node = near ∙ ap (node_of g) r.1; earlier = input_goes_up g order z.timed.admitted.topological p e j }))
+              (and_parts _ _ v).0
               ∙ sym (cond-false _ _ _ m)
         ]
 
@@ -403,12 +491,15 @@ module _ (g : Graph) (urgency order : List ℕ) (frozen : List (Option ℕ)) (ro
         let item = item_at-start g p within in
         record {
           acts = also;
-          time = free_time_same p (omega (arith, within)) (ap (item_active g s.values) item ∙ on) (ap (item_active g u.values) item ∙ also)
-              (ap (λ i. greatest (bounds_of_item g order s t p i)) item ∙ ap greatest bounds_same ∙ sym (ap (λ i. greatest (bounds_of_item g order u w p i)) item));
+          time = free_time_same p (omega (arith, within)) (ap (item_active g s.values) item ∙ on)
+              (ap (item_active g u.values) item ∙ also)
+              (ap (λ i. greatest (bounds_of_item g order s t p i)) item ∙ ap greatest bounds_same
+              ∙ sym (ap (λ i. greatest (bounds_of_item g order u w p i)) item));
           told = cond-false _ _ _ free
               ∙ ap₂ ◌++◌ (ap₂ ◌++◌ (ap₂ ◌++◌
               (same_flat_map (passed g rows u) (passed g rows s) (before_on_node g order p)
-              (λ q j. let e = earlier_at q j in passed_is_same q e.within (omega (arith, e.earlier, at)) (parts.before q j)))
+              (λ q j. let e = earlier_at q j in
+              passed_is_same q e.within (omega (arith, e.earlier, at)) (parts.before q j)))
               (decided_is_same p parts.decided))
               (heard_is_same p parts.decided within at parts.heard))
               (received_is_same p parts.decided within at on parts.received)
@@ -417,14 +508,16 @@ module _ (g : Graph) (urgency order : List ℕ) (frozen : List (Option ℕ)) (ro
 
   -- ---- each start
 
-  frozen_start : (p : ℕ) → p < process_count g → (process_at g p).frozen ≡ true → active g s.values p ≡ true → matches (carried_at_start g order rows s p) u ≡ true → SameStart p
+  frozen_start : (p : ℕ) → p < process_count g → (process_at g p).frozen ≡ true → active g s.values p ≡ true →
+      matches (carried_at_start g order rows s p) u ≡ true → SameStart p
   frozen_start p l f on h =
       let d = subst (λ ls. matches ls u ≡ true) (cond-true _ _ _ f) h in
       let also = sym (active_is_same p d) ∙ on in
       let item = item_at-start g p l in
       record {
         acts = also;
-        time = frozen_time_same p (omega (arith, l)) (ap (is_frozen_item g) item ∙ f) (ap (item_active g s.values) item ∙ on) (ap (item_active g u.values) item ∙ also);
+        time = frozen_time_same p (omega (arith, l)) (ap (is_frozen_item g) item ∙ f)
+            (ap (item_active g s.values) item ∙ on) (ap (item_active g u.values) item ∙ also);
         told = cond-true _ _ _ f ∙ decided_is_same p d ∙ sym (cond-true _ _ _ f);
       }
 
@@ -433,10 +526,12 @@ module _ (g : Graph) (urgency order : List ℕ) (frozen : List (Option ℕ)) (ro
   starts_below zero m q b l on h = absurd (omega (arith, b))
   starts_below (suc n) m q b l on h = elim (cases_Bool (process_at g q).frozen) [
     | inl f ↦ frozen_start q l f on h
-    | inr free ↦ free_start q l (omega (arith, b, m)) free on h (λ r c. starts_below n (omega (arith, m)) r (omega (arith, b, c)))
+    | inr free ↦ free_start q l (omega (arith, b, m)) free on h
+        (λ r c. starts_below n (omega (arith, m)) r (omega (arith, b, c)))
   ]
 
   -- a start with what is carried beside it has the same time in both
-  pub start_alike : (p : ℕ) → p < process_count g → place order p ≤ bound → active g s.values p ≡ true → matches (carried_at_start g order rows s p) u ≡ true → SameStart p
+  pub start_alike : (p : ℕ) → p < process_count g → place order p ≤ bound → active g s.values p ≡ true →
+      matches (carried_at_start g order rows s p) u ≡ true → SameStart p
   unfolding Before
   start_alike p l at on h = starts_below (suc bound) (omega arith) p (omega (arith, at)) l on h

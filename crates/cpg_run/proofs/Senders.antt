@@ -1,9 +1,11 @@
 -- The nodes that send have slots; and which of what an active process sends is active.
-use Rattle.std.proofs.Common.{◌≡◌, ◌≢◌, ◌∙◌, ℕ, ◌+◌, ◌-◌, ◌<◌, ◌≤◌, max, Bool, true, false, ◌&&◌, List, [], ◌∷◌, length, map, filter, Contains, if◌then◌else◌, arith, refl, sym, ap, ap₂, inl, inr}
+use Rattle.std.proofs.Common.{◌≡◌, ◌≢◌, ◌∙◌, ℕ, ◌+◌, ◌-◌, ◌<◌, ◌≤◌, max, Bool, true, false, ◌&&◌, List, [], ◌∷◌, length}
+use Rattle.std.proofs.Common.{map, filter, Contains, if◌then◌else◌, arith, refl, sym, ap, ap₂, inl, inr}
 use Rattle.std.proofs.Common.{subst, lt-ltb}
 use Rattle.std.proofs.lemmas.Bool.{cases_order}
 use Rattle.cpg_base.specs.Numbers.{greatest}
-use Rattle.cpg_base.specs.Graph.{Graph, process_count, edge_count, condition_count, item_at, source, node_of, process_of, is_message, message_item, broadcast_item, is_sent_item, producer_of_item}
+use Rattle.cpg_base.specs.Graph.{Graph, process_count, edge_count, condition_count, item_at, source, node_of}
+use Rattle.cpg_base.specs.Graph.{process_of, is_message, message_item, broadcast_item, is_sent_item, producer_of_item}
 use Rattle.cpg_base.specs.Activity.{active, live, item_active}
 use Rattle.cpg_base.specs.WellFormed.{HasSenderSlots}
 use Rattle.cpg_base.proofs.Items.{item_cases, item_at-message, item_at-broadcast}
@@ -27,24 +29,29 @@ module _ (g : Graph) where
 
     pub broadcast_slot : (c : ℕ) → c < condition_count g → 1 < length g.nodes → HasSlot g (node_of g (process_of g c))
     broadcast_slot c l many = subst (λ i. HasSlot g (node_of g (producer_of_item g i))) (item_at-broadcast g c)
-        (slots (broadcast_item g c) (omega arith) (ap (is_sent_item g) (item_at-broadcast g c) ∙ lt-ltb 1 (length g.nodes) many))
+        (slots (broadcast_item g c) (omega arith)
+        (ap (is_sent_item g) (item_at-broadcast g c) ∙ lt-ltb 1 (length g.nodes) many))
 
     pub queued_slot : (p x : ℕ) → Contains (queue_of g p) x → HasSlot g (node_of g p)
     queued_slot p x c = let q = in_queue g p x c in subst (λ r. HasSlot g (node_of g r)) q.by (slots x q.within q.sent)
 
   module _ (values : List Bool) (p x : ℕ) (queued : Contains (queue_of g p) x) where
-    pub broadcast_active : active g values p ≡ true → process_count g + edge_count g ≤ x → item_active g values (item_at g x) ≡ true
+    pub broadcast_active : active g values p ≡ true → process_count g + edge_count g ≤ x →
+        item_active g values (item_at g x) ≡ true
     broadcast_active acts late = let q = in_queue g p x queued in elim (item_cases g x q.within) [
       | inl c ↦ absurd (omega (arith, c.0))
       | inr (inl c) ↦ absurd (omega (arith, c.1, c.2))
       | inr (inr c) ↦ ap (item_active g values) c.3
-          ∙ ap₂ ◌&&◌ (sym (ap (is_sent_item g) c.3) ∙ q.sent) (ap (active g values) (sym (ap (producer_of_item g) c.3) ∙ q.by) ∙ acts)
+          ∙ ap₂ ◌&&◌ (sym (ap (is_sent_item g) c.3) ∙ q.sent)
+          (ap (active g values) (sym (ap (producer_of_item g) c.3) ∙ q.by) ∙ acts)
     ]
 
-    pub message_active : x < process_count g + edge_count g → item_active g values (item_at g x) ≡ live g values (x - process_count g)
+    pub message_active : x < process_count g + edge_count g →
+        item_active g values (item_at g x) ≡ live g values (x - process_count g)
     message_active early = let q = in_queue g p x queued in elim (item_cases g x q.within) [
       | inl c ↦ absurd (omega (arith, c.0, q.above))
-      | inr (inl c) ↦ ap (item_active g values) c.3 ∙ ap (λ b. b && live g values c.0) (sym (ap (is_sent_item g) c.3) ∙ q.sent)
+      | inr (inl c) ↦ ap (item_active g values) c.3
+          ∙ ap (λ b. b && live g values c.0) (sym (ap (is_sent_item g) c.3) ∙ q.sent)
           ∙ ap (live g values) (let e : c.0 ≡ x - process_count g = omega (arith, c.2) in e)
       | inr (inr c) ↦ absurd (omega (arith, c.2))
     ]
@@ -53,11 +60,16 @@ module _ (g : Graph) where
     queued_above = (in_queue g p x queued).above
 
 -- the greatest of those that pass, with 0 for the others
-pub greatest_passing : (f : ℕ → ℕ) (test : ℕ → Bool) (xs : List ℕ) → greatest (map (λ x. if test x then f x else 0) xs) ≡ greatest (map f (filter test xs))
+pub greatest_passing : (f : ℕ → ℕ) (test : ℕ → Bool) (xs : List ℕ) →
+    greatest (map (λ x. if test x then f x else 0) xs) ≡ greatest (map f (filter test xs))
 greatest_passing f test [] = refl
-greatest_passing f test (x ∷ xs) = greatest-cons (if test x then f x else 0) (map (λ y. if test y then f y else 0) xs) ∙ go (test x) (greatest_passing f test xs)
+greatest_passing f test (x ∷ xs) = greatest-cons (if test x then f x else 0) (map (λ y. if test y then f y else 0) xs)
+    ∙ go (test x) (greatest_passing f test xs)
   where
     go : (b : Bool) → greatest (map (λ y. if test y then f y else 0) xs) ≡ greatest (map f (filter test xs))
-        → max (if b then f x else 0) (greatest (map (λ y. if test y then f y else 0) xs)) ≡ greatest (map f (if b then x ∷ filter test xs else filter test xs))
+        → max (if b then f x else 0) (greatest (map (λ y. if test y then f y else 0) xs))
+        ≡ greatest (map f (if b then x ∷ filter test xs else filter test xs))
     go true h = ap (max (f x)) h ∙ sym (greatest-cons (f x) (map f (filter test xs)))
-    go false h = let z : max 0 (greatest (map (λ y. if test y then f y else 0) xs)) ≡ greatest (map (λ y. if test y then f y else 0) xs) = omega arith in z ∙ h
+    go false h = let z : max 0 (greatest (map (λ y. if test y then f y else 0) xs))
+        ≡ greatest (map (λ y. if test y then f y else 0) xs) = omega arith in
+        z ∙ h

@@ -1,15 +1,19 @@
 -- What a process sends next follows from what its node has sent before.
-use Rattle.std.proofs.Common.{◌≡◌, ◌∙◌, ℕ, suc, ◌+◌, ◌<◌, ◌≤◌, max, true, false, ◌&&◌, ◌==◌, ltb, List, [], ◌∷◌, ◌++◌, length, get_or, set, take, drop, Contains, Option, Some, None, option_to_list}
-use Rattle.std.proofs.Common.{arith, refl, sym, ap, ap₂, inl, inr, ◌⊎◌, ⊎_elim, subst, eq-eqb, eqb-true, lt-ltb, ltb-true, true≢false, get_or-set_same, get_or-set_other}
+use Rattle.std.proofs.Common.{◌≡◌, ◌∙◌, ℕ, suc, ◌+◌, ◌<◌, ◌≤◌, max, true, false, ◌&&◌, ◌==◌, ltb, List, [], ◌∷◌, ◌++◌}
+use Rattle.std.proofs.Common.{length, get_or, set, take, drop, Contains, Option, Some, None, option_to_list}
+use Rattle.std.proofs.Common.{arith, refl, sym, ap, ap₂, inl, inr, ◌⊎◌, ⊎_elim, subst, eq-eqb, eqb-true, lt-ltb}
+use Rattle.std.proofs.Common.{ltb-true, true≢false, get_or-set_same, get_or-set_other}
 use Rattle.std.proofs.Math.Seq.{take-suc}
 use Rattle.std.proofs.lemmas.Bool.{and_parts, and_from, or_cases, or_left, or_right, cond-false, cases_eq}
 use Rattle.std.proofs.lemmas.List.{take-append-drop}
-use Rattle.std.proofs.lemmas.List.Elements.{Contains-append_left, Contains-append_right, Contains-append_cases, Contains-get_or}
+use Rattle.std.proofs.lemmas.List.Elements.{Contains-append_left, Contains-append_right, Contains-append_cases}
+use Rattle.std.proofs.lemmas.List.Elements.{Contains-get_or}
 use Rattle.cpg_base.specs.Numbers.{numbers_below, greatest}
 use Rattle.cpg_base.specs.Graph.{Graph, process_count, item_count, item_at, producer, node_of, home}
 use Rattle.cpg_base.specs.Activity.{item_active}
 use Rattle.cpg_base.specs.Bus.{round, next_slot}
-use Rattle.cpg_base.proofs.Lists.{greatest-cons, Contains-first, Contains-cases, Contains-nil, Contains-filter_parts, numbers-Contains}
+use Rattle.cpg_base.proofs.Lists.{greatest-cons, Contains-first, Contains-cases, Contains-nil, Contains-filter_parts}
+use Rattle.cpg_base.proofs.Lists.{numbers-Contains}
 use Rattle.cpg_order.specs.Urgency.{IsTopological}
 use Rattle.cpg_base.specs.Order.{place, comes_before}
 use Rattle.cpg_order.specs.Queue.{is_queued_before, queued_before, rank_of_item}
@@ -29,26 +33,34 @@ use Rattle.cpg_bus.proofs.Queued.{in_queue, queue-Contains, queue_rises, below_f
 use Rattle.cpg_run.proofs.Starts.{greatest_option, both_ways_equal}
 
 -- the first k + 1 elements
-pub take_next : (xs : List ℕ) (k y : ℕ) → k < length xs → Contains (take (k + 1) xs) y → Contains (take k xs) y ⊎ (y ≡ get_or xs k 0)
+pub take_next : (xs : List ℕ) (k y : ℕ) → k < length xs → Contains (take (k + 1) xs) y →
+    Contains (take k xs) y ⊎ (y ≡ get_or xs k 0)
 take_next xs k y l c =
-    let is : take (k + 1) xs ≡ take k xs ++ get_or xs k 0 ∷ [] = ap (λ n. take n xs) (let e : k + 1 ≡ suc k = omega arith in e) ∙ take-suc xs k 0 l in
+    let is : take (k + 1) xs ≡ take k xs ++ get_or xs k 0 ∷ [] =
+    ap (λ n. take n xs) (let e : k + 1 ≡ suc k = omega arith in e) ∙ take-suc xs k 0 l in
     elim (Contains-append_cases (take k xs) (get_or xs k 0 ∷ []) y (subst (λ ys. Contains ys y) is c)) [
       | inl a ↦ inl a
-      | inr b ↦ elim (Contains-cases (get_or xs k 0) [] y b) [ inl e ↦ inr (sym e) | inr none ↦ absurd (Contains-nil y none) ]
+      | inr b ↦
+          elim (Contains-cases (get_or xs k 0) [] y b) [ inl e ↦ inr (sym e) | inr none ↦ absurd (Contains-nil y none) ]
     ]
 
-pub in_next : (xs : List ℕ) (k y : ℕ) → k < length xs → Contains (take k xs) y ⊎ (y ≡ get_or xs k 0) → Contains (take (k + 1) xs) y
+pub in_next : (xs : List ℕ) (k y : ℕ) → k < length xs → Contains (take k xs) y ⊎ (y ≡ get_or xs k 0) →
+    Contains (take (k + 1) xs) y
 in_next xs k y l c =
-    let is : take (k + 1) xs ≡ take k xs ++ get_or xs k 0 ∷ [] = ap (λ n. take n xs) (let e : k + 1 ≡ suc k = omega arith in e) ∙ take-suc xs k 0 l in
+    let is : take (k + 1) xs ≡ take k xs ++ get_or xs k 0 ∷ [] =
+    ap (λ n. take n xs) (let e : k + 1 ≡ suc k = omega arith in e) ∙ take-suc xs k 0 l in
     subst (λ ys. Contains ys y) (sym is) (elim c [
       | inl a ↦ Contains-append_left (take k xs) (get_or xs k 0 ∷ []) y a
-      | inr e ↦ subst (Contains (take k xs ++ get_or xs k 0 ∷ [])) (sym e) (Contains-append_right (take k xs) (get_or xs k 0 ∷ []) (get_or xs k 0) (Contains-first (get_or xs k 0) []))
+      | inr e ↦ subst (Contains (take k xs ++ get_or xs k 0 ∷ [])) (sym e)
+          (Contains-append_right (take k xs) (get_or xs k 0 ∷ []) (get_or xs k 0) (Contains-first (get_or xs k 0) []))
     ])
 
 pub Contains-take : (n : ℕ) (xs : List ℕ) (x : ℕ) → Contains (take n xs) x → Contains xs x
-Contains-take n xs x c = subst (λ ys. Contains ys x) (take-append-drop n xs) (Contains-append_left (take n xs) (drop n xs) x c)
+Contains-take n xs x c =
+    subst (λ ys. Contains ys x) (take-append-drop n xs) (Contains-append_left (take n xs) (drop n xs) x c)
 
-module _ (g : Graph) (order : List ℕ) (topological : IsTopological g order) (s : Scenario) (p : ℕ) (l : p < process_count g) where
+module _ (g : Graph) (order : List ℕ) (topological : IsTopological g order) (s : Scenario) (p : ℕ)
+    (l : p < process_count g) where
   -- ---- what a node has sent before an item
 
   module _ (k : ℕ) (inside : k < length (queue_of g p)) where
@@ -58,7 +70,8 @@ module _ (g : Graph) (order : List ℕ) (topological : IsTopological g order) (s
     pub here_sent : Contains (queue_of g p) here
     here_sent = Contains-get_or (queue_of g p) k 0 inside
 
-    queued_is_by : (y : ℕ) → Contains (queued_before g order here) y → item_active g s.values (item_at g y) ≡ true → IsSentBy g order s p k y
+    queued_is_by : (y : ℕ) → Contains (queued_before g order here) y → item_active g s.values (item_at g y) ≡ true →
+        IsSentBy g order s p k y
     queued_is_by y c acts =
         let f = Contains-filter_parts (λ y. is_queued_before g order y here) (numbers_below (item_count g)) y c in
         let m : y < item_count g = numbers-Contains (item_count g) y f.0 in
@@ -68,10 +81,12 @@ module _ (g : Graph) (order : List ℕ) (topological : IsTopological g order) (s
           record { within = m; sent = d.0; home = eqb-true _ _ d.1 ∙ ap (node_of g) x.by; active = acts },
           ⊎_elim
               (λ (e : comes_before order (producer g y) (producer g here) ≡ true).
-              inl (let less = places_from_comes_before order (producer g y) (producer g here) e in omega (arith, ap (place order) x.by)))
+              inl (let less = places_from_comes_before order (producer g y) (producer g here) e in
+              omega (arith, ap (place order) x.by)))
               (λ (e : ((producer g y == producer g here) && ltb (rank_of_item (item_at g y)) (rank_of_item (item_at g here))) ≡ true).
               let w = and_parts (producer g y == producer g here) _ e in
-              inr (in_first (rank_at g) (queue_of g p) (queue_rises g p) k inside y (queue-Contains g p y m d.0 (eqb-true _ _ w.0 ∙ x.by)) (ltb-true _ _ w.1)))
+              inr (in_first (rank_at g) (queue_of g p) (queue_rises g p) k inside y
+              (queue-Contains g p y m d.0 (eqb-true _ _ w.0 ∙ x.by)) (ltb-true _ _ w.1)))
               (or_cases _ _ b.1),
         )
 
@@ -82,10 +97,12 @@ module _ (g : Graph) (order : List ℕ) (topological : IsTopological g order) (s
         queued_from g order topological here y h.0.within
         (and_from _ _ (and_from _ _ h.0.sent same) (elim h.1 [
           | inl less ↦ or_left _ _ (comes_before_from_places order (producer g y) (producer g here)
-              (Contains-order (process_count g) order topological.all (producer g y) (producer_in_range g order topological y h.0.within)) (omega (arith, ap (place order) x.by)))
+              (Contains-order (process_count g) order topological.all (producer g y)
+              (producer_in_range g order topological y h.0.within)) (omega (arith, ap (place order) x.by)))
           | inr first ↦
               let inq : Contains (queue_of g p) y = Contains-take k (queue_of g p) y first in
-              or_right _ _ (and_from _ _ (eq-eqb _ _ ((in_queue g p y inq).by ∙ sym x.by)) (lt-ltb _ _ (below_first (rank_at g) (queue_of g p) (queue_rises g p) k inside y first)))
+              or_right _ _ (and_from _ _ (eq-eqb _ _ ((in_queue g p y inq).by ∙ sym x.by))
+              (lt-ltb _ _ (below_first (rank_at g) (queue_of g p) (queue_rises g p) k inside y first)))
         ]))
 
     -- no item stands before itself
@@ -94,7 +111,8 @@ module _ (g : Graph) (order : List ℕ) (topological : IsTopological g order) (s
 
     -- ---- when it is sent
 
-    module _ (frozen : List (Option ℕ)) (t : Times) (run : IsRun g order frozen s t) (free : ℕ) (is_free : IsMost (IsSentBy g order s p k) (free_after g t) free)
+    module _ (frozen : List (Option ℕ)) (t : Times) (run : IsRun g order frozen s t) (free : ℕ)
+        (is_free : IsMost (IsSentBy g order s p k) (free_after g t) free)
         (acts : item_active g s.values (item_at g here) ≡ true) where
       abbrev found : ℕ
       found = max (max (next_slot g (node_of g p) (end_in t p)) free) (frozen_in frozen here)
@@ -110,15 +128,18 @@ module _ (g : Graph) (order : List ℕ) (topological : IsTopological g order) (s
 
       free_by : free ≤ time_in t here
       free_by = let x = in_queue g p here here_sent in
-          is_free.least (time_in t here) (λ y h. queue_below g order frozen s t run here y x.within acts x.sent (by_is_queued y h) h.0.active)
+          is_free.least (time_in t here)
+          (λ y h. queue_below g order frozen s t run here y x.within acts x.sent (by_is_queued y h) h.0.active)
 
       bounds_found : greatest (send_bounds g order s t here) ≤ found
-      bounds_found = send_bounds_le g order s t here found (omega (arith, at_producer)) (λ y c a. omega (arith, is_free.above y (queued_is_by y c a)))
+      bounds_found = send_bounds_le g order s t here found (omega (arith, at_producer))
+          (λ y c a. omega (arith, is_free.above y (queued_is_by y c a)))
 
       pub send_is : max (max (next_slot g (node_of g p) (end_in t p)) free) (frozen_in frozen here) ≡ time_in t here
       send_is = let x = in_queue g p here here_sent in
           both_ways_equal found (time_in t here)
-          (omega (arith, free_by, item_time, at_producer, producer_below g order frozen s t run here x.within acts x.sent))
+          (omega
+          (arith, free_by, item_time, at_producer, producer_below g order frozen s t run here x.within acts x.sent))
           (omega (arith, item_time, bounds_found))
 
       pub free_next : IsMost (IsSentBy g order s p (k + 1)) (free_after g t) (time_in t here + round g)
@@ -130,11 +151,15 @@ module _ (g : Graph) (order : List ℕ) (topological : IsTopological g order) (s
             | inr e ↦ omega (arith, ap (time_in t) e)
           ]
         ];
-        least = λ b h. h here (record { within = x.within; sent = x.sent; home = ap (node_of g) x.by; active = acts }, inr (in_next (queue_of g p) k here inside (inr refl)));
+        least = λ b h. h here (
+          record { within = x.within; sent = x.sent; home = ap (node_of g) x.by; active = acts },
+          inr (in_next (queue_of g p) k here inside (inr refl)),
+        );
       }
 
     -- an item that is not active leaves the slots as free as before
-    pub free_same : (t : Times) (free : ℕ) → item_active g s.values (item_at g here) ≡ false → IsMost (IsSentBy g order s p k) (free_after g t) free →
+    pub free_same : (t : Times) (free : ℕ) → item_active g s.values (item_at g here) ≡ false →
+        IsMost (IsSentBy g order s p k) (free_after g t) free →
         IsMost (IsSentBy g order s p (k + 1)) (free_after g t) free
     free_same t free idle m = most_same (free_after g t) (IsSentBy g order s p k) (IsSentBy g order s p (k + 1)) free
         (λ y h. (h.0, elim h.1 [ inl less ↦ inl less | inr c ↦ inr (in_next (queue_of g p) k y inside (inl c)) ]))
@@ -152,25 +177,31 @@ module _ (g : Graph) (order : List ℕ) (topological : IsTopological g order) (s
 
   -- ---- one item more has its time
 
-  pub nothing_sent : (t known : Times) (free : ℕ) → CanSend g order s t p known free → HasSent g order s t p 0 known known free
+  pub nothing_sent : (t known : Times) (free : ℕ) → CanSend g order s t p known free →
+      HasSent g order s t p 0 known known free
   nothing_sent t known free can = record {
     sent = λ x c. absurd (Contains-nil x c);
     others = λ x c. refl;
-    slots_free = most_same (free_after g t) (IsSentBefore g order s (node_of g p) (place order p)) (IsSentBy g order s p 0) free
+    slots_free =
+        most_same (free_after g t) (IsSentBefore g order s (node_of g p) (place order p)) (IsSentBy g order s p 0) free
         (λ y h. (h.0, inl h.1))
         (λ y h. (h.0, elim h.1 [ inl less ↦ less | inr c ↦ absurd (Contains-nil y c) ]))
         can.slots_free;
   }
 
-  module _ (frozen : List (Option ℕ)) (t : Times) (run : IsRun g order frozen s t) (old known : Times) (k free : ℕ) (inside : k < length (queue_of g p))
+  module _ (frozen : List (Option ℕ)) (t : Times) (run : IsRun g order frozen s t) (old known : Times) (k free : ℕ)
+      (inside : k < length (queue_of g p))
       (has : HasSent g order s t p k old known free) where
     abbrev item : ℕ
     item = get_or (queue_of g p) k 0
 
-    pub sent_idle : ((x : ℕ) → Contains (queue_of g p) x → get_or old.times x None ≡ None) → item_active g s.values (item_at g item) ≡ false → HasSent g order s t p (k + 1) old known free
+    pub sent_idle : ((x : ℕ) → Contains (queue_of g p) x → get_or old.times x None ≡ None) →
+        item_active g s.values (item_at g item) ≡ false →
+        HasSent g order s t p (k + 1) old known free
     sent_idle none idle =
         let x = in_queue g p item (here_sent k inside) in
-        let no_time : get_or t.times item None ≡ None = time_is g order frozen s t run item x.within ∙ cond-false _ _ _ idle in
+        let no_time : get_or t.times item None ≡ None =
+        time_is g order frozen s t run item x.within ∙ cond-false _ _ _ idle in
         record {
           sent = λ y c. elim (take_next (queue_of g p) k y inside c) [
             | inl first ↦ has.sent y first
@@ -181,26 +212,37 @@ module _ (g : Graph) (order : List ℕ) (topological : IsTopological g order) (s
           slots_free = free_same k inside t free idle has.slots_free;
         }
 
-    pub sent_active : (new : Times) (time : ℕ) → item < length known.times → new.times ≡ set known.times item (Some time) → item_active g s.values (item_at g item) ≡ true
-        → time ≡ max (max (next_slot g (node_of g p) (end_in t p)) free) (frozen_in frozen item) → HasSent g order s t p (k + 1) old new (time + round g)
+    pub sent_active : (new : Times) (time : ℕ) → item < length known.times →
+        new.times ≡ set known.times item (Some time) →
+        item_active g s.values (item_at g item) ≡ true
+        → time ≡ max (max (next_slot g (node_of g p) (end_in t p)) free) (frozen_in frozen item) →
+        HasSent g order s t p (k + 1) old new (time + round g)
     sent_active new time long is acts at =
         let x = in_queue g p item (here_sent k inside) in
         let right : time ≡ time_in t item = at ∙ send_is k inside frozen t run free has.slots_free acts in
         record {
           sent = λ y c. elim (cases_eq y item) [
             | inl e ↦ subst (λ z. get_or new.times z None ≡ get_or t.times z None) (sym e)
-                (ap (λ ts. get_or ts item None) is ∙ get_or-set_same known.times item (Some time) None long ∙ ap Some right ∙ sym (has_time g order frozen s t run item x.within acts))
+                (ap (λ ts. get_or ts item None) is ∙ get_or-set_same known.times item (Some time) None long
+                ∙ ap Some right ∙ sym (has_time g order frozen s t run item x.within acts))
             | inr other ↦ ap (λ ts. get_or ts y None) is ∙ get_or-set_other known.times item y (Some time) None other
-                ∙ elim (take_next (queue_of g p) k y inside c) [ inl first ↦ has.sent y first | inr e ↦ absurd (other e) ]
+                ∙ elim (take_next (queue_of g p) k y inside c) [
+                  | inl first ↦ has.sent y first
+                  | inr e ↦ absurd (other e)
+                ]
           ];
           others = λ y c. ap (λ ts. get_or ts y None) is
-              ∙ get_or-set_other known.times item y (Some time) None (λ e. c (in_next (queue_of g p) k y inside (inr e)))
+              ∙ get_or-set_other known.times item y (Some time) None
+              (λ e. c (in_next (queue_of g p) k y inside (inr e)))
               ∙ has.others y (λ first. c (in_next (queue_of g p) k y inside (inl first)));
-          slots_free = subst (IsMost (IsSentBy g order s p (k + 1)) (free_after g t)) (ap (λ n. n + round g) (sym right)) (free_next k inside frozen t run free has.slots_free acts);
+          slots_free = subst (IsMost (IsSentBy g order s p (k + 1)) (free_after g t))
+              (ap (λ n. n + round g) (sym right)) (free_next k inside frozen t run free has.slots_free acts);
         }
 
 -- the time of a send, as code says it
-pub found_is : (g : Graph) (frozen : List (Option ℕ)) (time free node sender end last item x : ℕ) → time ≡ max (max (next_slot g node end) free) (frozen_in frozen item)
+pub found_is : (g : Graph) (frozen : List (Option ℕ)) (time free node sender end last item x : ℕ) →
+    time ≡ max (max (next_slot g node end) free) (frozen_in frozen item)
     → node ≡ sender → end ≡ last → item ≡ x → time ≡ max (max (next_slot g sender last) free) (frozen_in frozen x)
-found_is g frozen time free node sender end last item x is n e i = is ∙ ap₂ (λ a b. max (max (next_slot g a b) free) (frozen_in frozen item)) n e ∙
+found_is g frozen time free node sender end last item x is n e i =
+    is ∙ ap₂ (λ a b. max (max (next_slot g a b) free) (frozen_in frozen item)) n e ∙
     ap (λ y. max (max (next_slot g sender last) free) (frozen_in frozen y)) i

@@ -1,5 +1,6 @@
 -- How frozen times are found one after another along an order.
-use Rattle.std.proofs.Common.{◌≡◌, ◌≢◌, ◌∙◌, ℕ, ◌+◌, ◌<◌, ◌≤◌, true, List, length, get_or, Contains, Option, None, arith, sym, ap, subst, inl, inr}
+use Rattle.std.proofs.Common.{◌≡◌, ◌≢◌, ◌∙◌, ℕ, ◌+◌, ◌<◌, ◌≤◌, true, List, length, get_or, Contains, Option, None}
+use Rattle.std.proofs.Common.{arith, sym, ap, subst, inl, inr}
 use Rattle.std.proofs.lemmas.Bool.{cases_eq, cases_lt, both_ways}
 use Rattle.std.proofs.lemmas.List.{get_or-replicate, length-replicate, get_or_past, get_or_default}
 use Rattle.std.proofs.lemmas.List.Elements.{Contains-get_or}
@@ -35,10 +36,13 @@ pub record AreSettled (g : Graph) (order items : List ℕ) (n : ℕ) (frozen : L
 module _ (g : Graph) (order : List ℕ) (topological : IsTopological g order) where
   -- two lists of frozen times agree before an item
   abbrev pub SameBefore : List (Option ℕ) → List (Option ℕ) → ℕ → Type 0
-  SameBefore frozen others x = (y : ℕ) → y < item_count g → moment g order y < moment g order x → get_or frozen y None ≡ get_or others y None
+  SameBefore frozen others x =
+      (y : ℕ) → y < item_count g → moment g order y < moment g order x → get_or frozen y None ≡ get_or others y None
 
   -- what an item would have rests on the frozen times before it
-  would_have_same : (frozen others : List (Option ℕ)) (x time : ℕ) → x < item_count g → SameBefore frozen others x → WouldHave g order frozen x time → WouldHave g order others x time
+  would_have_same : (frozen others : List (Option ℕ)) (x time : ℕ) → x < item_count g → SameBefore frozen others x →
+      WouldHave g order frozen x time →
+      WouldHave g order others x time
   would_have_same frozen others x time h same w =
       let other = the_run g order others w.scenario topological in
       let run = run_exists g order others w.scenario topological in
@@ -48,29 +52,37 @@ module _ (g : Graph) (order : List ℕ) (topological : IsTopological g order) wh
         times = other;
         run = run;
         active = w.active;
-        has = sym (unfrozen_same g order topological w.scenario w.times other x (agree_before g order topological w.scenario w.times other frozen others w.run run (moment g order x) same) h) ∙ w.has;
+        has = sym (unfrozen_same g order topological w.scenario w.times other x (agree_before g order topological
+            w.scenario w.times other frozen others w.run run (moment g order x) same) h) ∙ w.has;
       }
 
   -- a frozen time stays one when what is set is not before it
-  pub frozen_time_kept : (frozen others : List (Option ℕ)) (x : ℕ) → x < item_count g → SameBefore frozen others x → get_or frozen x None ≡ get_or others x None → IsFrozenTime g order frozen x →
+  pub frozen_time_kept : (frozen others : List (Option ℕ)) (x : ℕ) → x < item_count g → SameBefore frozen others x →
+      get_or frozen x None ≡ get_or others x None →
+      IsFrozenTime g order frozen x →
       IsFrozenTime g order others x
   frozen_time_kept frozen others x h same here f = record {
     reached = λ time e. would_have_same frozen others x time h same (f.reached time (here ∙ e));
-    greatest = λ time other e w. f.greatest time other (here ∙ e) (would_have_same others frozen x other h (λ y i l. sym (same y i l)) w);
+    greatest = λ time other e w.
+        f.greatest time other (here ∙ e) (would_have_same others frozen x other h (λ y i l. sym (same y i l)) w);
     none = λ e time w. f.none (here ∙ e) time (would_have_same others frozen x time h (λ y i l. sym (same y i l)) w);
   }
 
   -- what an item would have is its frozen time once it is set
-  pub frozen_time_set : (frozen others : List (Option ℕ)) (x : ℕ) → x < item_count g → SameBefore frozen others x → IsUnfrozenTime g order frozen x (get_or others x None) →
+  pub frozen_time_set : (frozen others : List (Option ℕ)) (x : ℕ) → x < item_count g → SameBefore frozen others x →
+      IsUnfrozenTime g order frozen x (get_or others x None) →
       IsFrozenTime g order others x
   frozen_time_set frozen others x h same f = record {
     reached = λ time e. would_have_same frozen others x time h same (f.reached time e);
-    greatest = λ time other e w. f.greatest time other e (would_have_same others frozen x other h (λ y i l. sym (same y i l)) w);
+    greatest = λ time other e w.
+        f.greatest time other e (would_have_same others frozen x other h (λ y i l. sym (same y i l)) w);
     none = λ e time w. f.none e time (would_have_same others frozen x time h (λ y i l. sym (same y i l)) w);
   }
 
   module _ (items : List ℕ) where
-    pub settled_first : (frozen : List (Option ℕ)) (h : Graph) → items ≡ frozen_along g order → frozen ≡ nothing_frozen h → h ≡ g → AreSettled g order items 0 frozen
+    pub settled_first : (frozen : List (Option ℕ)) (h : Graph) → items ≡ frozen_along g order →
+        frozen ≡ nothing_frozen h → h ≡ g →
+        AreSettled g order items 0 frozen
     settled_first frozen h all is same = record {
       all = all;
       count = ap length is ∙ length-replicate {A = Option ℕ} (item_count h) None ∙ ap item_count same;
@@ -83,21 +95,26 @@ module _ (g : Graph) (order : List ℕ) (topological : IsTopological g order) wh
         none x = ap (λ f. get_or f x None) is ∙ none_frozen h x
 
     module _ (n : ℕ) (frozen : List (Option ℕ)) (a : AreSettled g order items n frozen) where
-      pub item_frozen : (i : ℕ) → i < length items → (get_or items i 0 < item_count g) × (is_frozen g (get_or items i 0) ≡ true)
-      item_frozen i l = frozen_listed g order topological (get_or items i 0) (subst (λ xs. Contains xs (get_or items i 0)) a.all (Contains-get_or items i 0 l))
+      pub item_frozen : (i : ℕ) → i < length items →
+          (get_or items i 0 < item_count g) × (is_frozen g (get_or items i 0) ≡ true)
+      item_frozen i l = frozen_listed g order topological (get_or items i 0)
+          (subst (λ xs. Contains xs (get_or items i 0)) a.all (Contains-get_or items i 0 l))
 
       pub next_within : n < length items → get_or items n 0 < item_count g
       next_within l = (item_frozen n l).0
 
       -- the next item has no time yet
       pub next_unset : n < length items → get_or frozen (get_or items n 0) None ≡ None
-      next_unset l = a.others (get_or items n 0) (λ i k e. omega (arith, ap (moment g order) e, later_moment g order topological items a.all i n k l))
+      next_unset l = a.others (get_or items n 0)
+          (λ i k e. omega (arith, ap (moment g order) e, later_moment g order topological items a.all i n k l))
 
       pub settled_early : IsWithinLimits g → AreEarly frozen
       settled_early within = early_from_low g order frozen within topological a.count a.low
 
-      pub settled_more : IsWithinLimits g → n < length items → (more : List (Option ℕ)) → IsUnfrozenTime g order frozen (get_or items n 0) (get_or more (get_or items n 0) None)
-          → ((y : ℕ) → y ≢ get_or items n 0 → get_or more y None ≡ get_or frozen y None) → length more ≡ length frozen → AreSettled g order items (n + 1) more
+      pub settled_more : IsWithinLimits g → n < length items → (more : List (Option ℕ)) →
+          IsUnfrozenTime g order frozen (get_or items n 0) (get_or more (get_or items n 0) None)
+          → ((y : ℕ) → y ≢ get_or items n 0 → get_or more y None ≡ get_or frozen y None) → length more ≡ length frozen →
+          AreSettled g order items (n + 1) more
       settled_more within l more is same count =
           let x = get_or items n 0 in
           let h = next_within l in
@@ -106,7 +123,8 @@ module _ (g : Graph) (order : List ℕ) (topological : IsTopological g order) wh
             count = count ∙ a.count;
             each = λ i k. elim (cases_eq i n) [
               | inl at ↦ subst (λ j. IsFrozenTime g order more (get_or items j 0)) (sym at)
-                  (frozen_time_set frozen more x h (λ y w m. sym (same y (λ e. omega (arith, ap (moment g order) e)))) is)
+                  (frozen_time_set frozen more x h
+                  (λ y w m. sym (same y (λ e. omega (arith, ap (moment g order) e)))) is)
               | inr apart ↦
                   let sooner = later_moment g order topological items a.all i n (omega arith) l in
                   frozen_time_kept frozen more (get_or items i 0) (item_frozen i (omega arith)).0
@@ -120,7 +138,11 @@ module _ (g : Graph) (order : List ℕ) (topological : IsTopological g order) wh
                 | inl at ↦
                     let r = is.reached time (ap (λ z. get_or more z None) (sym at) ∙ e) in
                     subst (λ z. time ≤ bound 0 (moment g order z) + 32000000000) (sym at)
-                    (omega (arith, r.has, unfrozen_low 0 g order frozen r.scenario r.times within topological r.lawful a.low r.run x h))
+                    (omega (
+                      arith,
+                      r.has,
+                      unfrozen_low 0 g order frozen r.scenario r.times within topological r.lawful a.low r.run x h,
+                    ))
                 | inr apart ↦ a.low.low y time w (sym (same y apart) ∙ e)
               ];
             };
@@ -131,6 +153,8 @@ module _ (g : Graph) (order : List ℕ) (topological : IsTopological g order) wh
         count = a.count;
         each = λ x h f.
             let c = subst (λ xs. Contains xs x) (sym a.all) (lists_frozen g order topological x h f) in
-            subst (IsFrozenTime g order frozen) (get_or_default items c.0 0 x c.1 ∙ c.2) (a.each c.0 (omega (arith, c.1)));
-        others = λ x f. a.others x (λ i k is. both_ways (is_frozen g x) f (ap (is_frozen g) (sym is) ∙ (item_frozen i (omega arith)).1));
+            subst (IsFrozenTime g order frozen) (get_or_default items c.0 0 x c.1 ∙ c.2)
+            (a.each c.0 (omega (arith, c.1)));
+        others = λ x f. a.others x
+            (λ i k is. both_ways (is_frozen g x) f (ap (is_frozen g) (sym is) ∙ (item_frozen i (omega arith)).1));
       }

@@ -12,7 +12,8 @@ use Rattle.cpg_run.specs.Run.{Times, IsRun, time_in, end_in, time_by, end_by}
 use Rattle.cpg_run.specs.Known.{AreEarly, AreSmall}
 use Rattle.cpg_run.proofs.Rising.{AreLow, SmallBefore, small_before, last_le}
 
-module _ (g : Graph) (order : List ℕ) (frozen : List (Option ℕ)) (s : Scenario) (t : Times) (within : IsWithinLimits g) (topological : IsTopological g order) (lawful : IsScenario g s)
+module _ (g : Graph) (order : List ℕ) (frozen : List (Option ℕ)) (s : Scenario) (t : Times) (within : IsWithinLimits g)
+    (topological : IsTopological g order) (lawful : IsScenario g s)
     (early : AreEarly frozen) (run : IsRun g order frozen s t) where
   low : AreLow (2 ^ 58) g order frozen
   low = record { low = λ x time l e. omega (arith, early x time e) }
@@ -26,11 +27,14 @@ module _ (g : Graph) (order : List ℕ) (frozen : List (Option ℕ)) (s : Scenar
     times = λ x. elim (cases_lt x (item_count g)) [
       | inl l ↦ omega (arith, at_last.items x l (moment_before_last g order topological x l), last_le g within)
       | inr l ↦ let e : time_in t x ≡ 0 = ap (λ o. unwrap_or o 0)
-          (get_or_past t.times x None (omega (arith, ap length run.times, length-map-range_with_len (time_by g order frozen s t) 0 (item_count g)))) in omega arith
+          (get_or_past t.times x None (omega
+          (arith, ap length run.times, length-map-range_with_len (time_by g order frozen s t) 0 (item_count g)))) in
+          omega arith
     ];
     ends = λ p. elim (cases_lt p (process_count g)) [
       | inl l ↦ omega (arith, at_last.ends p l (end_before_last g order topological p l), last_le g within)
-      | inr l ↦ let e : end_in t p ≡ 0 = ap (λ o. unwrap_or o 0) (get_or_past t.ends p None (omega (arith, ap length run.ends, length-map-range_with_len (end_by g s t) 0 (process_count g)))) in
+      | inr l ↦ let e : end_in t p ≡ 0 = ap (λ o. unwrap_or o 0) (get_or_past t.ends p None
+          (omega (arith, ap length run.ends, length-map-range_with_len (end_by g s t) 0 (process_count g)))) in
           omega arith
     ];
   }

@@ -1,17 +1,21 @@
 -- What is known before a place gives the start of the process there.
-use Rattle.std.proofs.Common.{◌≡◌, ◌∙◌, ℕ, ◌+◌, ◌<◌, ◌≤◌, max, true, ◌==◌, if◌then◌else◌, List, [], ◌∷◌, ◌++◌, length, get_or, filter, flat_map, Contains, Option, Some, None, option_to_list}
+use Rattle.std.proofs.Common.{◌≡◌, ◌∙◌, ℕ, ◌+◌, ◌<◌, ◌≤◌, max, true, ◌==◌, if◌then◌else◌, List, [], ◌∷◌, ◌++◌, length}
+use Rattle.std.proofs.Common.{get_or, filter, flat_map, Contains, Option, Some, None, option_to_list}
 use Rattle.std.proofs.Common.{unwrap_or, arith, refl, sym, ap, ap₂, inl, inr, subst, eq-eqb, eqb-true}
 use Rattle.std.proofs.lemmas.Bool.{cases_lt}
 use Rattle.std.proofs.lemmas.List.{get_or_past}
 use Rattle.std.proofs.lemmas.List.Elements.{Contains-append_left, Contains-append_right, Contains-append_cases}
 use Rattle.cpg_base.specs.Numbers.{numbers_below, greatest}
-use Rattle.cpg_base.specs.Graph.{Graph, process_count, edge_count, condition_count, item_count, message_item, broadcast_item, producer, producer_of_item, process_of, process_at, node_of, home, source}
+use Rattle.cpg_base.specs.Graph.{Graph, process_count, edge_count, condition_count, item_count, message_item}
+use Rattle.cpg_base.specs.Graph.{broadcast_item, producer, producer_of_item, process_of, process_at, node_of, home}
+use Rattle.cpg_base.specs.Graph.{source}
 use Rattle.cpg_base.specs.Graph.{inputs, is_message}
 use Rattle.cpg_base.specs.Activity.{active, live}
 use Rattle.cpg_base.specs.Bus.{slot_length}
 use Rattle.cpg_base.proofs.Inputs.{inputs_parts}
 use Rattle.cpg_base.proofs.Items.{item_at-start, item_at-message, item_at-broadcast, process_of_below}
-use Rattle.cpg_base.proofs.Lists.{greatest-cons, greatest-le, greatest_above, Contains-first, Contains-cases, Contains-nil, Contains-map, Contains-filter, Contains-filter_parts, Contains-flat_map}
+use Rattle.cpg_base.proofs.Lists.{greatest-cons, greatest-le, greatest_above, Contains-first, Contains-cases}
+use Rattle.cpg_base.proofs.Lists.{Contains-nil, Contains-map, Contains-filter, Contains-filter_parts, Contains-flat_map}
 use Rattle.cpg_base.proofs.Lists.{Contains-flat_map_parts, Contains-numbers, numbers-Contains}
 use Rattle.cpg_order.specs.Urgency.{IsTopological}
 use Rattle.cpg_base.specs.Order.{place, before, before_on_node}
@@ -20,7 +24,8 @@ use Rattle.cpg_base.specs.Scenario.{Scenario}
 use Rattle.cpg_order.proofs.Acyclic.{input_goes_up, source_in_order}
 use Rattle.cpg_order.proofs.DecidingLaws.{decides_earlier}
 use Rattle.cpg_base.proofs.Places.{Contains-order, Contains-before, from_order, on_node_before}
-use Rattle.cpg_run.specs.Run.{Times, IsRun, time_in, end_in, frame_there, input_there, heard_there, input_bounds, start_bounds, bounds_of_item, unfrozen_time}
+use Rattle.cpg_run.specs.Run.{Times, IsRun, time_in, end_in, frame_there, input_there, heard_there, input_bounds}
+use Rattle.cpg_run.specs.Run.{start_bounds, bounds_of_item, unfrozen_time}
 use Rattle.cpg_run.proofs.Runs.{time_in_active, start_acts, release_below, input_below, before_below, hearing_below}
 use Rattle.cpg_run.specs.Known.{AreSmall, frozen_in}
 use Rattle.cpg_run.specs.Most.{IsMost}
@@ -46,27 +51,35 @@ module _ (g : Graph) (order : List ℕ) (t : Times) (i : ℕ) (known : Times) (k
   known_frame : (x : ℕ) → x < item_count g → place order (producer g x) < i → frame_there g known x ≡ frame_there g t x
   known_frame x l h = ap (λ n. n + slot_length g (home g x)) (known_item x l h)
 
-  pub known_input_of : (e : ℕ) → e < edge_count g → source g e < process_count g → place order (source g e) < i → input_there g known e ≡ input_there g t e
+  pub known_input_of : (e : ℕ) → e < edge_count g → source g e < process_count g → place order (source g e) < i →
+      input_there g known e ≡ input_there g t e
   known_input_of e h l less = ap₂ (λ v w. if is_message g e then v else w)
-      (known_frame (message_item g e) (omega arith) (omega (arith, ap (λ j. place order (producer_of_item g j)) (item_at-message g e h))))
+      (known_frame (message_item g e) (omega arith)
+      (omega (arith, ap (λ j. place order (producer_of_item g j)) (item_at-message g e h))))
       (known_end (source g e) l less)
 
-  pub known_heard_of : (node c : ℕ) → c < condition_count g → place order (process_of g c) < i → heard_there g known node c ≡ heard_there g t node c
+  pub known_heard_of : (node c : ℕ) → c < condition_count g → place order (process_of g c) < i →
+      heard_there g known node c ≡ heard_there g t node c
   known_heard_of node c h less = ap₂ (λ v w. if node_of g (process_of g c) == node then v else w)
       (known_end (process_of g c) (process_of_below g c h) less)
-      (known_frame (broadcast_item g c) (omega arith) (omega (arith, ap (λ j. place order (producer_of_item g j)) (item_at-broadcast g c))))
+      (known_frame (broadcast_item g c) (omega arith)
+      (omega (arith, ap (λ j. place order (producer_of_item g j)) (item_at-broadcast g c))))
 
-  pub known_small : length known.times ≡ item_count g → length known.ends ≡ process_count g → AreSmall t → AreSmall known
+  pub known_small : length known.times ≡ item_count g → length known.ends ≡ process_count g → AreSmall t →
+      AreSmall known
   known_small items processes small = record {
     times = λ x. elim (cases_lt x (item_count g)) [
-      | inr past ↦ let e : time_in known x ≡ 0 = ap (λ o. unwrap_or o 0) (get_or_past known.times x None (omega arith)) in omega arith
+      | inr past ↦ let e : time_in known x ≡ 0 =
+          ap (λ o. unwrap_or o 0) (get_or_past known.times x None (omega arith)) in
+          omega arith
       | inl l ↦ elim (cases_lt (place order (producer g x)) i) [
         | inl h ↦ omega (arith, known_item x l h, small.times x)
         | inr h ↦ let e : time_in known x ≡ 0 = ap (λ o. unwrap_or o 0) (knows.later x l h) in omega arith
       ]
     ];
     ends = λ p. elim (cases_lt p (process_count g)) [
-      | inr past ↦ let e : end_in known p ≡ 0 = ap (λ o. unwrap_or o 0) (get_or_past known.ends p None (omega arith)) in omega arith
+      | inr past ↦ let e : end_in known p ≡ 0 = ap (λ o. unwrap_or o 0) (get_or_past known.ends p None (omega arith)) in
+          omega arith
       | inl l ↦ elim (cases_lt (place order p) i) [
         | inl h ↦ omega (arith, known_end p l h, small.ends p)
         | inr h ↦ let e : end_in known p ≡ 0 = ap (λ o. unwrap_or o 0) (knows.no_ends p l h) in omega arith
@@ -74,35 +87,46 @@ module _ (g : Graph) (order : List ℕ) (t : Times) (i : ℕ) (known : Times) (k
     ];
   }
 
-  module _ (topological : IsTopological g order) (s : Scenario) (p : ℕ) (l : p < process_count g) (at : place order p ≡ i) where
+  module _ (topological : IsTopological g order) (s : Scenario) (p : ℕ) (l : p < process_count g)
+      (at : place order p ≡ i) where
     pub known_input : (e : ℕ) → Contains (inputs g p) e → input_there g known e ≡ input_there g t e
     known_input e c =
         let h = (inputs_parts g p e c).0 in
-        known_input_of e h (source_in_order g order topological e h) (omega (arith, input_goes_up g order topological p e c))
+        known_input_of e h (source_in_order g order topological e h)
+        (omega (arith, input_goes_up g order topological p e c))
 
-    pub decided_sooner : (q c : ℕ) → place order q ≤ i → c < condition_count g → decides g s.values q c ≡ true → place order (process_of g c) < i
+    pub decided_sooner : (q c : ℕ) → place order q ≤ i → c < condition_count g → decides g s.values q c ≡ true →
+        place order (process_of g c) < i
     decided_sooner q c h k d = omega (arith, decides_earlier g order topological s.values q c k d)
 
-    before_in : (q : ℕ) → q < process_count g → place order q < i → node_of g q ≡ node_of g p → Contains (before_on_node g order p) q
-    before_in q k less same = Contains-filter (λ (r : ℕ). node_of g r == node_of g p) (before order p) q (eq-eqb _ _ same)
+    before_in : (q : ℕ) → q < process_count g → place order q < i → node_of g q ≡ node_of g p →
+        Contains (before_on_node g order p) q
+    before_in q k less same =
+        Contains-filter (λ (r : ℕ). node_of g r == node_of g p) (before order p) q (eq-eqb _ _ same)
         (Contains-before order q p (Contains-order (process_count g) order topological.all q k) (omega arith))
 
-    in_hearing : (q c : ℕ) → Contains (before_on_node g order p ++ p ∷ []) q → c < condition_count g → decides g s.values q c ≡ true
+    in_hearing : (q c : ℕ) → Contains (before_on_node g order p ++ p ∷ []) q → c < condition_count g →
+        decides g s.values q c ≡ true
         → Contains (flat_map (deciding g s.values) (before_on_node g order p ++ p ∷ [])) c
     in_hearing q c k h d = Contains-flat_map (deciding g s.values) (before_on_node g order p ++ p ∷ []) q c k
-        (Contains-filter (decides g s.values q) (numbers_below (condition_count g)) c d (Contains-numbers (condition_count g) c h))
+        (Contains-filter (decides g s.values q) (numbers_below (condition_count g)) c d
+        (Contains-numbers (condition_count g) c h))
 
     -- what decides the process is heard then in the run as well
-    pub decided_in_run : (v : ℕ) → IsMost (λ c. (c < condition_count g) × (decides g s.values p c ≡ true)) (heard_there g known (node_of g p)) v
+    pub decided_in_run : (v : ℕ) →
+        IsMost (λ c. (c < condition_count g) × (decides g s.values p c ≡ true)) (heard_there g known (node_of g p)) v
         → IsMost (λ c. (c < condition_count g) × (decides g s.values p c ≡ true)) (heard_there g t (node_of g p)) v
     decided_in_run v m = record {
-      above = λ c d. omega (arith, m.above c d, known_heard_of (node_of g p) c d.0 (decided_sooner p c (omega arith) d.0 d.1));
-      least = λ b h. m.least b (λ c d. omega (arith, h c d, known_heard_of (node_of g p) c d.0 (decided_sooner p c (omega arith) d.0 d.1)));
+      above = λ c d.
+          omega (arith, m.above c d, known_heard_of (node_of g p) c d.0 (decided_sooner p c (omega arith) d.0 d.1));
+      least = λ b h. m.least b
+          (λ c d. omega (arith, h c d, known_heard_of (node_of g p) c d.0 (decided_sooner p c (omega arith) d.0 d.1)));
     }
 
     module _ (frozen : List (Option ℕ)) (run : IsRun g order frozen s t) (acts : active g s.values p ≡ true)
         (ready heard : ℕ) (is_ready : IsReady g order s t i (node_of g p) ready)
-        (is_heard : IsMost (λ c. (c < condition_count g) × (decides g s.values p c ≡ true)) (heard_there g known (node_of g p)) heard) where
+        (is_heard : IsMost (λ c. (c < condition_count g) × (decides g s.values p c ≡ true))
+        (heard_there g known (node_of g p)) heard) where
       abbrev inputs_by : ℕ
       inputs_by = greatest (input_bounds g s known p)
 
@@ -112,23 +136,28 @@ module _ (g : Graph) (order : List ℕ) (t : Times) (i : ℕ) (known : Times) (k
       time_is : time_in t p ≡ max (greatest (start_bounds g order s t p)) (frozen_in frozen p)
       time_is = time_in_active g order frozen s t run p (omega arith) (start_acts g order frozen s t run p l acts)
           ∙ greatest-cons (unfrozen_time g order s t p) (option_to_list (get_or frozen p None))
-          ∙ ap₂ max (ap (λ j. greatest (bounds_of_item g order s t p j)) (item_at-start g p l)) (greatest_option (get_or frozen p None))
+          ∙ ap₂ max (ap (λ j. greatest (bounds_of_item g order s t p j)) (item_at-start g p l))
+          (greatest_option (get_or frozen p None))
 
       ready_by : ready ≤ time_in t p
       ready_by = is_ready.least (time_in t p)
           (λ q k less same a. before_below g order frozen s t run p q l acts (before_in q k less same) a)
-          (λ q c k less same h d. hearing_below g order frozen s t run p c l acts (in_hearing q c (Contains-append_left (before_on_node g order p) (p ∷ []) q (before_in q k less same)) h d))
+          (λ q c k less same h d. hearing_below g order frozen s t run p c l acts (in_hearing q c
+          (Contains-append_left (before_on_node g order p) (p ∷ []) q (before_in q k less same)) h d))
 
       heard_by : heard ≤ time_in t p
       heard_by = (decided_in_run heard is_heard).least (time_in t p)
-          (λ c d. hearing_below g order frozen s t run p c l acts (in_hearing p c (Contains-append_right (before_on_node g order p) (p ∷ []) p (Contains-first p [])) d.0 d.1))
+          (λ c d. hearing_below g order frozen s t run p c l acts (in_hearing p c
+          (Contains-append_right (before_on_node g order p) (p ∷ []) p (Contains-first p [])) d.0 d.1))
 
       inputs_in : inputs_by ≤ time_in t p
       inputs_in = greatest-le (input_bounds g s known p) (time_in t p)
           (λ v c. passing_le (input_there g known) (filter (live g s.values) (inputs g p)) v (time_in t p)
-          (λ e k. let r = Contains-filter_parts (live g s.values) (inputs g p) e k in omega (arith, known_input e r.0, input_below g order frozen s t run p e l acts r.0 r.1)) c)
+          (λ e k. let r = Contains-filter_parts (live g s.values) (inputs g p) e k in
+          omega (arith, known_input e r.0, input_below g order frozen s t run p e l acts r.0 r.1)) c)
 
-      heard_found : (c : ℕ) → Contains (flat_map (deciding g s.values) (before_on_node g order p ++ p ∷ [])) c → heard_there g t (node_of g p) c ≤ found
+      heard_found : (c : ℕ) → Contains (flat_map (deciding g s.values) (before_on_node g order p ++ p ∷ [])) c →
+          heard_there g t (node_of g p) c ≤ found
       heard_found c k =
           let q = Contains-flat_map_parts (deciding g s.values) (before_on_node g order p ++ p ∷ []) c k in
           let r = Contains-filter_parts (decides g s.values q.0) (numbers_below (condition_count g)) c q.2 in
@@ -136,10 +165,18 @@ module _ (g : Graph) (order : List ℕ) (t : Times) (i : ℕ) (known : Times) (k
           elim (Contains-append_cases (before_on_node g order p) (p ∷ []) q.0 q.1) [
             | inl b ↦
                 let o = on_node_before g order p q.0 b in
-                let same : node_of g q.0 ≡ node_of g p = eqb-true _ _ (Contains-filter_parts (λ (r : ℕ). node_of g r == node_of g p) (before order p) q.0 b).1 in
-                omega (arith, is_ready.heard q.0 c (from_order (process_count g) order topological.all q.0 o.0) (omega (arith, o.1)) same h r.1)
+                let same : node_of g q.0 ≡ node_of g p = eqb-true _ _
+                (Contains-filter_parts (λ (r : ℕ). node_of g r == node_of g p) (before order p) q.0 b).1 in
+                omega (
+                  arith,
+                  is_ready.heard q.0 c (from_order (process_count g) order topological.all q.0 o.0)
+                      (omega (arith, o.1)) same h r.1,
+                )
             | inr b ↦ elim (Contains-cases p [] q.0 b) [
-              | inl e ↦ omega (arith, (decided_in_run heard is_heard).above c (h, subst (λ o. decides g s.values o c ≡ true) (sym e) r.1))
+              | inl e ↦ omega (
+                arith,
+                (decided_in_run heard is_heard).above c (h, subst (λ o. decides g s.values o c ≡ true) (sym e) r.1),
+              )
               | inr none ↦ absurd (Contains-nil q.0 none)
             ]
           ]
@@ -150,16 +187,22 @@ module _ (g : Graph) (order : List ℕ) (t : Times) (i : ℕ) (known : Times) (k
             arith,
             known_input e c,
             greatest_above (input_bounds g s known p) (input_there g known e)
-                (Contains-map (input_there g known) (filter (live g s.values) (inputs g p)) e (Contains-filter (live g s.values) (inputs g p) e a c)),
+                (Contains-map (input_there g known) (filter (live g s.values) (inputs g p)) e
+                (Contains-filter (live g s.values) (inputs g p) e a c)),
           ))
           (λ q c a.
           let o = on_node_before g order p q c in
-          let same : node_of g q ≡ node_of g p = eqb-true _ _ (Contains-filter_parts (λ (r : ℕ). node_of g r == node_of g p) (before order p) q c).1 in
-          omega (arith, is_ready.ends q (from_order (process_count g) order topological.all q o.0) (omega (arith, o.1)) same a))
+          let same : node_of g q ≡ node_of g p =
+          eqb-true _ _ (Contains-filter_parts (λ (r : ℕ). node_of g r == node_of g p) (before order p) q c).1 in
+          omega (
+            arith,
+            is_ready.ends q (from_order (process_count g) order topological.all q o.0) (omega (arith, o.1)) same a,
+          ))
           heard_found
 
       -- the start of the process
-      pub start_is : max (max (max (max ready heard) (process_at g p).release) (greatest (input_bounds g s known p))) (frozen_in frozen p) ≡ time_in t p
+      pub start_is : max (max (max (max ready heard) (process_at g p).release) (greatest (input_bounds g s known p)))
+          (frozen_in frozen p) ≡ time_in t p
       start_is = both_ways_equal found (time_in t p)
           (omega (arith, ready_by, heard_by, inputs_in, release_below g order frozen s t run p l acts, time_is))
           (omega (arith, time_is, bounds_found))

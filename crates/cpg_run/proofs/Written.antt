@@ -1,6 +1,8 @@
 -- Rows that carry no more than they may can be written as tables, and these are lawful.
-use Rattle.std.proofs.Common.{◌≡◌, ◌≢◌, ℕ, zero, suc, ◌+◌, ◌*◌, ◌^◌, ◌<◌, ◌≤◌, Bool, true, false, ◌&&◌, nat_lt, List, [], ◌∷◌, ◌++◌, Option, Some, None, length, get_or, filter, sum_by, unwrap_or, All}
-use Rattle.std.proofs.Common.{Contains, refl, sym, ap, ◌∙◌, subst, arith, inl, inr, append-nil, eq-eqb, ne_eqb, lt-ltb, le-ltb, cond, ◌⊎◌, flat_map}
+use Rattle.std.proofs.Common.{◌≡◌, ◌≢◌, ℕ, zero, suc, ◌+◌, ◌*◌, ◌^◌, ◌<◌, ◌≤◌, Bool, true, false, ◌&&◌, nat_lt, List}
+use Rattle.std.proofs.Common.{[], ◌∷◌, ◌++◌, Option, Some, None, length, get_or, filter, sum_by, unwrap_or, All}
+use Rattle.std.proofs.Common.{Contains, refl, sym, ap, ◌∙◌, subst, arith, inl, inr, append-nil, eq-eqb, ne_eqb, lt-ltb}
+use Rattle.std.proofs.Common.{le-ltb, cond, ◌⊎◌, flat_map}
 use Rattle.std.proofs.lemmas.Bool.{cases_lt, cond-true, cond-false, and_from, or_left, or_right, both_ways}
 use Rattle.std.proofs.lemmas.List.{length-map, get_or-map, get_or_past}
 use Rattle.std.proofs.lemmas.List.Elements.{All-contains, All-from_get_or, Contains-get_or}
@@ -22,7 +24,8 @@ use Rattle.cpg_cube.specs.Fit.{IsCube}
 use Rattle.cpg_cube.specs.declared.literal.Literal.{Literal}
 use Rattle.cpg_cube.proofs.CubeLows.{holds-low, holds-high}
 use Rattle.cpg_base.specs.Scenario.{Scenario, IsScenario}
-use Rattle.cpg_order.specs.Reach.{Reach, IsReach, reach_of, views, load, rows_of_item, is_too_wide, most_views, most_loads}
+use Rattle.cpg_order.specs.Reach.{Reach, IsReach, reach_of, views, load, rows_of_item, is_too_wide, most_views}
+use Rattle.cpg_order.specs.Reach.{most_loads}
 use Rattle.cpg_order.proofs.ReachExists.{some_reach}
 use Rattle.cpg_merging.specs.Merged.{IsLeastMatch}
 use Rattle.cpg_table.specs.Table.{Row, NodeTable, columns_in, columns_of}
@@ -32,7 +35,8 @@ use Rattle.cpg_table.proofs.NodeRows.{no_row}
 use Rattle.cpg_run.specs.Alike.{Admitted}
 use Rattle.cpg_run.specs.Carried.{row_at}
 use Rattle.cpg_run.specs.Carrying.{IsCarryingRow, AreTablesCarrying, AreExactAndLawful}
-use Rattle.cpg_run.specs.Found.{columns_of_rows, AreRowsFound, NoneIsTooWide, DoRowsFit, FoundRowsFit, FoundRowsAreWritable}
+use Rattle.cpg_run.specs.Found.{columns_of_rows, AreRowsFound, NoneIsTooWide, DoRowsFit, FoundRowsFit}
+use Rattle.cpg_run.specs.Found.{FoundRowsAreWritable}
 use Rattle.cpg_run.specs.Known.{AreSmall}
 use Rattle.cpg_run.specs.RowLaws.{IsTimed}
 use Rattle.cpg_run.proofs.CarryingTables.{carrying_tables_are_lawful}
@@ -43,7 +47,9 @@ use Rattle.cpg_run.proofs.Small.{run_small}
 -- ---- rows as tables
 
 -- rows by number from a on: each has the columns of its number
-columns_there : (rows : List Row) (a k : ℕ) → k < length rows → ((i : ℕ) → i < length rows → (get_or rows i no_row).item ≡ a + i) → columns_in rows (a + k) ≡ (get_or rows k no_row).columns
+columns_there : (rows : List Row) (a k : ℕ) → k < length rows →
+    ((i : ℕ) → i < length rows → (get_or rows i no_row).item ≡ a + i) →
+    columns_in rows (a + k) ≡ (get_or rows k no_row).columns
 columns_there [] a k l h = absurd (omega arith)
 columns_there (row ∷ rows) a zero l h = cond-true _ _ _ (eq-eqb row.item (a + 0) (h 0 (omega arith)))
 columns_there (row ∷ rows) a (suc k) l h =
@@ -53,9 +59,11 @@ columns_there (row ∷ rows) a (suc k) l h =
     ∙ columns_there rows (a + 1) k (omega arith) (λ i m. h (suc i) (omega arith) ∙ omega arith)
 
 -- an item that no row has
-columns_nowhere : (rows : List Row) (x : ℕ) → ((i : ℕ) → i < length rows → (get_or rows i no_row).item ≢ x) → columns_in rows x ≡ []
+columns_nowhere : (rows : List Row) (x : ℕ) → ((i : ℕ) → i < length rows → (get_or rows i no_row).item ≢ x) →
+    columns_in rows x ≡ []
 columns_nowhere [] x h = refl
-columns_nowhere (row ∷ rows) x h = cond-false _ _ _ (ne_eqb row.item x (h 0 (omega arith))) ∙ columns_nowhere rows x (λ i m. h (suc i) (omega arith))
+columns_nowhere (row ∷ rows) x h =
+    cond-false _ _ _ (ne_eqb row.item x (h 0 (omega arith))) ∙ columns_nowhere rows x (λ i m. h (suc i) (omega arith))
 
 -- one table that has all rows, as if they were starts
 abbrev one_table : List Row → List NodeTable
@@ -65,10 +73,13 @@ one_table rows = record { faults = 0; first_broadcast = 0; own = []; starts = ro
 columns_at : (rows : List Row) (x : ℕ) → row_at (columns_of_rows rows) x ≡ (row_for rows x).columns
 columns_at rows x = elim (cases_lt x (length rows)) [
   | inl l ↦ get_or-map (λ (row : Row). row.columns) rows x no_row [] l
-  | inr past ↦ get_or_past (columns_of_rows rows) x [] (omega (arith, past, length-map rows (λ (row : Row). row.columns))) ∙ sym (ap (λ (row : Row). row.columns) (get_or_past rows x no_row past))
+  | inr past ↦
+      get_or_past (columns_of_rows rows) x [] (omega (arith, past, length-map rows (λ (row : Row). row.columns)))
+      ∙ sym (ap (λ (row : Row). row.columns) (get_or_past rows x no_row past))
 ]
 
-module _ (g : Graph) (within : IsWithinLimits g) (urgency order : List ℕ) (admitted : Admitted g urgency order) (frozen : List (Option ℕ)) (rows : List Row)
+module _ (g : Graph) (within : IsWithinLimits g) (urgency order : List ℕ) (admitted : Admitted g urgency order)
+    (frozen : List (Option ℕ)) (rows : List Row)
     (is : AreRowsFound g urgency order frozen rows) where
   abbrev columns : List (List Column)
   columns = columns_of_rows rows
@@ -80,7 +91,8 @@ module _ (g : Graph) (within : IsWithinLimits g) (urgency order : List ℕ) (adm
   long = sym (length-map rows (λ (row : Row). row.item)) ∙ ap length is.items ∙ length-range_with_len 0 (item_count g)
 
   item_is : (x : ℕ) → x < item_count g → (row_for rows x).item ≡ x
-  item_is x l = sym (get_or-map (λ (row : Row). row.item) rows x no_row 0 (omega (arith, l, long))) ∙ ap (λ xs. get_or xs x 0) is.items ∙ get_or-range_with_len 0 (item_count g) x 0 l ∙ omega arith
+  item_is x l = sym (get_or-map (λ (row : Row). row.item) rows x no_row 0 (omega (arith, l, long)))
+      ∙ ap (λ xs. get_or xs x 0) is.items ∙ get_or-range_with_len 0 (item_count g) x 0 l ∙ omega arith
 
   -- ---- tables with these rows
 
@@ -100,62 +112,88 @@ module _ (g : Graph) (within : IsWithinLimits g) (urgency order : List ℕ) (adm
   one_has x = ap (λ rs. columns_in rs x) all_rows ∙ elim (cases_lt x (item_count g)) [
     | inl l ↦ let first : ℕ = 0 in ap (columns_in rows) (let e : x ≡ first + x = omega arith in e) ∙
         columns_there rows first x (omega (arith, l, long)) (λ i m. item_is i (omega (arith, m, long)) ∙ omega arith)
-    | inr past ↦ columns_nowhere rows x (λ i m e. let own = item_is i (omega (arith, m, long)) in absurd (omega (arith, m, long, own, e, past)))
+    | inr past ↦ columns_nowhere rows x (λ i m e. let own = item_is i (omega (arith, m, long)) in
+        absurd (omega (arith, m, long, own, e, past)))
         ∙ sym (ap (λ (row : Row). row.columns) (get_or_past rows x no_row (omega (arith, past, long))))
   ]
 
-  row_views : (r : Reach) → IsReach g order r → (x : ℕ) → x < item_count g → length (row_for rows x).columns ≤ views g (reach_of r x)
-  row_views r reached x l = subst (λ cs. length cs ≤ views g (reach_of r x)) (one_has x) ((lawful (one_table rows) one_has r reached).views within.few_processes x l)
+  row_views : (r : Reach) → IsReach g order r → (x : ℕ) → x < item_count g →
+      length (row_for rows x).columns ≤ views g (reach_of r x)
+  row_views r reached x l = subst (λ cs. length cs ≤ views g (reach_of r x)) (one_has x)
+      ((lawful (one_table rows) one_has r reached).views within.few_processes x l)
 
   -- a column has the time of a run
-  column_time : (x : ℕ) → x < item_count g → (c : Column) → Contains (row_at columns x) c → (s : Scenario) → IsScenario g s → matches c.cube s ≡ true → c.time < 2 ^ 59
+  column_time : (x : ℕ) → x < item_count g → (c : Column) → Contains (row_at columns x) c → (s : Scenario) →
+      IsScenario g s → matches c.cube s ≡ true → c.time < 2 ^ 59
   column_time x l c k s lawful m =
       let r = a_run g order frozen s admitted.topological in
       let there = Contains-map (λ (d : Column). d.time) (filter (λ (d : Column). matches d.cube s) (row_at columns x)) c
       (Contains-filter (λ (d : Column). matches d.cube s) (row_at columns x) c m k) in
-      let is_time : get_or r.0.times x None ≡ Some c.time = in_option (get_or r.0.times x None) c.time (subst (λ ts. Contains ts c.time) ((is.found.each x l).times s r.0 lawful r.1) there) in
+      let is_time : get_or r.0.times x None ≡ Some c.time = in_option (get_or r.0.times x None) c.time
+      (subst (λ ts. Contains ts c.time) ((is.found.each x l).times s r.0 lawful r.1) there) in
       let small : AreSmall r.0 = run_small g order frozen s r.0 within admitted.topological lawful is.early r.1 in
       subst (λ o. unwrap_or o 0 < 2 ^ 59) is_time (small.times x)
 
   column_writable : (x : ℕ) → x < item_count g → (c : Column) → Contains (row_at columns x) c → IsWritable g c
   column_writable x l c k =
       let row : IsCarryingRow g urgency order frozen columns x = is.found.each x l in
-      let least = All-contains (λ (d : Column). (s : Scenario) × IsLeastMatch g urgency d s) (row_at columns x) c row.met k in
+      let least =
+      All-contains (λ (d : Column). (s : Scenario) × IsLeastMatch g urgency d s) (row_at columns x) c row.met k in
       record {
         time = column_time x l c k least.0 least.1.lawful least.1.holds;
         cube = All-contains (λ (d : Column). IsCube g d.cube) (row_at columns x) c row.cubes k;
         some = λ i d h.
             let m : Literal = get_or c.cube i d in
-            let holds_there : holds least.0 m ≡ true = from_all (holds least.0) c.cube m least.1.holds (Contains-get_or c.cube i d h) in
+            let holds_there : holds least.0 m ≡ true =
+            from_all (holds least.0) c.cube m least.1.holds (Contains-get_or c.cube i d h) in
             omega (arith, holds-low least.0 m holds_there, holds-high least.0 m holds_there);
-        within = All-contains (λ (d : Column). All (λ (m : Literal). m.high ≤ top g.faults m.variable) d.cube) (row_at columns x) c row.within k;
-        not_whole = All-contains (λ (d : Column). All (λ (m : Literal). is_whole g.faults m ≡ false) d.cube) (row_at columns x) c row.not_whole k;
+        within = All-contains (λ (d : Column). All (λ (m : Literal). m.high ≤ top g.faults m.variable) d.cube)
+            (row_at columns x) c row.within k;
+        not_whole = All-contains (λ (d : Column). All (λ (m : Literal). is_whole g.faults m ≡ false) d.cube)
+            (row_at columns x) c row.not_whole k;
       }
 
   row_writable : (x : ℕ) → x < item_count g → All (IsWritable g) (row_at columns x)
-  row_writable x l = λ i d h. column_writable x l (get_or (row_at columns x) i d) (Contains-get_or (row_at columns x) i d h)
+  row_writable x l =
+      λ i d h. column_writable x l (get_or (row_at columns x) i d) (Contains-get_or (row_at columns x) i d h)
 
   -- what is neither started nor sent has no column
-  never_active : (x : ℕ) → is_sent g x ≡ false → process_count g ≤ x → ItemCases g x → (s : Scenario) → item_active g s.values (item_at g x) ≡ false
+  never_active : (x : ℕ) → is_sent g x ≡ false → process_count g ≤ x → ItemCases g x → (s : Scenario) →
+      item_active g s.values (item_at g x) ≡ false
   never_active x unsent later (inl c) s = absurd (omega (arith, c.0))
-  never_active x unsent later (inr (inl c)) s = ap (item_active g s.values) c.3 ∙ ap (λ b. b && live g s.values c.0) (sym (ap (is_sent_item g) c.3) ∙ unsent)
-  never_active x unsent later (inr (inr c)) s = ap (item_active g s.values) c.3 ∙ ap (λ b. b && active g s.values (process_of g c.0)) (sym (ap (is_sent_item g) c.3) ∙ unsent)
+  never_active x unsent later (inr (inl c)) s =
+      ap (item_active g s.values) c.3 ∙ ap (λ b. b && live g s.values c.0) (sym (ap (is_sent_item g) c.3) ∙ unsent)
+  never_active x unsent later (inr (inr c)) s = ap (item_active g s.values) c.3
+      ∙ ap (λ b. b && active g s.values (process_of g c.0)) (sym (ap (is_sent_item g) c.3) ∙ unsent)
 
   unsent_row : (x : ℕ) → process_count g ≤ x → x < item_count g → is_sent g x ≡ false → (row_for rows x).columns ≡ []
-  unsent_row x later l unsent = sym (columns_at rows x) ∙ never_columns g urgency order frozen timed columns is.found x (λ s lawful. never_active x unsent later (item_cases g x l) s)
+  unsent_row x later l unsent = sym (columns_at rows x) ∙ never_columns g urgency order frozen timed columns is.found x
+      (λ s lawful. never_active x unsent later (item_cases g x l) s)
 
   -- an item that stands in no row is neither started nor sent
   rowless : (x : ℕ) → ItemCases g x → rows_of_item g (item_at g x) ≤ 0 → (process_count g ≤ x) × (is_sent g x ≡ false)
-  rowless x (inl c) none = let one : rows_of_item g (item_at g x) ≡ 1 = ap (rows_of_item g) c.1 in absurd (omega (arith, one, none))
-  rowless x (inr (inl c)) none = (omega (arith, c.2), ap (is_sent_item g) c.3 ∙ message_rowless (is_sent_item g (Message c.0)) (omega (arith, none, ap (rows_of_item g) c.3)))
+  rowless x (inl c) none = let one : rows_of_item g (item_at g x) ≡ 1 = ap (rows_of_item g) c.1 in
+      absurd (omega (arith, one, none))
+  rowless x (inr (inl c)) none = (
+    omega (arith, c.2),
+    ap (is_sent_item g) c.3
+        ∙ message_rowless (is_sent_item g (Message c.0)) (omega (arith, none, ap (rows_of_item g) c.3)),
+  )
     where
       message_rowless : (b : Bool) → cond b 2 0 ≤ 0 → b ≡ false
       message_rowless true h = absurd (omega arith)
       message_rowless false h = refl
-  rowless x (inr (inr c)) none = (omega (arith, c.2), ap (is_sent_item g) c.3 ∙ broadcast_rowless (cases_lt 1 (length g.nodes)) (omega (arith, none, ap (rows_of_item g) c.3)))
+  rowless x (inr (inr c)) none = (
+    omega (arith, c.2),
+    ap (is_sent_item g) c.3
+        ∙ broadcast_rowless (cases_lt 1 (length g.nodes)) (omega (arith, none, ap (rows_of_item g) c.3)),
+  )
     where
-      broadcast_rowless : (1 < length g.nodes) ⊎ (length g.nodes ≤ 1) → cond (nat_lt 1 (length g.nodes)) (length g.nodes) 0 ≤ 0 → nat_lt 1 (length g.nodes) ≡ false
-      broadcast_rowless (inl l) h = absurd (omega (arith, l, h, cond-true (nat_lt 1 (length g.nodes)) (length g.nodes) 0 (lt-ltb 1 (length g.nodes) l)))
+      broadcast_rowless : (1 < length g.nodes) ⊎ (length g.nodes ≤ 1) →
+          cond (nat_lt 1 (length g.nodes)) (length g.nodes) 0 ≤ 0 →
+          nat_lt 1 (length g.nodes) ≡ false
+      broadcast_rowless (inl l) h = absurd
+          (omega (arith, l, h, cond-true (nat_lt 1 (length g.nodes)) (length g.nodes) 0 (lt-ltb 1 (length g.nodes) l)))
       broadcast_rowless (inr l) h = le-ltb 1 (length g.nodes) l
 
   -- ---- how many columns there are
@@ -167,13 +205,20 @@ module _ (g : Graph) (within : IsWithinLimits g) (urgency order : List ℕ) (adm
     reached : IsReach g order reach
     reached = (some_reach g order admitted.topological).1
 
-    wide_by_views : (x : ℕ) → 0 < rows_of_item g (item_at g x) → most_views < views g (reach_of reach x) → is_too_wide g reach x ≡ true
-    wide_by_views x some many = and_from (nat_lt 0 (rows_of_item g (item_at g x))) _ (lt-ltb 0 (rows_of_item g (item_at g x)) some)
-        (or_left (nat_lt most_views (views g (reach_of reach x))) _ (lt-ltb most_views (views g (reach_of reach x)) many))
+    wide_by_views : (x : ℕ) → 0 < rows_of_item g (item_at g x) → most_views < views g (reach_of reach x) →
+        is_too_wide g reach x ≡ true
+    wide_by_views x some many =
+        and_from (nat_lt 0 (rows_of_item g (item_at g x))) _ (lt-ltb 0 (rows_of_item g (item_at g x)) some)
+        (or_left (nat_lt most_views (views g (reach_of reach x))) _
+        (lt-ltb most_views (views g (reach_of reach x)) many))
 
-    wide_by_loads : (x : ℕ) → 0 < rows_of_item g (item_at g x) → most_loads < sum_by (load g reach) (numbers_below (x + 1)) → is_too_wide g reach x ≡ true
-    wide_by_loads x some many = and_from (nat_lt 0 (rows_of_item g (item_at g x))) _ (lt-ltb 0 (rows_of_item g (item_at g x)) some)
-        (or_right (nat_lt most_views (views g (reach_of reach x))) _ (lt-ltb most_loads (sum_by (load g reach) (numbers_below (x + 1))) many))
+    wide_by_loads : (x : ℕ) → 0 < rows_of_item g (item_at g x) →
+        most_loads < sum_by (load g reach) (numbers_below (x + 1)) →
+        is_too_wide g reach x ≡ true
+    wide_by_loads x some many =
+        and_from (nat_lt 0 (rows_of_item g (item_at g x))) _ (lt-ltb 0 (rows_of_item g (item_at g x)) some)
+        (or_right (nat_lt most_views (views g (reach_of reach x))) _
+        (lt-ltb most_loads (sum_by (load g reach) (numbers_below (x + 1))) many))
 
     not_wide : (x : ℕ) → x < item_count g → is_too_wide g reach x ≡ true → ⊥
     not_wide x l wide = both_ways (is_too_wide g reach x) (narrow reach reached x l) wide
@@ -185,7 +230,8 @@ module _ (g : Graph) (within : IsWithinLimits g) (urgency order : List ℕ) (adm
     loads_few : (n : ℕ) → n ≤ item_count g → sum_by (load g reach) (numbers_below n) ≤ most_loads
     loads_few zero l = omega arith
     loads_few (suc n) l =
-        let more : sum_by (load g reach) (numbers_below (n + 1)) ≡ sum_by (load g reach) (numbers_below n) + load g reach n = ap (sum_by (load g reach)) (below_push n) ∙
+        let more : sum_by (load g reach) (numbers_below (n + 1))
+        ≡ sum_by (load g reach) (numbers_below n) + load g reach n = ap (sum_by (load g reach)) (below_push n) ∙
         sum_by_push (load g reach) (numbers_below n) n in
         let before = loads_few n (omega arith) in
         subst (λ m. sum_by (load g reach) (numbers_below m) ≤ most_loads) (let e : n + 1 ≡ suc n = omega arith in e)
@@ -203,20 +249,25 @@ module _ (g : Graph) (within : IsWithinLimits g) (urgency order : List ℕ) (adm
         | inl many ↦ absurd (not_wide x l (wide_by_views x some many))
         | inr few ↦ omega (arith, row_views reach reached x l, few)
       ]
-      | inr none ↦ let none_here = rowless x (item_cases g x l) none in omega (arith, ap length (unsent_row x none_here.0 l none_here.1))
+      | inr none ↦ let none_here = rowless x (item_cases g x l) none in
+          omega (arith, ap length (unsent_row x none_here.0 l none_here.1))
     ]
 
-    loads : sum_by (λ x. length (row_for rows x).columns * rows_of_item g (item_at g x)) (numbers_below (item_count g)) ≤ MOST_LOAD
+    loads : sum_by (λ x. length (row_for rows x).columns * rows_of_item g (item_at g x)) (numbers_below (item_count g))
+        ≤ MOST_LOAD
     loads = omega (
       arith,
       loads_few (item_count g) (omega arith),
-      sum_by-le_each (λ x. length (row_for rows x).columns * rows_of_item g (item_at g x)) (load g reach) (numbers_below (item_count g))
-          (λ x c. mul-le-mul (row_views reach reached x (numbers-Contains (item_count g) x c)) (let e : rows_of_item g (item_at g x) ≤ rows_of_item g (item_at g x) = omega arith in e)),
+      sum_by-le_each (λ x. length (row_for rows x).columns * rows_of_item g (item_at g x)) (load g reach)
+          (numbers_below (item_count g))
+          (λ x c. mul-le-mul (row_views reach reached x (numbers-Contains (item_count g) x c))
+          (let e : rows_of_item g (item_at g x) ≤ rows_of_item g (item_at g x) = omega arith in e)),
     )
 
     fit : DoRowsFit g rows
     fit = record {
-      few = All-from_get_or (λ (row : Row). length row.columns ≤ MOST_COLUMNS) rows no_row (λ x l. row_few x (omega (arith, l, long)));
+      few = All-from_get_or (λ (row : Row). length row.columns ≤ MOST_COLUMNS) rows no_row
+          (λ x l. row_few x (omega (arith, l, long)));
       loads = loads;
     }
 
@@ -231,7 +282,9 @@ module _ (g : Graph) (within : IsWithinLimits g) (urgency order : List ℕ) (adm
   }
 
 pub found_rows_fit : FoundRowsFit
-found_rows_fit g urgency order frozen rows within admitted is narrow = fit g within urgency order admitted frozen rows is narrow
+found_rows_fit g urgency order frozen rows within admitted is narrow =
+    fit g within urgency order admitted frozen rows is narrow
 
 pub found_rows_are_writable : FoundRowsAreWritable
-found_rows_are_writable g urgency order frozen rows within admitted is fits = writable g within urgency order admitted frozen rows is fits
+found_rows_are_writable g urgency order frozen rows within admitted is fits =
+    writable g within urgency order admitted frozen rows is fits

@@ -1,4 +1,5 @@
--- What a builder of tables answers: exact tables, and the greatest finish and excess of their runs, or why there are none.
+-- What a builder of tables answers: exact tables, and the greatest finish and excess of their runs, or why there are
+-- none.
 use Rattle.std.specs.Prelude.{ℕ, ◌≡◌, ◌≢◌, ◌≤◌, ◌<◌, ⊤, List, Some, length, slice_get}
 use Rattle.cpg_base.specs.Graph.{Graph, item_count}
 use Rattle.cpg_order.specs.Reach.{Reach, IsReach, reach_of, views}
@@ -15,7 +16,8 @@ use Rattle.cpg_run.specs.Finish.{IsWorst, IsExcess}
 use Rattle.cpg_run.specs.Exact.{IsExact}
 use Rattle.cpg_run.specs.Laws.{Keeps}
 
--- The tables have the times of the runs, in merged rows, and the graph's head. No row has more columns than its item has views.
+-- The tables have the times of the runs, in merged rows, and the graph's head. No row has more columns than its item
+-- has views.
 -- Every rule is kept, except the one on dues if an end is past its due. Scenarios are compared by the urgency order.
 pub record IsBuiltFor (g : Graph) (urgency order : List ℕ) (b : Built) : Type 0 where
   pub head : b.tables.head ≡ head_of g
@@ -29,7 +31,8 @@ pub record IsBuiltFor (g : Graph) (urgency order : List ℕ) (b : Built) : Type 
   pub excess : IsExcess g urgency order b.frozen b.excess b.excess_in b.excess_by
   pub rules : (rule : Rule) → rule ≢ Rule.Due → Keeps rule g b.tables.nodes
   pub due : b.excess ≡ 0 → Keeps Rule.Due g b.tables.nodes
-  pub hears : (node : ℕ) (t : NodeTable) → slice_get b.tables.nodes node ≡ Some t → t.hears ≡ hear_rows g b.tables.nodes node
+  pub hears : (node : ℕ) (t : NodeTable) → slice_get b.tables.nodes node ≡ Some t →
+      t.hears ≡ hear_rows g b.tables.nodes node
 
 -- why no tables are built: the item that shows that one is too wide, or that memory ran out at any point
 abbrev pub ShowsBuildFault : (ℕ → Type 0) → BuildFault → Type 0

@@ -1,7 +1,9 @@
--- The literals that are carried beside the time of an item in a scenario: those of the numbers from which it was computed.
+-- The literals that are carried beside the time of an item in a scenario: those of the numbers from which it was
+-- computed.
 use Rattle.std.specs.Prelude.{ℕ, ◌&&◌, ◌==◌, not, if◌then◌else◌, List, [], ◌∷◌, ◌++◌, map, filter, get_or}
 use Rattle.std.specs.List.{flat_map}
-use Rattle.cpg_base.specs.Graph.{Graph, process_at, node_of, inputs, is_message, message_item, broadcast_item, item_at, is_frozen, producer, process_of, value_variable}
+use Rattle.cpg_base.specs.Graph.{Graph, process_at, node_of, inputs, is_message, message_item, broadcast_item, item_at}
+use Rattle.cpg_base.specs.Graph.{is_frozen, producer, process_of, value_variable}
 use Rattle.cpg_base.specs.declared.item.Item.{Item}
 use Rattle.cpg_base.specs.declared.item.Item.TheVariants.{Start, Message, Broadcast}
 use Rattle.cpg_base.specs.Activity.{active, item_active}
@@ -33,14 +35,17 @@ decided g s p = map (λ c. number_known s (value_variable c)) (deciding g s.valu
 
 -- what the broadcasts of those of other nodes told
 abbrev pub heard : Graph → List (List Column) → Scenario → ℕ → List Literal
-heard g rows s p = flat_map (λ c. if node_of g (process_of g c) == node_of g p then [] else carried_by_row rows s (broadcast_item g c)) (deciding g s.values p)
+heard g rows s p =
+    flat_map (λ c. if node_of g (process_of g c) == node_of g p then [] else carried_by_row rows s (broadcast_item g c))
+    (deciding g s.values p)
 
 -- what the messages to a process told
 abbrev pub received : Graph → List (List Column) → Scenario → ℕ → List Literal
-received g rows s p = flat_map (λ e. if is_message g e then carried_by_row rows s (message_item g e) else []) (inputs g p)
+received g rows s p =
+    flat_map (λ e. if is_message g e then carried_by_row rows s (message_item g e) else []) (inputs g p)
 
--- what an execution adds to what its node carries on: what its inputs told, and its count; a frozen one starts at one time
--- whatever its inputs told
+-- what an execution adds to what its node carries on: what its inputs told, and its count; a frozen one starts at one
+-- time whatever its inputs told
 abbrev pub executed : Graph → List (List Column) → Scenario → ℕ → List Literal
 executed g rows s p = (if (process_at g p).frozen then [] else received g rows s p) ++ number_known s p ∷ []
 
@@ -65,12 +70,15 @@ sent_by_value g s x = map (number_known s) (sent_value g (item_at g x))
 abbrev pub queued : Graph → List ℕ → List (List Column) → Scenario → ℕ → List Literal
 queued g order rows s y = decided g s (producer g y)
     ++ (if active g s.values (producer g y) then sent_by_value g s y else [])
-    ++ (if item_active g s.values (item_at g y) && not (is_frozen g y) then carried_at_end g order rows s (producer g y) else [])
+    ++ (if item_active g s.values (item_at g y) && not (is_frozen g y)
+    then carried_at_end g order rows s (producer g y) else [])
 
--- what is carried beside a send; that of a frozen message depends on nothing but what decides its producer and its value
+-- what is carried beside a send; that of a frozen message depends on nothing but what decides its producer and its
+-- value
 abbrev pub carried_at_send : Graph → List ℕ → List (List Column) → Scenario → ℕ → List Literal
 carried_at_send g order rows s x = (if is_frozen g x then decided g s (producer g x)
-    else flat_map (queued g order rows s) (queued_before g order x) ++ carried_at_end g order rows s (producer g x)) ++ sent_by_value g s x
+    else flat_map (queued g order rows s) (queued_before g order x) ++ carried_at_end g order rows s (producer g x))
+    ++ sent_by_value g s x
 
 -- what is carried beside the time of an item
 abbrev pub carried_by_item : Graph → List ℕ → List (List Column) → Scenario → ℕ → Item → List Literal

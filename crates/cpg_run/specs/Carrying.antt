@@ -1,4 +1,5 @@
--- Rows whose columns say no more than what is carried beside their times: the one thing that a builder of tables has to show of its rows.
+-- Rows whose columns say no more than what is carried beside their times: the one thing that a builder of tables has to
+-- show of its rows.
 use Rattle.std.specs.Prelude.{ℕ, ◌≡◌, ◌≢◌, ◌≤◌, ◌<◌, List, Option, length, All, Contains, IsTrue}
 use Rattle.cpg_base.specs.Graph.{Graph, process_count, item_count}
 use Rattle.cpg_order.specs.Reach.{Reach, IsReach, reach_of, views}
@@ -24,7 +25,8 @@ pub record ContainsKept (k : ℕ) (cube literals : List Literal) : Type 0 where
   pub high : (v : ℕ) → kept_high k literals v ≤ high_in k cube v
 
 -- the columns of an item have the times of the runs, and if one matches it says no more than what is carried there
-pub record IsCarryingRow (g : Graph) (urgency order : List ℕ) (frozen : List (Option ℕ)) (rows : List (List Column)) (x : ℕ) : Type 0 where
+pub record IsCarryingRow (g : Graph) (urgency order : List ℕ) (frozen : List (Option ℕ)) (rows : List (List Column))
+    (x : ℕ) : Type 0 where
   pub times : HaveTimesOf g order frozen x (row_at rows x)
   pub carries : (s : Scenario) (c : Column) → IsScenario g s → Contains (row_at rows x) c → IsTrue (matches c.cube s) →
       ContainsKept g.faults c.cube (carried g order rows s x)
@@ -35,7 +37,8 @@ pub record IsCarryingRow (g : Graph) (urgency order : List ℕ) (frozen : List (
   pub ordered : AreOrdered g urgency (row_at rows x)
 
 -- a row for each item, those of starts merged
-pub record AreCarrying (g : Graph) (urgency order : List ℕ) (frozen : List (Option ℕ)) (rows : List (List Column)) : Type 0 where
+pub record AreCarrying (g : Graph) (urgency order : List ℕ) (frozen : List (Option ℕ))
+    (rows : List (List Column)) : Type 0 where
   pub count : length rows ≡ item_count g
   pub each : (x : ℕ) → x < item_count g → IsCarryingRow g urgency order frozen rows x
   pub merged : (p : ℕ) → p < process_count g → IsMerged g (row_at rows p)
@@ -48,7 +51,8 @@ pub record AreTablesCarrying (g : Graph) (urgency order : List ℕ) (frozen : Li
   pub columns : (x : ℕ) → columns_of tables x ≡ row_at rows x
 
 -- what such tables are
-pub record AreExactAndLawful (g : Graph) (urgency order : List ℕ) (frozen : List (Option ℕ)) (r : Reach) (tables : List NodeTable) : Type 0 where
+pub record AreExactAndLawful (g : Graph) (urgency order : List ℕ) (frozen : List (Option ℕ)) (r : Reach)
+    (tables : List NodeTable) : Type 0 where
   pub exact : IsExact g urgency order frozen r tables
   pub supported : Supported g order tables
   pub rules : (rule : Rule) → rule ≢ Rule.Due → Keeps rule g tables
@@ -56,8 +60,10 @@ pub record AreExactAndLawful (g : Graph) (urgency order : List ℕ) (frozen : Li
   pub views : process_count g ≤ 128 → (x : ℕ) → x < item_count g → length (columns_of tables x) ≤ views g (reach_of r x)
 
 abbrev pub CarryingTablesAreLawful : Type 0
-CarryingTablesAreLawful = (g : Graph) (urgency order : List ℕ) (frozen : List (Option ℕ)) (rows : List (List Column)) (tables : List NodeTable) (r : Reach) →
-    AreTablesCarrying g urgency order frozen rows tables → IsReach g order r → AreExactAndLawful g urgency order frozen r tables
+CarryingTablesAreLawful = (g : Graph) (urgency order : List ℕ) (frozen : List (Option ℕ)) (rows : List (List Column))
+    (tables : List NodeTable) (r : Reach) →
+    AreTablesCarrying g urgency order frozen rows tables → IsReach g order r →
+    AreExactAndLawful g urgency order frozen r tables
 
 -- the rows of groups of listed scenarios are carrying
 abbrev pub ListedRowsCarry : Type 0

@@ -42,19 +42,23 @@ NoneIsTooWide g order = (r : Reach) → IsReach g order r → (x : ℕ) → x < 
 -- each row has few enough columns, and so have all rows of all tables together
 pub record DoRowsFit (g : Graph) (rows : List Row) : Type 0 where
   pub few : All (λ row. length row.columns ≤ MOST_COLUMNS) rows
-  pub loads : sum_by (λ x. length (row_for rows x).columns * rows_of_item g (item_at g x)) (numbers_below (item_count g)) ≤ MOST_LOAD
+  pub loads : sum_by (λ x. length (row_for rows x).columns * rows_of_item g (item_at g x))
+      (numbers_below (item_count g)) ≤ MOST_LOAD
 
 -- rows that are found fit if nothing is too wide
 abbrev pub FoundRowsFit : Type 0
-FoundRowsFit = (g : Graph) (urgency order : List ℕ) (frozen : List (Option ℕ)) (rows : List Row) → IsWithinLimits g → Admitted g urgency order →
+FoundRowsFit = (g : Graph) (urgency order : List ℕ) (frozen : List (Option ℕ)) (rows : List Row) → IsWithinLimits g →
+    Admitted g urgency order →
     AreRowsFound g urgency order frozen rows → NoneIsTooWide g order → DoRowsFit g rows
 
 -- rows that are found can be written if they fit
 abbrev pub FoundRowsAreWritable : Type 0
-FoundRowsAreWritable = (g : Graph) (urgency order : List ℕ) (frozen : List (Option ℕ)) (rows : List Row) → IsWithinLimits g → Admitted g urgency order →
+FoundRowsAreWritable = (g : Graph) (urgency order : List ℕ) (frozen : List (Option ℕ)) (rows : List Row) →
+    IsWithinLimits g → Admitted g urgency order →
     AreRowsFound g urgency order frozen rows → DoRowsFit g rows → AreWritable g rows
 
 -- tables that are found are what a builder answers with
 abbrev pub FoundTablesAreBuilt : Type 0
-FoundTablesAreBuilt = (g : Graph) (urgency order : List ℕ) (rows : List Row) (b : Built) → IsWithinLimits g → Admitted g urgency order →
+FoundTablesAreBuilt =
+    (g : Graph) (urgency order : List ℕ) (rows : List Row) (b : Built) → IsWithinLimits g → Admitted g urgency order →
     AreTablesFound g urgency order rows b → IsBuiltFor g urgency order b

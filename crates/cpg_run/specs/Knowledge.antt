@@ -1,5 +1,5 @@
--- Local knowledge, in terms of the tables alone: if a node has seen the same of two scenarios by a time, it starts and sends
--- the same then.
+-- Local knowledge, in terms of the tables alone: if a node has seen the same of two scenarios by a time, it starts and
+-- sends the same then.
 use Rattle.std.specs.Prelude.{ℕ, ◌+◌, ◌≡◌, ◌<◌, ◌↔◌, List, ◌∷◌, Option, option_map, slice_get, Contains, IsTrue}
 use Rattle.cpg_base.specs.Graph.{Graph, process_count, item_count, item_at, node_of, home, is_heard_by, condition_of}
 use Rattle.cpg_base.specs.Bus.{slot_length}
@@ -19,14 +19,18 @@ end_seen g tables s time p = seen time (option_map (λ start.
 
 -- what a node has seen of a frame: when it arrived and, for a broadcast, the value
 abbrev pub frame_seen : Graph → List NodeTable → Scenario → ℕ → ℕ → List ℕ
-frame_seen g tables s time x = seen time (option_map (λ start. start + slot_length g (home g x)) (time_of tables x s)) (value_of_frame s (item_at g x))
+frame_seen g tables s time x = seen time (option_map (λ start. start + slot_length g (home g x)) (time_of tables x s))
+    (value_of_frame s (item_at g x))
 
 -- a node has seen the same of both scenarios by a time
 pub record LookAlike (g : Graph) (tables : List NodeTable) (node time : ℕ) (s u : Scenario) : Type 0 where
-  pub ends : (p : ℕ) → p < process_count g → node_of g p ≡ node → end_seen g tables s time p ≡ end_seen g tables u time p
-  pub frames : (x : ℕ) → x < item_count g → IsTrue (is_heard_by g node (item_at g x)) → frame_seen g tables s time x ≡ frame_seen g tables u time x
+  pub ends : (p : ℕ) → p < process_count g → node_of g p ≡ node →
+      end_seen g tables s time p ≡ end_seen g tables u time p
+  pub frames : (x : ℕ) → x < item_count g → IsTrue (is_heard_by g node (item_at g x)) →
+      frame_seen g tables s time x ≡ frame_seen g tables u time x
 
 -- if a node has seen the same of two scenarios by a time, the tables ask the same of it then
 abbrev pub KnowLocally : Graph → List NodeTable → Type 0
-KnowLocally g tables = (node time : ℕ) (s u : Scenario) → IsScenario g s → IsScenario g u → LookAlike g tables node time s u →
+KnowLocally g tables =
+    (node time : ℕ) (s u : Scenario) → IsScenario g s → IsScenario g u → LookAlike g tables node time s u →
     (x : ℕ) → x < item_count g → home g x ≡ node → Contains (at tables x s) time ↔ Contains (at tables x u) time

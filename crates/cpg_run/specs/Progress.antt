@@ -1,6 +1,8 @@
--- How far a run has been found along an order: all that is settled before a place, and what the next processes wait for.
+-- How far a run has been found along an order: all that is settled before a place, and what the next processes wait
+-- for.
 use Rattle.std.specs.Prelude.{ℕ, ◌+◌, ◌≡◌, ◌<◌, ◌≤◌, ◌⊎◌, true, List, Option, None, Contains, length, get_or, take}
-use Rattle.cpg_base.specs.Graph.{Graph, process_count, condition_count, item_count, item_at, node_of, is_sent, home, producer}
+use Rattle.cpg_base.specs.Graph.{Graph, process_count, condition_count, item_count, item_at, node_of, is_sent, home}
+use Rattle.cpg_base.specs.Graph.{producer}
 use Rattle.cpg_base.specs.Activity.{active, item_active}
 use Rattle.cpg_base.specs.Bus.{round}
 use Rattle.cpg_base.specs.Order.{place}
@@ -23,7 +25,8 @@ IsSentBefore g order s node i y = IsActed g s node y × (place order (producer g
 
 -- for a process before p, or as one of the first k of what p sends
 abbrev pub IsSentBy : Graph → List ℕ → Scenario → ℕ → ℕ → ℕ → Type 0
-IsSentBy g order s p k y = IsActed g s (node_of g p) y × ((place order (producer g y) < place order p) ⊎ Contains (take k (queue_of g p)) y)
+IsSentBy g order s p k y =
+    IsActed g s (node_of g p) y × ((place order (producer g y) < place order p) ⊎ Contains (take k (queue_of g p)) y)
 
 -- when the bus is free for what comes after an item
 abbrev pub free_after : Graph → Times → ℕ → ℕ
@@ -36,23 +39,28 @@ IsFree g order s t i node v = IsMost (IsSentBefore g order s node i) (free_after
 -- the active processes before the place i on a node have ended, and the node has heard all that decides one of the
 -- processes there, by this time
 pub record IsReady (g : Graph) (order : List ℕ) (s : Scenario) (t : Times) (i node v : ℕ) : Type 0 where
-  pub ends : (q : ℕ) → q < process_count g → place order q < i → node_of g q ≡ node → active g s.values q ≡ true → end_in t q ≤ v
+  pub ends : (q : ℕ) → q < process_count g → place order q < i → node_of g q ≡ node → active g s.values q ≡ true →
+      end_in t q ≤ v
   pub heard : (q c : ℕ) → q < process_count g → place order q < i → node_of g q ≡ node → c < condition_count g →
       decides g s.values q c ≡ true → heard_there g t node c ≤ v
   pub least : (b : ℕ)
-      → ((q : ℕ) → q < process_count g → place order q < i → node_of g q ≡ node → active g s.values q ≡ true → end_in t q ≤ b)
-      → ((q c : ℕ) → q < process_count g → place order q < i → node_of g q ≡ node → c < condition_count g → decides g s.values q c ≡ true →
+      → ((q : ℕ) → q < process_count g → place order q < i → node_of g q ≡ node →
+      active g s.values q ≡ true → end_in t q ≤ b)
+      → ((q c : ℕ) → q < process_count g → place order q < i → node_of g q ≡ node → c < condition_count g →
+      decides g s.values q c ≡ true →
       heard_there g t node c ≤ b)
       → v ≤ b
 
 -- what is known is that of the run as far as it is settled before the place i, and nothing else
 pub record Knows (g : Graph) (order : List ℕ) (t : Times) (i : ℕ) (known : Times) : Type 0 where
-  pub times : (x : ℕ) → x < item_count g → place order (producer g x) < i → get_or known.times x None ≡ get_or t.times x None
+  pub times : (x : ℕ) → x < item_count g → place order (producer g x) < i →
+      get_or known.times x None ≡ get_or t.times x None
   pub later : (x : ℕ) → x < item_count g → i ≤ place order (producer g x) → get_or known.times x None ≡ None
   pub ends : (p : ℕ) → p < process_count g → place order p < i → get_or known.ends p None ≡ get_or t.ends p None
   pub no_ends : (p : ℕ) → p < process_count g → i ≤ place order p → get_or known.ends p None ≡ None
 
--- a place for the time of each item, for the end of each process, and by node for when it is ready and its slots are free
+-- a place for the time of each item, for the end of each process, and by node for when it is ready and its slots are
+-- free
 pub record HasPlaces (g : Graph) (known : Times) (ready free : List ℕ) : Type 0 where
   pub times : length known.times ≡ item_count g
   pub ends : length known.ends ≡ process_count g
@@ -60,19 +68,22 @@ pub record HasPlaces (g : Graph) (known : Times) (ready free : List ℕ) : Type 
   pub free_count : length free ≡ length g.nodes
 
 -- all of this before the place i
-pub record IsAt (g : Graph) (order : List ℕ) (s : Scenario) (t : Times) (i : ℕ) (known : Times) (ready free : List ℕ) : Type 0 where
+pub record IsAt (g : Graph) (order : List ℕ) (s : Scenario) (t : Times) (i : ℕ) (known : Times)
+    (ready free : List ℕ) : Type 0 where
   pub knows : Knows g order t i known
   pub nodes_ready : (node : ℕ) → node < length g.nodes → IsReady g order s t i node (get_or ready node 0)
   pub slots_free : (node : ℕ) → node < length g.nodes → IsFree g order s t i node (get_or free node 0)
 
 -- what is known before a process sends: its end, nothing of what it sends, and when the slots of its node are free
-pub record CanSend (g : Graph) (order : List ℕ) (s : Scenario) (t : Times) (p : ℕ) (known : Times) (free : ℕ) : Type 0 where
+pub record CanSend (g : Graph) (order : List ℕ) (s : Scenario) (t : Times) (p : ℕ) (known : Times)
+    (free : ℕ) : Type 0 where
   pub ends : end_in known p ≡ end_in t p
   pub none : (x : ℕ) → Contains (queue_of g p) x → get_or known.times x None ≡ None
   pub slots_free : IsFree g order s t (place order p) (node_of g p) free
 
 -- the first k of what a process sends have their times
-pub record HasSent (g : Graph) (order : List ℕ) (s : Scenario) (t : Times) (p k : ℕ) (old new : Times) (free : ℕ) : Type 0 where
+pub record HasSent (g : Graph) (order : List ℕ) (s : Scenario) (t : Times) (p k : ℕ) (old new : Times)
+    (free : ℕ) : Type 0 where
   pub sent : (x : ℕ) → Contains (take k (queue_of g p)) x → get_or new.times x None ≡ get_or t.times x None
   pub others : (x : ℕ) → (Contains (take k (queue_of g p)) x → ⊥) → get_or new.times x None ≡ get_or old.times x None
   pub slots_free : IsMost (IsSentBy g order s p k) (free_after g t) free
@@ -82,14 +93,15 @@ pub record KeepsEnds (old new : Times) : Type 0 where
   pub times : length new.times ≡ length old.times
   pub ends : new.ends ≡ old.ends
 
--- what is found of a run: its times so far, and by node when it is ready for its next process, but for what decides that one,
--- and from when on its slots are free
+-- what is found of a run: its times so far, and by node when it is ready for its next process, but for what decides
+-- that one, and from when on its slots are free
 pub record ProgressState : Type 0 where
   pub known : Times
   pub ready : List ℕ
   pub free : List ℕ
 
 -- what is found of a run is that of a scenario before the place i
-pub record IsAlong (g : Graph) (order : List ℕ) (frozen : List (Option ℕ)) (s : Scenario) (i : ℕ) (p : ProgressState) : Type 0 where
+pub record IsAlong (g : Graph) (order : List ℕ) (frozen : List (Option ℕ)) (s : Scenario) (i : ℕ)
+    (p : ProgressState) : Type 0 where
   pub places : HasPlaces g p.known p.ready p.free
   pub at : (t : Times) → IsRun g order frozen s t → IsAt g order s t i p.known p.ready p.free

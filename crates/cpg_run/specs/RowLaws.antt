@@ -34,7 +34,8 @@ abbrev pub SameRowsBefore : Graph → List ℕ → ℕ → List (List Column) �
 SameRowsBefore g order bound rows others = (y : ℕ) → IsEarlier g order bound y → row_at rows y ≡ row_at others y
 
 -- the rows of those items have cubes of the graph, and the times of the runs
-pub record AreRowsBefore (g : Graph) (order : List ℕ) (frozen : List (Option ℕ)) (bound : ℕ) (rows : List (List Column)) : Type 0 where
+pub record AreRowsBefore (g : Graph) (order : List ℕ) (frozen : List (Option ℕ)) (bound : ℕ)
+    (rows : List (List Column)) : Type 0 where
   pub cubes : (y : ℕ) → IsEarlier g order bound y → All (λ c. IsCube g c.cube) (row_at rows y)
   pub times : (y : ℕ) → IsEarlier g order bound y → HaveTimesOf g order frozen y (row_at rows y)
 
@@ -43,28 +44,36 @@ abbrev pub AreRowsFor : Graph → List ℕ → List (Option ℕ) → ℕ → Lis
 AreRowsFor g order frozen x rows = AreRowsBefore g order frozen (place order (producer g x)) rows
 
 -- an item is active in another scenario too, with the same time, and the same is carried there
-pub record IsSameIn (g : Graph) (order : List ℕ) (frozen : List (Option ℕ)) (rows : List (List Column)) (x : ℕ) (s u : Scenario) : Type 0 where
+pub record IsSameIn (g : Graph) (order : List ℕ) (frozen : List (Option ℕ)) (rows : List (List Column)) (x : ℕ)
+    (s u : Scenario) : Type 0 where
   pub active : IsTrue (item_active g u.values (item_at g x))
-  pub time : (t w : Times) → IsRun g order frozen s t → IsRun g order frozen u w → get_or t.times x None ≡ get_or w.times x None
+  pub time : (t w : Times) → IsRun g order frozen s t → IsRun g order frozen u w →
+      get_or t.times x None ≡ get_or w.times x None
   pub carried : carried g order rows u x ≡ carried g order rows s x
 
 -- what is carried beside a time is found in the rows of earlier processes alone
 abbrev pub CarriedRestsOnEarlier : Type 0
-CarriedRestsOnEarlier = (g : Graph) (order : List ℕ) (rows others : List (List Column)) (s : Scenario) (x : ℕ) → IsTopological g order →
-    x < item_count g → SameRowsBefore g order (place order (producer g x)) rows others → carried g order rows s x ≡ carried g order others s x
+CarriedRestsOnEarlier =
+    (g : Graph) (order : List ℕ) (rows others : List (List Column)) (s : Scenario) (x : ℕ) → IsTopological g order →
+    x < item_count g → SameRowsBefore g order (place order (producer g x)) rows others →
+    carried g order rows s x ≡ carried g order others s x
 
 -- what is carried beside a time decides the time: if it holds in another scenario, the item is the same there
 abbrev pub CarriedDecides : Type 0
-CarriedDecides = (g : Graph) (urgency order : List ℕ) (frozen : List (Option ℕ)) (rows : List (List Column)) (s u : Scenario) (x : ℕ) →
+CarriedDecides = (g : Graph) (urgency order : List ℕ) (frozen : List (Option ℕ)) (rows : List (List Column))
+    (s u : Scenario) (x : ℕ) →
     IsTimed g urgency order frozen →
     x < item_count g → AreRowsFor g order frozen x rows → IsScenario g s → IsScenario g u →
-    IsTrue (item_active g s.values (item_at g x)) → IsTrue (matches (carried g order rows s x) u) → IsSameIn g order frozen rows x s u
+    IsTrue (item_active g s.values (item_at g x)) → IsTrue (matches (carried g order rows s x) u) →
+    IsSameIn g order frozen rows x s u
 
 -- entries can be merged, and have the times of the runs
 abbrev pub EntriesHaveTimes : Type 0
-EntriesHaveTimes = (g : Graph) (urgency order : List ℕ) (frozen : List (Option ℕ)) (rows : List (List Column)) (x : ℕ) (entries : List Column) →
+EntriesHaveTimes = (g : Graph) (urgency order : List ℕ) (frozen : List (Option ℕ)) (rows : List (List Column)) (x : ℕ)
+    (entries : List Column) →
     IsTimed g urgency order frozen →
-    x < item_count g → AreRowsFor g order frozen x rows → AreEntriesOf g order frozen rows x entries → AreMergeable g entries ×
+    x < item_count g → AreRowsFor g order frozen x rows → AreEntriesOf g order frozen rows x entries →
+    AreMergeable g entries ×
     HaveTimesOf g order frozen x entries
 
 -- rows have the times of the runs, and an item that is never active has no column

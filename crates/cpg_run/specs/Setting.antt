@@ -28,7 +28,8 @@ HavePlaces setting known nodes = HasPlaces setting.problem.now known nodes.ready
 -- what is known is that of the run before the place i
 abbrev pub AreAt : Setting → List (Option ℕ) → Scenario → ℕ → Times → Nodes → Type 0
 AreAt setting frozen s i known nodes =
-    (t : Times) → IsRunOf setting frozen s t → IsAt setting.problem.now setting.order.now s t i known nodes.ready.items nodes.free.items
+    (t : Times) → IsRunOf setting frozen s t →
+    IsAt setting.problem.now setting.order.now s t i known nodes.ready.items nodes.free.items
 
 -- what is known is that of the run before a process sends
 abbrev pub CanSendIn : Setting → List (Option ℕ) → Scenario → ℕ → Times → ℕ → Type 0

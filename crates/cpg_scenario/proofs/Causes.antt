@@ -1,11 +1,14 @@
 -- Each cause is there exactly if its test fails, and the tests stand in the order of the causes.
-use Rattle.std.proofs.Common.{ℕ, zero, suc, ℤ, pos, negsuc, ◌≡◌, ◌<◌, ◌≤◌, ◌⊎◌, Bool, true, false, not, ◌&&◌, ◌||◌, if◌then◌else◌, List, [], ◌∷◌, Contains, Option, Some, None, Ok, Err, is_some}
+use Rattle.std.proofs.Common.{ℕ, zero, suc, ℤ, pos, negsuc, ◌≡◌, ◌<◌, ◌≤◌, ◌⊎◌, Bool, true, false, not, ◌&&◌, ◌||◌}
+use Rattle.std.proofs.Common.{if◌then◌else◌, List, [], ◌∷◌, Contains, Option, Some, None, Ok, Err, is_some}
 use Rattle.std.proofs.Common.{sum_by, codes, refl, sym, ap, subst, ◌∙◌, inl, inr, arith, true≢false}
 use Rattle.std.specs.Prelude.{◌↔◌, ⊤, IsSomeAnd, bytes_eq, nat_le, option_and_then}
 use Rattle.std.specs.List.{list_any, list_all}
-use Rattle.std.proofs.lemmas.Bool.{cases_Bool, both_ways, false_from_ne_true, true_from_ne_false, cases_lt, leb-false, lt-leb}
+use Rattle.std.proofs.lemmas.Bool.{cases_Bool, both_ways, false_from_ne_true, true_from_ne_false, cases_lt, leb-false}
+use Rattle.std.proofs.lemmas.Bool.{lt-leb}
 use Rattle.std.proofs.lemmas.Slice.Eq.{bytes_eq-Decides}
-use Rattle.toml.specs.Data.{Data, Members, no_members, member, string, integer, float, boolean, datetime, array, table, get_member, as_table}
+use Rattle.toml.specs.Data.{Data, Members, no_members, member, string, integer, float, boolean, datetime, array, table}
+use Rattle.toml.specs.Data.{get_member, as_table}
 use Rattle.cpg_base.specs.Numbers.{numbers_below}
 use Rattle.cpg_base.specs.Graph.{Graph, process_count, condition_of}
 use Rattle.cpg_base.specs.Duration.{duration}
@@ -14,9 +17,13 @@ use Rattle.cpg_scenario.specs.declared.fault.Cause.{Cause}
 use Rattle.cpg_scenario.specs.declared.fault.Cause.TheVariants.{Toml, Field, Unknown, Condition, Budget, Length}
 use Rattle.cpg_scenario.specs.declared.fault.ScenarioFault.TheVariants.{Bad}
 use Rattle.cpg_scenario.specs.declared.reading.Played.{Played}
-use Rattle.cpg_scenario.specs.File.{top_keys, are_among, is_typed, are_typed, is_table_of, has_fields, process_names, are_named, has_names, value_given, may_have_value, has_conditions, count_given}
-use Rattle.cpg_scenario.specs.File.{count_of, is_natural, keeps_budget, length_given, is_length, is_length_if, keeps_lengths, lengths_of, scenario_of, Reading, played_if, file_of}
-use Rattle.cpg_scenario.specs.Causes.{document_of, Stands, HasEntry, HasOtherKey, HasOtherType, IsNoTableOf, HasBadField, HasUnknownName, HasBadValue, IsNegative, HasNegativeCount, IsOverBudget}
+use Rattle.cpg_scenario.specs.File.{top_keys, are_among, is_typed, are_typed, is_table_of, has_fields, process_names}
+use Rattle.cpg_scenario.specs.File.{are_named, has_names, value_given, may_have_value, has_conditions, count_given}
+use Rattle.cpg_scenario.specs.File.{count_of, is_natural, keeps_budget, length_given, is_length, is_length_if}
+use Rattle.cpg_scenario.specs.File.{keeps_lengths, lengths_of, scenario_of, Reading, played_if, file_of}
+use Rattle.cpg_scenario.specs.Causes.{document_of, Stands, HasEntry, HasOtherKey, HasOtherType, IsNoTableOf}
+use Rattle.cpg_scenario.specs.Causes.{HasBadField, HasUnknownName, HasBadValue, IsNegative, HasNegativeCount}
+use Rattle.cpg_scenario.specs.Causes.{IsOverBudget}
 use Rattle.cpg_scenario.specs.Causes.{IsNoLength, HasBadLength, IsIn, rank_of_cause, FirstCausesAreTold}
 use Rattle.cpg_scenario.proofs.Filling.{all_pass, one_fails}
 
@@ -45,11 +52,14 @@ back (inr (inl y)) = inl (inr y)
 back (inr (inr z)) = inr z
 
 three : (a b c : Bool) (A B C : Type 0) → Fails a A → Fails b B → Fails c C → Fails ((a && b) && c) (A ⊎ (B ⊎ C))
-three a b c A B C f g h = through ((a && b) && c) ((A ⊎ B) ⊎ C) (A ⊎ (B ⊎ C)) (both (a && b) c (A ⊎ B) C (both a b A B f g) h) next back
+three a b c A B C f g h =
+    through ((a && b) && c) ((A ⊎ B) ⊎ C) (A ⊎ (B ⊎ C)) (both (a && b) c (A ⊎ B) C (both a b A B f g) h) next back
 
-four : (a b c d : Bool) (A B C D : Type 0) → Fails a A → Fails b B → Fails c C → Fails d D → Fails (((a && b) && c) && d) (A ⊎ (B ⊎ (C ⊎ D)))
+four : (a b c d : Bool) (A B C D : Type 0) → Fails a A → Fails b B → Fails c C → Fails d D →
+    Fails (((a && b) && c) && d) (A ⊎ (B ⊎ (C ⊎ D)))
 four a b c d A B C D f g h i = through (((a && b) && c) && d) ((A ⊎ B) ⊎ (C ⊎ D)) (A ⊎ (B ⊎ (C ⊎ D)))
-    (through (((a && b) && c) && d) (((A ⊎ B) ⊎ C) ⊎ D) ((A ⊎ B) ⊎ (C ⊎ D)) (both ((a && b) && c) d ((A ⊎ B) ⊎ C) D (both (a && b) c (A ⊎ B) C (both a b A B f g) h) i) next back) next back
+    (through (((a && b) && c) && d) (((A ⊎ B) ⊎ C) ⊎ D) ((A ⊎ B) ⊎ (C ⊎ D))
+    (both ((a && b) && c) d ((A ⊎ B) ⊎ C) D (both (a && b) c (A ⊎ B) C (both a b A B f g) h) i) next back) next back
 
 never : (A : Type 0) → (A → ⊥) → Fails true A
 never A none = (λ e. absurd (true≢false e), λ a. absurd (none a))
@@ -76,17 +86,22 @@ module _ (p : ℕ → Bool) (n : ℕ) where
 -- ---- tables
 
 module _ (Fact : List ℕ → Data → Type 0) where
-  first_entry : (key : List ℕ) (d : Data) (ms : Members) → Fact key d ⊎ HasEntry ms Fact → HasEntry (member key d ms) Fact
+  first_entry : (key : List ℕ) (d : Data) (ms : Members) → Fact key d ⊎ HasEntry ms Fact →
+      HasEntry (member key d ms) Fact
   first_entry key d ms (inl fact) = record { key = key; value = d; stands = inl (refl, refl); fact = fact }
-  first_entry key d ms (inr other) = record { key = other.key; value = other.value; stands = inr other.stands; fact = other.fact }
+  first_entry key d ms (inr other) =
+      record { key = other.key; value = other.value; stands = inr other.stands; fact = other.fact }
 
-  entry_first : (key : List ℕ) (d : Data) (ms : Members) (k : List ℕ) (e : Data) → Stands (member key d ms) k e → Fact k e → Fact key d ⊎ HasEntry ms Fact
+  entry_first : (key : List ℕ) (d : Data) (ms : Members) (k : List ℕ) (e : Data) → Stands (member key d ms) k e →
+      Fact k e →
+      Fact key d ⊎ HasEntry ms Fact
   entry_first key d ms k e (inl same) fact = inl (subst (λ x. Fact key x) same.1 (subst (λ x. Fact x e) same.0 fact))
   entry_first key d ms k e (inr later) fact = inr (record { key = k; value = e; stands = later; fact = fact })
 
 among : (key : List ℕ) (keys : List (List ℕ)) → Fails (list_any (bytes_eq key) keys) (Contains keys key → ⊥)
 among key keys = (
-  λ e c. both_ways (list_any (bytes_eq key) keys) e (list_any_true (bytes_eq key) keys key c ((bytes_eq-Decides key key).1 refl)),
+  λ e c. both_ways (list_any (bytes_eq key) keys) e
+      (list_any_true (bytes_eq key) keys key c ((bytes_eq-Decides key key).1 refl)),
   λ none. false_from_ne_true (list_any (bytes_eq key) keys) (λ t.
       let r = list_any_parts (bytes_eq key) keys t in
       none (subst (Contains keys) (sym ((bytes_eq-Decides key r.0).0 r.2)) r.1)),
@@ -95,12 +110,14 @@ among key keys = (
 keys_among : (keys : List (List ℕ)) (ms : Members) → Fails (are_among keys ms) (HasOtherKey keys ms)
 keys_among keys no_members = never (HasOtherKey keys no_members) (λ h. h.stands)
 keys_among keys (member key d ms) = through _ _ _ (both _ _ _ _ (among key keys) (keys_among keys ms))
-    (first_entry (λ key d. Contains keys key → ⊥) key d ms) (λ h. entry_first (λ key d. Contains keys key → ⊥) key d ms h.key h.value h.stands h.fact)
+    (first_entry (λ key d. Contains keys key → ⊥) key d ms)
+    (λ h. entry_first (λ key d. Contains keys key → ⊥) key d ms h.key h.value h.stands h.fact)
 
 entries_typed : (flags : Bool) (ms : Members) → Fails (are_typed flags ms) (HasOtherType flags ms)
 entries_typed flags no_members = never (HasOtherType flags no_members) (λ h. h.stands)
 entries_typed flags (member key d ms) = through _ _ _ (both _ _ _ _ (λ e. e, λ e. e) (entries_typed flags ms))
-    (first_entry (λ key d. is_typed flags d ≡ false) key d ms) (λ h. entry_first (λ key d. is_typed flags d ≡ false) key d ms h.key h.value h.stands h.fact)
+    (first_entry (λ key d. is_typed flags d ≡ false) key d ms)
+    (λ h. entry_first (λ key d. is_typed flags d ≡ false) key d ms h.key h.value h.stands h.fact)
 
 is_table : (flags : Bool) (o : Option Data) → Fails (is_table_of flags o) (IsSomeAnd o (IsNoTableOf flags))
 is_table flags None = never ⊥ (λ h. h)
@@ -122,19 +139,23 @@ fields_fail ms = four _ _ _ _ _ _ _ _ (keys_among top_keys ms) (is_table false (
 
 names_fail : (g : Graph) (ms : Members) → Fails (has_names g ms) (HasUnknownName g ms)
 names_fail g ms = three _ _ _ _ _ _ (named g (option_and_then as_table (get_member (codes "faults") ms)))
-    (named g (option_and_then as_table (get_member (codes "values") ms))) (named g (option_and_then as_table (get_member (codes "lengths") ms)))
+    (named g (option_and_then as_table (get_member (codes "values") ms)))
+    (named g (option_and_then as_table (get_member (codes "lengths") ms)))
 
 -- ---- values, counts and lengths
 
 module _ (g : Graph) (ms : Members) where
-  bad_value : (p : ℕ) → p < process_count g → (given : Option Bool) → value_given g ms p ≡ given → (c : Option ℕ) → condition_of g p ≡ c → (not (is_some given) || is_some c) ≡ false → HasBadValue g ms
+  bad_value : (p : ℕ) → p < process_count g → (given : Option Bool) → value_given g ms p ≡ given → (c : Option ℕ) →
+      condition_of g p ≡ c → (not (is_some given) || is_some c) ≡ false →
+      HasBadValue g ms
   bad_value p l None e c k f = absurd (true≢false f)
   bad_value p l (Some b) e None k f = record { process = p; within = l; value = b; given = e; none = k }
   bad_value p l (Some b) e (Some c) k f = absurd (true≢false f)
 
   conditions_fail : Fails (has_conditions g ms) (HasBadValue g ms)
   conditions_fail = (
-    λ e. let r = some_fails (may_have_value g ms) (process_count g) e in bad_value r.0 r.1 (value_given g ms r.0) refl (condition_of g r.0) refl r.2,
+    λ e. let r = some_fails (may_have_value g ms) (process_count g) e in
+        bad_value r.0 r.1 (value_given g ms r.0) refl (condition_of g r.0) refl r.2,
     λ h. one_fails (may_have_value g ms) (process_count g) h.process h.within (rw (h.given, h.none) refl),
   )
 
@@ -142,10 +163,13 @@ module _ (g : Graph) (ms : Members) where
   negative (pos n) = never ⊥ (λ h. h)
   negative (negsuc n) = always ⊤ tt
 
-  counts_fail : Fails (list_all (λ p. is_natural (count_given g ms p)) (numbers_below (process_count g))) (HasNegativeCount g ms)
+  counts_fail : Fails (list_all (λ p. is_natural (count_given g ms p)) (numbers_below (process_count g)))
+      (HasNegativeCount g ms)
   counts_fail = (
-    λ e. let r = some_fails (λ p. is_natural (count_given g ms p)) (process_count g) e in record { process = r.0; within = r.1; negative = (negative (count_given g ms r.0)).0 r.2 },
-    λ h. one_fails (λ p. is_natural (count_given g ms p)) (process_count g) h.process h.within ((negative (count_given g ms h.process)).1 h.negative),
+    λ e. let r = some_fails (λ p. is_natural (count_given g ms p)) (process_count g) e in
+        record { process = r.0; within = r.1; negative = (negative (count_given g ms r.0)).0 r.2 },
+    λ h. one_fails (λ p. is_natural (count_given g ms p)) (process_count g) h.process h.within
+        ((negative (count_given g ms h.process)).1 h.negative),
   )
 
   above : (n m : ℕ) → Fails (nat_le n m) (m < n)
@@ -164,15 +188,27 @@ module _ (g : Graph) (ms : Members) where
   no_length longest (pos n) = both _ _ _ _ (above 1 n) (above n longest)
   no_length longest (negsuc n) = always ⊤ tt
 
-  bad_length : (p : ℕ) → p < process_count g → (given : Option ℤ) → length_given g ms p ≡ given → is_length_if (duration g p (count_of g ms p)) given ≡ false → HasBadLength g ms
+  bad_length : (p : ℕ) → p < process_count g → (given : Option ℤ) → length_given g ms p ≡ given →
+      is_length_if (duration g p (count_of g ms p)) given ≡ false →
+      HasBadLength g ms
   bad_length p l None e f = absurd (true≢false f)
-  bad_length p l (Some z) e f = record { process = p; within = l; length = z; given = e; bad = (no_length (duration g p (count_of g ms p)) z).0 f }
+  bad_length p l (Some z) e f = record {
+    process = p;
+    within = l;
+    length = z;
+    given = e;
+    bad = (no_length (duration g p (count_of g ms p)) z).0 f;
+  }
 
   lengths_fail : Fails (keeps_lengths g ms) (HasBadLength g ms)
   lengths_fail = (
-    λ e. let r = some_fails (λ p. is_length_if (duration g p (count_of g ms p)) (length_given g ms p)) (process_count g) e in bad_length r.0 r.1 (length_given g ms r.0) refl r.2,
-    λ h. one_fails (λ p. is_length_if (duration g p (count_of g ms p)) (length_given g ms p)) (process_count g) h.process h.within
-        (ap (is_length_if (duration g h.process (count_of g ms h.process))) h.given ∙ (no_length (duration g h.process (count_of g ms h.process)) h.length).1 h.bad),
+    λ e. let r =
+        some_fails (λ p. is_length_if (duration g p (count_of g ms p)) (length_given g ms p)) (process_count g) e in
+        bad_length r.0 r.1 (length_given g ms r.0) refl r.2,
+    λ h. one_fails (λ p. is_length_if (duration g p (count_of g ms p)) (length_given g ms p))
+        (process_count g) h.process h.within
+        (ap (is_length_if (duration g h.process (count_of g ms h.process))) h.given
+        ∙ (no_length (duration g h.process (count_of g ms h.process)) h.length).1 h.bad),
   )
 
 -- ---- the first test that fails
@@ -226,7 +262,8 @@ module _ (test : Cause → Bool) (played : Played) where
   pass_more : (c : Cause) → Pass (rank_of_cause c) → test c ≡ true → Pass (suc (rank_of_cause c))
   pass_more c before here e l = elim (cases_lt (rank_of_cause e) (rank_of_cause c)) [
     | inl lt ↦ before e lt
-    | inr ge ↦ let same : rank_of_cause c ≡ rank_of_cause e = omega (arith, l, ge) in subst (λ x. test x ≡ true) (same_place c e same) here
+    | inr ge ↦ let same : rank_of_cause c ≡ rank_of_cause e = omega (arith, l, ge) in
+        subst (λ x. test x ≡ true) (same_place c e same) here
   ]
 
   pass_next : (n : ℕ) (c : Cause) → rank_of_cause c ≡ n → Pass n → test c ≡ true → Pass (suc n)
@@ -241,26 +278,33 @@ module _ (test : Cause → Bool) (played : Played) where
   stops : (c : Cause) (cs : List Cause) → test c ≡ false → told (c ∷ cs) ≡ Err (Bad c)
   stops c cs fail = rw fail refl
 
-  told_first : (cs : List Cause) (n : ℕ) → Rise n cs → Pass n → (cause : Cause) → told cs ≡ Err (Bad cause) → IsFirstFailure cause
+  told_first : (cs : List Cause) (n : ℕ) → Rise n cs → Pass n → (cause : Cause) → told cs ≡ Err (Bad cause) →
+      IsFirstFailure cause
   told_first [] n rise before cause e = cc
   told_first (c ∷ cs) n rise before cause e = elim (cases_Bool (test c)) [
     | inl pass ↦ told_first cs (suc n) rise.1 (pass_next n c rise.0 before pass) cause (sym (goes_on c cs pass) ∙ e)
-    | inr fail ↦ subst IsFirstFailure (same_bad c cause (sym (stops c cs fail) ∙ e)) (fail, subst Pass (sym rise.0) before)
+    | inr fail ↦
+        subst IsFirstFailure (same_bad c cause (sym (stops c cs fail) ∙ e)) (fail, subst Pass (sym rise.0) before)
   ]
 
-  first_told : (cs : List Cause) (n : ℕ) → Rise n cs → (cause : Cause) → n ≤ rank_of_cause cause → IsFirstFailure cause → told cs ≡ Err (Bad cause)
+  first_told : (cs : List Cause) (n : ℕ) → Rise n cs → (cause : Cause) → n ≤ rank_of_cause cause →
+      IsFirstFailure cause →
+      told cs ≡ Err (Bad cause)
   first_told [] n rise cause l first = let f = few cause in absurd (omega (arith, f, l, rise))
   first_told (c ∷ cs) n rise cause l first = elim (cases_lt n (rank_of_cause cause)) [
-    | inl lt ↦ let at = rise.0 in goes_on c cs (first.1 c (omega (arith, at, lt))) ∙ first_told cs (suc n) rise.1 cause lt first
+    | inl lt ↦ let at = rise.0 in
+        goes_on c cs (first.1 c (omega (arith, at, lt))) ∙ first_told cs (suc n) rise.1 cause lt first
     | inr ge ↦ let at = rise.0 in let same : rank_of_cause cause ≡ rank_of_cause c = omega (arith, at, l, ge) in
-        let is = same_place cause c same in stops c cs (subst (λ x. test x ≡ false) is first.0) ∙ ap (λ x. Err (Bad x)) (sym is)
+        let is = same_place cause c same in
+        stops c cs (subst (λ x. test x ≡ false) is first.0) ∙ ap (λ x. Err (Bad x)) (sym is)
   ]
 
   told_well : (cs : List Cause) → ((c : Cause) → test c ≡ true) → told cs ≡ Ok played
   told_well [] pass = refl
   told_well (c ∷ cs) pass = goes_on c cs (pass c) ∙ told_well cs pass
 
-  well_told : (cs : List Cause) (n : ℕ) → Rise n cs → Pass n → (p : Played) → told cs ≡ Ok p → (c : Cause) → test c ≡ true
+  well_told : (cs : List Cause) (n : ℕ) → Rise n cs → Pass n → (p : Played) → told cs ≡ Ok p → (c : Cause) →
+      test c ≡ true
   well_told [] n rise before p e c = before c (let f = few c in omega (arith, f, rise))
   well_told (c ∷ cs) n rise before p e other = elim (cases_Bool (test c)) [
     | inl pass ↦ well_told cs (suc n) rise.1 (pass_next n c rise.0 before pass) p (sym (goes_on c cs pass) ∙ e) other
@@ -295,7 +339,8 @@ module _ (g : Graph) (ms : Members) where
 -- a document is rejected for its first cause, and played if there is none
 abbrev Judged : Graph → Option Members → Type 0
 Judged g document =
-    ((cause : Cause) → played_if g document ≡ Err (Bad cause) ↔ (IsIn g document cause × ((other : Cause) → rank_of_cause other < rank_of_cause cause → IsIn g document other → ⊥)))
+    ((cause : Cause) → played_if g document ≡ Err (Bad cause) ↔ (IsIn g document cause ×
+    ((other : Cause) → rank_of_cause other < rank_of_cause cause → IsIn g document other → ⊥)))
     × (((p : Played) × (played_if g document ≡ Ok p)) ↔ ((cause : Cause) → IsIn g document cause → ⊥))
 
 judged : (g : Graph) (document : Option Members) → Judged g document
@@ -304,8 +349,11 @@ judged g None = (
   (λ (p, e). cc, λ none. absurd (none Toml refl)),
 )
   where
-    at : (cause : Cause) → Toml ≡ cause → IsIn g None cause × ((other : Cause) → rank_of_cause other < rank_of_cause cause → IsIn g None other → ⊥)
-    at cause e = subst (λ c. IsIn g None c × ((other : Cause) → rank_of_cause other < rank_of_cause c → IsIn g None other → ⊥)) e (refl, λ other l h. absurd (omega (arith, l)))
+    at : (cause : Cause) → Toml ≡ cause →
+        IsIn g None cause × ((other : Cause) → rank_of_cause other < rank_of_cause cause → IsIn g None other → ⊥)
+    at cause e =
+        subst (λ c. IsIn g None c × ((other : Cause) → rank_of_cause other < rank_of_cause c → IsIn g None other → ⊥)) e
+        (refl, λ other l h. absurd (omega (arith, l)))
 
     back : (cause : Cause) → IsIn g None cause → played_if g None ≡ Err (Bad cause)
     back Toml h = refl
@@ -316,12 +364,16 @@ judged g None = (
     back Length h = absurd h
 judged g (Some ms) = (
   λ cause. (
-    λ e. let first = told_first (test g ms) (played g ms) order 1 rise start cause e in
-        ((fails g ms cause).0 first.0, λ other l h. both_ways (test g ms other) ((fails g ms other).1 h) (first.1 other l)),
-    λ h. first_told (test g ms) (played g ms) order 1 rise cause (behind cause h.0) ((fails g ms cause).1 h.0, λ other l. passes g ms other (h.1 other l)),
+    λ e. let first = told_first (test g ms) (played g ms) order 1 rise start cause e in (
+      (fails g ms cause).0 first.0,
+      λ other l h. both_ways (test g ms other) ((fails g ms other).1 h) (first.1 other l),
+    ),
+    λ h. first_told (test g ms) (played g ms) order 1 rise cause (behind cause h.0)
+        ((fails g ms cause).1 h.0, λ other l. passes g ms other (h.1 other l)),
   ),
   (
-    λ (p, e). λ cause h. both_ways (test g ms cause) ((fails g ms cause).1 h) (well_told (test g ms) (played g ms) order 1 rise start p e cause),
+    λ (p, e). λ cause h. both_ways (test g ms cause) ((fails g ms cause).1 h)
+        (well_told (test g ms) (played g ms) order 1 rise start p e cause),
     λ none. (played g ms, told_well (test g ms) (played g ms) order (λ c. passes g ms c (none c))),
   ),
 )
@@ -351,6 +403,7 @@ judged g (Some ms) = (
 pub first_causes_are_told : FirstCausesAreTold
 unfolding file_of
 first_causes_are_told g bytes = let is = judged g (document_of bytes) in record {
-  refused = λ cause. (λ e. let h = (is.0 cause).0 e in record { there = h.0; none = h.1 }, λ h. (is.0 cause).1 (h.there, h.none));
+  refused = λ cause.
+      (λ e. let h = (is.0 cause).0 e in record { there = h.0; none = h.1 }, λ h. (is.0 cause).1 (h.there, h.none));
   played = is.1;
 }

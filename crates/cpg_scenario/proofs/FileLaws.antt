@@ -9,7 +9,8 @@ use Rattle.cpg_scenario.specs.declared.fault.Cause.TheVariants.{Toml}
 use Rattle.cpg_scenario.specs.declared.fault.ScenarioFault.TheVariants.{Bad}
 use Rattle.cpg_scenario.specs.File.{played_of, file_of}
 
-pub file_of-read : (g : Graph) (bytes : List ℕ) (ms : Members) → IsUtf8 bytes → parse_document bytes ≡ Some ms → file_of g bytes ≡ played_of g ms
+pub file_of-read : (g : Graph) (bytes : List ℕ) (ms : Members) → IsUtf8 bytes → parse_document bytes ≡ Some ms →
+    file_of g bytes ≡ played_of g ms
 unfolding file_of
 file_of-read g bytes ms text read = rw (is_utf8-from_IsUtf8 bytes text, read) refl
 
@@ -17,6 +18,8 @@ none_if : (b : Bool) (o : Option Members) → (b ≡ true → o ≡ None) → co
 none_if true o h = h refl
 none_if false o h = refl
 
-pub file_of-refused : (g : Graph) (bytes : List ℕ) → (IsUtf8 bytes → parse_document bytes ≡ None) → file_of g bytes ≡ Err (Bad Toml)
+pub file_of-refused : (g : Graph) (bytes : List ℕ) → (IsUtf8 bytes → parse_document bytes ≡ None) →
+    file_of g bytes ≡ Err (Bad Toml)
 unfolding file_of
-file_of-refused g bytes h = rw (none_if (is_utf8 bytes) (parse_document bytes) (λ e. h (IsUtf8-from_is_utf8 bytes e))) refl
+file_of-refused g bytes h =
+    rw (none_if (is_utf8 bytes) (parse_document bytes) (λ e. h (IsUtf8-from_is_utf8 bytes e))) refl

@@ -1,5 +1,6 @@
 -- Filling in the fault counts, the values and the lengths of a scenario, process by process.
-use Rattle.std.proofs.Common.{ℕ, zero, suc, ◌+◌, ◌-◌, ◌<◌, ◌≤◌, ◌≡◌, Bool, true, false, List, [], ◌∷◌, length, get_or, set, map, sum_by, sym, ap, ◌∙◌, subst, ⊎_elim, arith}
+use Rattle.std.proofs.Common.{ℕ, zero, suc, ◌+◌, ◌-◌, ◌<◌, ◌≤◌, ◌≡◌, Bool, true, false, List, [], ◌∷◌, length, get_or}
+use Rattle.std.proofs.Common.{set, map, sum_by, sym, ap, ◌∙◌, subst, ⊎_elim, arith}
 use Rattle.std.specs.Prelude.{nat_le}
 use Rattle.std.specs.List.{list_all}
 use Rattle.std.proofs.lemmas.Bool.{cases_lt, both_ways, false_from_ne_true, lt-leb}
@@ -15,10 +16,12 @@ pub all_pass : (p : ℕ → Bool) (n : ℕ) → ((i : ℕ) → i < n → p i ≡
 all_pass p n h = all_from p (numbers_below n) (λ i c. h i (numbers-Contains n i c))
 
 pub one_fails : (p : ℕ → Bool) (n i : ℕ) → i < n → p i ≡ false → list_all p (numbers_below n) ≡ false
-one_fails p n i l e = false_from_ne_true (list_all p (numbers_below n)) (λ t. both_ways _ e (from_all p (numbers_below n) i t (Contains-numbers n i l)))
+one_fails p n i l e = false_from_ne_true (list_all p (numbers_below n))
+    (λ t. both_ways _ e (from_all p (numbers_below n) i t (Contains-numbers n i l)))
 
 pub below_next : (P : ℕ → Type 0) (n : ℕ) → ((i : ℕ) → i < n → P i) → P n → (i : ℕ) → i < n + 1 → P i
-below_next P n h here i l = ⊎_elim (λ (k : i < n). h i k) (λ (k : n ≤ i). let e : n ≡ i = omega arith in subst P e here) (cases_lt i n)
+below_next P n h here i l =
+    ⊎_elim (λ (k : i < n). h i k) (λ (k : n ≤ i). let e : n ≡ i = omega arith in subst P e here) (cases_lt i n)
 
 -- ---- a list that is filled in
 
@@ -27,27 +30,36 @@ pub record FilledTo {X : Type 0} (f : ℕ → X) (count : ℕ) (d : X) (n : ℕ)
   pub long : length xs ≡ count
   pub there : (i : ℕ) → i < n → get_or xs i d ≡ f i
 
-pub filled_first : {X : Type 0} (f : ℕ → X) (count : ℕ) (d : X) (xs : List X) → length xs ≡ count → FilledTo f count d 0 xs
+pub filled_first : {X : Type 0} (f : ℕ → X) (count : ℕ) (d : X) (xs : List X) → length xs ≡ count →
+    FilledTo f count d 0 xs
 filled_first f count d xs l = record { long = l; there = λ i k. absurd (omega arith) }
 
-pub filled_next : {X : Type 0} (f : ℕ → X) (count : ℕ) (d : X) (n : ℕ) (xs : List X) (x : X) → n < count → x ≡ f n → FilledTo f count d n xs → FilledTo f count d (n + 1) (set xs n x)
+pub filled_next : {X : Type 0} (f : ℕ → X) (count : ℕ) (d : X) (n : ℕ) (xs : List X) (x : X) → n < count → x ≡ f n →
+    FilledTo f count d n xs →
+    FilledTo f count d (n + 1) (set xs n x)
 filled_next f count d n xs x l e h = record {
   long = length-set xs n x ∙ h.long;
   there = λ i k. ⊎_elim
       (λ (m : i < n). get_or-set_other xs n i x d (λ s. omega arith) ∙ h.there i m)
-      (λ (m : n ≤ i). let s : i ≡ n = omega arith in ap (λ j. get_or (set xs n x) j d) s ∙ get_or-set_same xs n x d (let w = h.long in omega arith) ∙ e ∙ ap f (sym s))
+      (λ (m : n ≤ i). let s : i ≡ n = omega arith in
+      ap (λ j. get_or (set xs n x) j d) s ∙ get_or-set_same xs n x d (let w = h.long in omega arith)
+      ∙ e ∙ ap f (sym s))
       (cases_lt i n);
 }
 
-pub filled_all : {X : Type 0} (f : ℕ → X) (count : ℕ) (d : X) (n : ℕ) (xs : List X) → count ≤ n → FilledTo f count d n xs → xs ≡ map f (numbers_below count)
+pub filled_all : {X : Type 0} (f : ℕ → X) (count : ℕ) (d : X) (n : ℕ) (xs : List X) → count ≤ n →
+    FilledTo f count d n xs →
+    xs ≡ map f (numbers_below count)
 filled_all f count d n xs l h =
     let long = length-map (numbers_below count) f ∙ length-range_with_len 0 count in
-    ext_get_or d xs (map f (numbers_below count)) (h.long ∙ sym long) (λ i k. h.there i (let w = h.long in omega arith) ∙ sym (get_or-map-below f count i d (let w = h.long in omega arith)))
+    ext_get_or d xs (map f (numbers_below count)) (h.long ∙ sym long) (λ i k. h.there i (let w = h.long in omega arith)
+    ∙ sym (get_or-map-below f count i d (let w = h.long in omega arith)))
 
 -- ---- what is left of a budget
 
 pub sum_next : (f : ℕ → ℕ) (n : ℕ) → sum_by f (numbers_below (n + 1)) ≡ sum_by f (numbers_below n) + f n
-sum_next f n = ap (sum_by f) (below_push n) ∙ sum_by-append f (numbers_below n) (n ∷ []) ∙ (let e = sum_by-cons f n [] in omega arith)
+sum_next f n = ap (sum_by f) (below_push n) ∙ sum_by-append f (numbers_below n) (n ∷ [])
+    ∙ (let e = sum_by-cons f n [] in omega arith)
 
 sum_grows : (f : ℕ → ℕ) (n m : ℕ) → sum_by f (numbers_below n) ≤ sum_by f (numbers_below (n + m))
 sum_grows f n zero = let e = ap (λ k. sum_by f (numbers_below k)) (let h : n + 0 ≡ n = omega arith in h) in omega arith
@@ -57,7 +69,9 @@ sum_grows f n (suc m) =
     let e = ap (λ k. sum_by f (numbers_below k)) (let h : n + suc m ≡ n + m + 1 = omega arith in h) in
     omega arith
 
-pub over_budget : (f : ℕ → ℕ) (count n budget left : ℕ) → n < count → left + sum_by f (numbers_below n) ≡ budget → left < f n → nat_le (sum_by f (numbers_below count)) budget ≡ false
+pub over_budget : (f : ℕ → ℕ) (count n budget left : ℕ) → n < count → left + sum_by f (numbers_below n) ≡ budget →
+    left < f n →
+    nat_le (sum_by f (numbers_below count)) budget ≡ false
 over_budget f count n budget left l e over =
     let a = sum_next f n in
     let b = sum_grows f (n + 1) (count - (n + 1)) in

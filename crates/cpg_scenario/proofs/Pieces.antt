@@ -1,5 +1,6 @@
 -- Pieces that are written one after the other are their list with commas, if no piece is empty.
-use Rattle.std.proofs.Common.{◌≡◌, ℕ, ◌+◌, ◌==◌, Bool, true, false, cond, List, [], ◌∷◌, ◌++◌, codes, flat_map, refl, sym, ap, ◌∙◌, append-nil}
+use Rattle.std.proofs.Common.{◌≡◌, ℕ, ◌+◌, ◌==◌, Bool, true, false, cond, List, [], ◌∷◌, ◌++◌, codes, flat_map, refl}
+use Rattle.std.proofs.Common.{sym, ap, ◌∙◌, append-nil}
 use Rattle.std.specs.Prelude.{⊤}
 use Rattle.std.specs.Fmt.{decimal}
 use Rattle.std.proofs.lemmas.List.{append_assoc}
@@ -17,15 +18,18 @@ AreSome [] = ⊤
 AreSome ([] ∷ ps) = ⊥
 AreSome ((c ∷ cs) ∷ ps) = AreSome ps
 
-with_pieces-append : (text : List ℕ) (ps qs : List (List ℕ)) → with_pieces text (ps ++ qs) ≡ with_pieces (with_pieces text ps) qs
+with_pieces-append : (text : List ℕ) (ps qs : List (List ℕ)) →
+    with_pieces text (ps ++ qs) ≡ with_pieces (with_pieces text ps) qs
 with_pieces-append text [] qs = refl
 with_pieces-append [] (p ∷ ps) qs = with_pieces-append p ps qs
 with_pieces-append (c ∷ cs) (p ∷ ps) qs = with_pieces-append (((c ∷ cs) ++ codes ", ") ++ p) ps qs
 
-after_some : (c : ℕ) (cs : List ℕ) (ps : List (List ℕ)) → with_pieces (c ∷ cs) ps ≡ (c ∷ cs) ++ flat_map (λ p. codes ", " ++ p) ps
+after_some : (c : ℕ) (cs : List ℕ) (ps : List (List ℕ)) →
+    with_pieces (c ∷ cs) ps ≡ (c ∷ cs) ++ flat_map (λ p. codes ", " ++ p) ps
 after_some c cs [] = sym (append-nil (c ∷ cs))
 after_some c cs (p ∷ ps) = after_some c ((cs ++ codes ", ") ++ p) ps
-    ∙ ap (λ l. c ∷ l) (append_assoc (cs ++ codes ", ") p (flat_map (λ q. codes ", " ++ q) ps) ∙ append_assoc cs (codes ", ") (p ++ flat_map (λ q. codes ", " ++ q) ps))
+    ∙ ap (λ l. c ∷ l) (append_assoc (cs ++ codes ", ") p (flat_map (λ q. codes ", " ++ q) ps)
+    ∙ append_assoc cs (codes ", ") (p ++ flat_map (λ q. codes ", " ++ q) ps))
 
 pub finished : (ps : List (List ℕ)) → AreSome ps → or_none (with_pieces [] ps) ≡ listed ps
 finished [] h = refl
@@ -62,10 +66,15 @@ value_some name true = after_name name _ _
 
 pub pieces_some : (g : Graph) (s : Scenario) (ps : List ℕ) → AreSome (flat_map (pieces_of g s) ps)
 pieces_some g s ps = AreSome-flat_map (pieces_of g s)
-    (λ p. AreSome-append (fault_pieces (process_at g p).name (fault_of s p)) _ (faults_some (process_at g p).name (fault_of s p)) (value_some (process_at g p).name (value_at s (condition_of g p)))) ps
+    (λ p. AreSome-append (fault_pieces (process_at g p).name (fault_of s p)) _ (faults_some (process_at g p).name
+    (fault_of s p)) (value_some (process_at g p).name (value_at s (condition_of g p)))) ps
 
 -- one more process, as at a step of the loop
-pub next_pieces : (f : ℕ → List (List ℕ)) (n : ℕ) (text next : List ℕ) → text ≡ with_pieces [] (flat_map f (numbers_below n)) → next ≡ with_pieces text (f n) →
+pub next_pieces : (f : ℕ → List (List ℕ)) (n : ℕ) (text next : List ℕ) →
+    text ≡ with_pieces [] (flat_map f (numbers_below n)) →
+    next ≡ with_pieces text (f n) →
     next ≡ with_pieces [] (flat_map f (numbers_below (n + 1)))
-next_pieces f n text next h k = k ∙ ap (λ t. with_pieces t (f n)) h ∙ sym (with_pieces-append [] (flat_map f (numbers_below n)) (f n))
-    ∙ ap (with_pieces []) (ap (λ l. flat_map f (numbers_below n) ++ l) (sym (append-nil (f n))) ∙ sym (flat_map-append f (numbers_below n) (n ∷ [])) ∙ ap (flat_map f) (sym (below_push n)))
+next_pieces f n text next h k =
+    k ∙ ap (λ t. with_pieces t (f n)) h ∙ sym (with_pieces-append [] (flat_map f (numbers_below n)) (f n))
+    ∙ ap (with_pieces []) (ap (λ l. flat_map f (numbers_below n) ++ l) (sym (append-nil (f n)))
+    ∙ sym (flat_map-append f (numbers_below n) (n ∷ [])) ∙ ap (flat_map f) (sym (below_push n)))

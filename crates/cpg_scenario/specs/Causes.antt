@@ -1,5 +1,6 @@
 -- What can be wrong with a scenario file, cause by cause, and which of the causes is reported.
-use Rattle.std.specs.Prelude.{ℕ, ℤ, pos, negsuc, ◌≡◌, ◌<◌, ◌⊎◌, ◌↔◌, ⊤, Bool, true, false, if◌then◌else◌, List, Contains, Option, Some, None, IsSomeAnd, Ok, Err, option_and_then, sum_by, codes}
+use Rattle.std.specs.Prelude.{ℕ, ℤ, pos, negsuc, ◌≡◌, ◌<◌, ◌⊎◌, ◌↔◌, ⊤, Bool, true, false, if◌then◌else◌, List}
+use Rattle.std.specs.Prelude.{Contains, Option, Some, None, IsSomeAnd, Ok, Err, option_and_then, sum_by, codes}
 use Rattle.std.specs.Str.{is_utf8}
 use Rattle.toml.specs.Data.{Data, Members, no_members, member, table, get_member, as_table}
 use Rattle.toml.specs.Parse.{parse_document}
@@ -10,7 +11,8 @@ use Rattle.cpg_scenario.specs.declared.fault.Cause.{Cause}
 use Rattle.cpg_scenario.specs.declared.fault.Cause.TheVariants.{Toml, Field, Unknown, Condition, Budget, Length}
 use Rattle.cpg_scenario.specs.declared.fault.ScenarioFault.TheVariants.{Bad}
 use Rattle.cpg_scenario.specs.declared.reading.Played.{Played}
-use Rattle.cpg_scenario.specs.File.{top_keys, is_typed, process_names, value_given, count_given, count_of, length_given, file_of}
+use Rattle.cpg_scenario.specs.File.{top_keys, is_typed, process_names, value_given, count_given, count_of, length_given}
+use Rattle.cpg_scenario.specs.File.{file_of}
 
 -- the document that the bytes spell, if they are UTF-8 and a document
 abbrev pub document_of : List ℕ → Option Members
@@ -56,7 +58,8 @@ HasBadName g key ms = IsSomeAnd (option_and_then as_table (get_member key ms)) (
 
 -- one of the three tables has a key that is no process name
 abbrev pub HasUnknownName : Graph → Members → Type 0
-HasUnknownName g ms = HasBadName g (codes "faults") ms ⊎ (HasBadName g (codes "values") ms ⊎ HasBadName g (codes "lengths") ms)
+HasUnknownName g ms =
+    HasBadName g (codes "faults") ms ⊎ (HasBadName g (codes "values") ms ⊎ HasBadName g (codes "lengths") ms)
 
 -- a process is given a value, and has no condition
 pub record HasBadValue (g : Graph) (ms : Members) : Type 0 where

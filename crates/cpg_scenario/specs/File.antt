@@ -1,5 +1,8 @@
--- What the bytes of a scenario file say, for a graph: a scenario and the lengths of its executions, or the first refusal.
-use Rattle.std.specs.Prelude.{ℕ, ℤ, pos, negsuc, Bool, true, false, not, ◌&&◌, ◌||◌, nat_le, if◌then◌else◌, List, [], ◌∷◌, Option, Some, None, Result, Ok, Err, is_some, unwrap_or, option_and_then, map, sum_by, codes, bytes_eq, ◌≡◌, ◌<◌, ◌≤◌, length, get_or}
+-- What the bytes of a scenario file say, for a graph: a scenario and the lengths of its executions, or the first
+-- refusal.
+use Rattle.std.specs.Prelude.{ℕ, ℤ, pos, negsuc, Bool, true, false, not, ◌&&◌, ◌||◌, nat_le, if◌then◌else◌, List, []}
+use Rattle.std.specs.Prelude.{◌∷◌, Option, Some, None, Result, Ok, Err, is_some, unwrap_or, option_and_then, map}
+use Rattle.std.specs.Prelude.{sum_by, codes, bytes_eq, ◌≡◌, ◌<◌, ◌≤◌, length, get_or}
 use Rattle.std.specs.List.{list_any, list_all}
 use Rattle.std.specs.Str.{is_utf8}
 use Rattle.toml.specs.Data.{Data, Members, no_members, member, get_member, as_integer, as_bool, as_table}
@@ -99,7 +102,8 @@ count_of g ms p = natural (count_given g ms p)
 
 abbrev pub keeps_budget : Graph → Members → Bool
 keeps_budget g ms = list_all (λ p.
-    is_natural (count_given g ms p)) (numbers_below (process_count g)) && nat_le (sum_by (count_of g ms) (numbers_below (process_count g))) g.faults
+    is_natural (count_given g ms p)) (numbers_below (process_count g))
+    && nat_le (sum_by (count_of g ms) (numbers_below (process_count g))) g.faults
 
 abbrev pub scenario_of : Graph → Members → Scenario
 scenario_of g ms = record { values = values_of g ms; faults = map (count_of g ms) (numbers_below (process_count g)) }
@@ -119,14 +123,16 @@ is_length_if longest None = true
 is_length_if longest (Some n) = is_length longest n
 
 abbrev pub keeps_lengths : Graph → Members → Bool
-keeps_lengths g ms = list_all (λ p. is_length_if (duration g p (count_of g ms p)) (length_given g ms p)) (numbers_below (process_count g))
+keeps_lengths g ms = list_all (λ p. is_length_if (duration g p (count_of g ms p)) (length_given g ms p))
+    (numbers_below (process_count g))
 
 abbrev pub length_or : ℕ → Option ℤ → ℕ
 length_or longest None = longest
 length_or longest (Some n) = natural n
 
 abbrev pub lengths_of : Graph → Members → List ℕ
-lengths_of g ms = map (λ p. length_or (duration g p (count_of g ms p)) (length_given g ms p)) (numbers_below (process_count g))
+lengths_of g ms =
+    map (λ p. length_or (duration g p (count_of g ms p)) (length_given g ms p)) (numbers_below (process_count g))
 
 -- ---- the file
 
@@ -154,4 +160,5 @@ file_of g bytes = played_if g (if is_utf8 bytes then parse_document bytes else N
 pub record IsPlayed (g : Graph) (p : Played) : Type 0 where
   pub scenario : IsScenario g p.scenario
   pub count : length p.lengths ≡ process_count g
-  pub lengths : (q : ℕ) → q < process_count g → (1 ≤ get_or p.lengths q 0) × (get_or p.lengths q 0 ≤ duration g q (fault_of p.scenario q))
+  pub lengths : (q : ℕ) → q < process_count g →
+      (1 ≤ get_or p.lengths q 0) × (get_or p.lengths q 0 ≤ duration g q (fault_of p.scenario q))

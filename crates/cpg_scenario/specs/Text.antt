@@ -1,5 +1,6 @@
 -- The text of a scenario: its faults and its true values, process by process.
-use Rattle.std.specs.Prelude.{ℕ, ◌==◌, if◌then◌else◌, Bool, true, false, List, [], ◌∷◌, ◌++◌, Option, Some, None, codes, get_or}
+use Rattle.std.specs.Prelude.{ℕ, ◌==◌, if◌then◌else◌, Bool, true, false, List, [], ◌∷◌, ◌++◌, Option, Some, None, codes}
+use Rattle.std.specs.Prelude.{get_or}
 use Rattle.std.specs.List.{flat_map, join_by}
 use Rattle.std.specs.Fmt.{decimal}
 use Rattle.cpg_base.specs.Numbers.{numbers_below}
@@ -22,7 +23,8 @@ value_at s (Some c) = get_or s.values c false
 
 -- the pieces for one process
 abbrev pub pieces_of : Graph → Scenario → ℕ → List (List ℕ)
-pieces_of g s p = fault_pieces (process_at g p).name (fault_of s p) ++ value_pieces (process_at g p).name (value_at s (condition_of g p))
+pieces_of g s p = fault_pieces (process_at g p).name (fault_of s p)
+    ++ value_pieces (process_at g p).name (value_at s (condition_of g p))
 
 -- the pieces, separated by a comma and a space, or `none` if there are none
 abbrev pub listed : List (List ℕ) → List ℕ

@@ -1,5 +1,6 @@
 -- What a command reads, why it stops and what it puts out, by what the shelf tells of its files.
-use Rattle.std.proofs.Common.{ℕ, suc, ◌≡◌, ◌<◌, ◌≤◌, ◌∙◌, List, [], ◌∷◌, ◌++◌, Option, Some, None, length, refl, ap, subst, arith, inl, inr}
+use Rattle.std.proofs.Common.{ℕ, suc, ◌≡◌, ◌<◌, ◌≤◌, ◌∙◌, List, [], ◌∷◌, ◌++◌, Option, Some, None, length, refl, ap}
+use Rattle.std.proofs.Common.{subst, arith, inl, inr}
 use Rattle.cpg_base.specs.Graph.{Graph}
 use Rattle.cpg_history.specs.Fetch.{Fetch}
 use Rattle.cpg_io.specs.Agreement.{Agrees}
@@ -9,7 +10,8 @@ use Rattle.cpg_words.specs.Parts.{Text}
 use Rattle.cpg_words.specs.Forms.{command_of}
 use Rattle.cpg_words.specs.declared.command.Pair.{Pair}
 use Rattle.cpg_words.specs.declared.command.Command.{Command}
-use Rattle.cpg_words.specs.declared.command.Command.TheVariants.{Show, Compile, Check, Play, Node, Trial, Live, Hyper, Tune, Audit}
+use Rattle.cpg_words.specs.declared.command.Command.TheVariants.{Show, Compile, Check, Play, Node, Trial, Live, Hyper}
+use Rattle.cpg_words.specs.declared.command.Command.TheVariants.{Tune, Audit}
 use Rattle.cpg_reader.specs.declared.place.ReadFault.{ReadFault}
 use Rattle.cpg_rules.specs.Admission.{Admission}
 use Rattle.cpg_table.specs.Lawful.{Tables}
@@ -28,27 +30,35 @@ use Rattle.cpg_inputs.specs.Shapes.{HavePeriods, OnGraph, OnTables, part_values}
 use Rattle.cpg_inputs.proofs.OneReading.{reads_grown, stops_grown}
 use Rattle.cpg_app.specs.Causes.{IsUncompiled, StopsVerdict as Unverified, StopsWork, StopsNaming as Unnamed}
 use Rattle.cpg_app.specs.Outputs.{PutsOut}
-use Rattle.cpg_shelf_laws.specs.Causes.{Admits, AreSaid, GRAPH_LIMIT, IsAfterReading, IsUnsaid, PACK_LIMIT, Says, SaysLog, SaysPlayed, Spells, StopsCommand, StopsGraph, StopsNaming, StopsReading}
+use Rattle.cpg_shelf_laws.specs.Causes.{Admits, AreSaid, GRAPH_LIMIT, IsAfterReading, IsUnsaid, PACK_LIMIT, Says}
+use Rattle.cpg_shelf_laws.specs.Causes.{SaysLog, SaysPlayed, Spells, StopsCommand, StopsGraph, StopsNaming}
+use Rattle.cpg_shelf_laws.specs.Causes.{StopsReading}
 use Rattle.cpg_shelf_laws.specs.Causes.{StopsTables, StopsVerdict, seen}
 use Rattle.cpg_shelf_laws.specs.Outputs.{PrintsCommand}
 use Rattle.cpg_shelf_laws.proofs.Fetched.{IsLast, agreed, last, tells_whole}
 use Rattle.cpg_shelf_laws.proofs.Parts.{some_parts}
-use Rattle.cpg_shelf_laws.proofs.Stops.{admits, says, says_acts, says_scenario, spells, stops_graph, stops_log, stops_pack, stops_part, stops_scenario}
+use Rattle.cpg_shelf_laws.proofs.Stops.{admits, says, says_acts, says_scenario, spells, stops_graph, stops_log}
+use Rattle.cpg_shelf_laws.proofs.Stops.{stops_pack, stops_part, stops_scenario}
 use Rattle.cpg_shelf_laws.proofs.Values.{says_graph, says_log, says_part, says_played, says_tables}
 
 -- ---- out of memory
 
-unread_memory : (old new : ShelfState) (told : Option Text) (halt : Halt) → halt ≡ Memory → StopsReading (seen old new) told halt
-unread_memory old new told halt e = inr (inr (record { fault = ReadFault.OutOfMemory; halt_is = e; within = λ other. absurd (other refl); first = λ other. absurd (other refl) }))
+unread_memory : (old new : ShelfState) (told : Option Text) (halt : Halt) → halt ≡ Memory →
+    StopsReading (seen old new) told halt
+unread_memory old new told halt e =
+    inr (inr (record { fault = ReadFault.OutOfMemory; halt_is = e; within = λ other. absurd (other refl); first = λ other. absurd (other refl) }))
 
-pub memory_stops : (old new : ShelfState) (c : Command) (halt : Halt) → halt ≡ Memory → StopsCommand (seen old new) c halt
+pub memory_stops : (old new : ShelfState) (c : Command) (halt : Halt) → halt ≡ Memory →
+    StopsCommand (seen old new) c halt
 memory_stops old new (Show graph) halt e = inl (inl (unread_memory old new _ halt e))
 memory_stops old new (Compile graph) halt e = inl (inl (unread_memory old new _ halt e))
 memory_stops old new (Check graph pack) halt e = inl (inl (unread_memory old new _ halt e))
 memory_stops old new (Play graph pack scenario turns) halt e = inl (inl (unread_memory old new _ halt e))
-memory_stops old new (Node pack name) halt e = inl (inr (inr (record { fault = PackFault.OutOfMemory; halt_is = e; within = λ other. absurd (other refl); shows = tt })))
+memory_stops old new (Node pack name) halt e = inl (inr
+    (inr (record { fault = PackFault.OutOfMemory; halt_is = e; within = λ other. absurd (other refl); shows = tt })))
 memory_stops old new (Trial number) halt e = e
-memory_stops old new (Live pack name stream) halt e = inl (inr (inr (record { fault = PackFault.OutOfMemory; halt_is = e; within = λ other. absurd (other refl); shows = tt })))
+memory_stops old new (Live pack name stream) halt e = inl (inr
+    (inr (record { fault = PackFault.OutOfMemory; halt_is = e; within = λ other. absurd (other refl); shows = tt })))
 memory_stops old new (Hyper pairs) halt e = inl (inr e)
 memory_stops old new (Tune graph) halt e = inl (inl (unread_memory old new _ halt e))
 memory_stops old new (Audit graph pack log) halt e = inl (inl (unread_memory old new _ halt e))
@@ -84,37 +94,71 @@ module _ (old new : ShelfState) (k : KeepsShelf old new) where
   within : (f : Fetch) (limit : ℕ) → IsLast old new f → length f.given ≤ limit → given_count new ≤ limit
   within f limit is short = let c = is.count in omega (arith, c, short)
 
-  graph_of : (g : Option Graph) (name : Text) (f : Fetch) (v : Value) → IsRead g (file GraphFile name) f v → Agrees old.stands f → (a : Admission) × (v ≡ graph_value a) × Admits (old.stands name) a
-  graph_of g name f v r ag = (r.says.0, r.says.1, admits (old.stands name) f.given r.says.0 (tells_whole old.stands (file GraphFile name) f r.whole ag) r.whole.short r.says.2)
+  graph_of : (g : Option Graph) (name : Text) (f : Fetch) (v : Value) → IsRead g (file GraphFile name) f v →
+      Agrees old.stands f →
+      (a : Admission) × (v ≡ graph_value a) × Admits (old.stands name) a
+  graph_of g name f v r ag = (
+    r.says.0,
+    r.says.1,
+    admits (old.stands name) f.given r.says.0
+        (tells_whole old.stands (file GraphFile name) f r.whole ag) r.whole.short r.says.2,
+  )
 
-  tables_of : (g : Option Graph) (name : Text) (f : Fetch) (v : Value) → IsRead g (file PackFile name) f v → Agrees old.stands f → (t : Tables) × (v ≡ tables_value t) × Spells (old.stands name) t
-  tables_of g name f v r ag = (r.says.0, r.says.1, spells (old.stands name) f.given r.says.0 (tells_whole old.stands (file PackFile name) f r.whole ag) r.whole.short r.says.2)
+  tables_of : (g : Option Graph) (name : Text) (f : Fetch) (v : Value) → IsRead g (file PackFile name) f v →
+      Agrees old.stands f →
+      (t : Tables) × (v ≡ tables_value t) × Spells (old.stands name) t
+  tables_of g name f v r ag = (
+    r.says.0,
+    r.says.1,
+    spells (old.stands name) f.given r.says.0
+        (tells_whole old.stands (file PackFile name) f r.whole ag) r.whole.short r.says.2,
+  )
 
-  graph_is : (g : Option Graph) (name : Text) (f : Fetch) (a : Admission) → IsRead g (file GraphFile name) f (graph_value a) → Agrees old.stands f → Admits (old.stands name) a
-  graph_is g name f a r ag = admits (old.stands name) f.given a (tells_whole old.stands (file GraphFile name) f r.whole ag) r.whole.short (says_graph g f.given a r.says)
+  graph_is : (g : Option Graph) (name : Text) (f : Fetch) (a : Admission) →
+      IsRead g (file GraphFile name) f (graph_value a) → Agrees old.stands f →
+      Admits (old.stands name) a
+  graph_is g name f a r ag = admits (old.stands name) f.given a
+      (tells_whole old.stands (file GraphFile name) f r.whole ag) r.whole.short (says_graph g f.given a r.says)
 
-  tables_are : (g : Option Graph) (name : Text) (f : Fetch) (t : Tables) → IsRead g (file PackFile name) f (tables_value t) → Agrees old.stands f → Spells (old.stands name) t
-  tables_are g name f t r ag = spells (old.stands name) f.given t (tells_whole old.stands (file PackFile name) f r.whole ag) r.whole.short (says_tables g f.given t r.says)
+  tables_are : (g : Option Graph) (name : Text) (f : Fetch) (t : Tables) →
+      IsRead g (file PackFile name) f (tables_value t) → Agrees old.stands f →
+      Spells (old.stands name) t
+  tables_are g name f t r ag = spells (old.stands name) f.given t
+      (tells_whole old.stands (file PackFile name) f r.whole ag) r.whole.short (says_tables g f.given t r.says)
 
   -- the tables of a pack that was read first are spelled by the bytes that stand under its name
-  pub spelled_by : (name : Text) (f : Fetch) (t : Tables) → IsRead None (file PackFile name) f (tables_value t) → Agrees old.stands f → Spells (old.stands name) t
+  pub spelled_by : (name : Text) (f : Fetch) (t : Tables) → IsRead None (file PackFile name) f (tables_value t) →
+      Agrees old.stands f →
+      Spells (old.stands name) t
   spelled_by name f t r ag = tables_are None name f t r ag
 
-  played_is : (g : Graph) (name : Text) (f : Fetch) (p : Played) → IsRead (Some g) (file ScenarioFile name) f (played_value p) → Agrees old.stands f → SaysPlayed (old.stands name) g p
-  played_is g name f p r ag = says_scenario (old.stands name) f.given g p (tells_whole old.stands (file ScenarioFile name) f r.whole ag) r.whole.short (says_played g f.given p r.says)
+  played_is : (g : Graph) (name : Text) (f : Fetch) (p : Played) →
+      IsRead (Some g) (file ScenarioFile name) f (played_value p) → Agrees old.stands f →
+      SaysPlayed (old.stands name) g p
+  played_is g name f p r ag = says_scenario (old.stands name) f.given g p
+      (tells_whole old.stands (file ScenarioFile name) f r.whole ag) r.whole.short (says_played g f.given p r.says)
 
-  log_is : (g : Graph) (name : Text) (f : Fetch) (l : Log) → IsRead (Some g) (file LogFile name) f (log_value l) → Agrees old.stands f → SaysLog (old.stands name) g l
-  log_is g name f l r ag = says_acts (old.stands name) f.given g l (tells_whole old.stands (file LogFile name) f r.whole ag) r.whole.short (says_log g f.given l r.says)
+  log_is : (g : Graph) (name : Text) (f : Fetch) (l : Log) → IsRead (Some g) (file LogFile name) f (log_value l) →
+      Agrees old.stands f →
+      SaysLog (old.stands name) g l
+  log_is g name f l r ag = says_acts (old.stands name) f.given g l
+      (tells_whole old.stands (file LogFile name) f r.whole ag) r.whole.short (says_log g f.given l r.says)
 
-  part_is : (g : Option Graph) (name : Text) (f : Fetch) (h : Graph) → IsRead g (file PartFile name) f (part_value h) → Agrees old.stands f → Says (old.stands name) h
-  part_is g name f h r ag = says (old.stands name) f.given h (tells_whole old.stands (file PartFile name) f r.whole ag) r.whole.short (says_part g f.given h r.says)
+  part_is : (g : Option Graph) (name : Text) (f : Fetch) (h : Graph) → IsRead g (file PartFile name) f (part_value h) →
+      Agrees old.stands f →
+      Says (old.stands name) h
+  part_is g name f h r ag = says (old.stands name) f.given h
+      (tells_whole old.stands (file PartFile name) f r.whole ag) r.whole.short (says_part g f.given h r.says)
 
-  behind : (v w : Value) (a : Admission) (t : Tables) → v ≡ graph_value a → w ≡ tables_value t → graph_after (graph_after None v) w ≡ Some a.graph
+  behind : (v w : Value) (a : Admission) (t : Tables) → v ≡ graph_value a → w ≡ tables_value t →
+      graph_after (graph_after None v) w ≡ Some a.graph
   behind v w a t e d = ap (graph_after (graph_after None v)) d ∙ ap (graph_after None) e
 
   -- ---- parts
 
-  pub unsaid : (g : Option Graph) (pairs : List Pair) (past older : List Fetch) (halt : Halt) → past ≡ older ++ old.history → StopsFiles g (part_files pairs) past new.history halt →
+  pub unsaid : (g : Option Graph) (pairs : List Pair) (past older : List Fetch) (halt : Halt) →
+      past ≡ older ++ old.history →
+      StopsFiles g (part_files pairs) past new.history halt →
       IsUnsaid (seen old new) pairs halt
   unsaid g [] past older halt e s = absurd s
   unsaid g (pair ∷ pairs) past older halt e (f, inl (stops, is)) = record {
@@ -127,36 +171,54 @@ module _ (old new : ShelfState) (k : KeepsShelf old new) where
   unsaid g (pair ∷ pairs) past older halt e (f, inr (v, r, there)) =
       let rest = unsaid (graph_after g v) pairs (f ∷ past) (f ∷ older) halt (ap (λ h. f ∷ h) e) there in
       let grown = stops_grown (graph_after g v) (part_files pairs) (f ∷ past) new.history halt there in
-      let ag = agreed old new k f (record { newer = grown.fetches; older = older; is = grown.is ∙ ap (λ h. grown.fetches ++ f ∷ h) e }) in
+      let ag = agreed old new k f
+      (record { newer = grown.fetches; older = older; is = grown.is ∙ ap (λ h. grown.fetches ++ f ∷ h) e }) in
       record {
         place = suc rest.place;
         within = (let w = rest.within in omega (arith, w));
         earlier = record { period = pair.period; problem = r.says.0 } ∷ rest.earlier;
-        said = (refl, says (old.stands pair.graph) f.given r.says.0 (tells_whole old.stands (file PartFile pair.graph) f r.whole ag) r.whole.short r.says.2, rest.said);
+        said = (
+          refl,
+          says (old.stands pair.graph) f.given r.says.0
+              (tells_whole old.stands (file PartFile pair.graph) f r.whole ag) r.whole.short r.says.2,
+          rest.said,
+        );
         stops = rest.stops;
       }
 
-  pub parts_said : (g : Option Graph) (pairs : List Pair) (parts : List Part) (past older : List Fetch) → past ≡ older ++ old.history →
-      Reads g (part_files pairs) past new.history (part_values parts) → HavePeriods pairs parts → AreSaid old.stands pairs parts
+  pub parts_said : (g : Option Graph) (pairs : List Pair) (parts : List Part) (past older : List Fetch) →
+      past ≡ older ++ old.history →
+      Reads g (part_files pairs) past new.history (part_values parts) → HavePeriods pairs parts →
+      AreSaid old.stands pairs parts
   parts_said g [] [] past older e r h = tt
   parts_said g [] (part ∷ parts) past older e r h = absurd h
   parts_said g (pair ∷ pairs) [] past older e r h = absurd h
   parts_said g (pair ∷ pairs) (part ∷ parts) past older e (f, r, rest) h =
       let grown = reads_grown g (part_files pairs) (f ∷ past) new.history (part_values parts) rest in
-      let ag = agreed old new k f (record { newer = grown.fetches; older = older; is = grown.is ∙ ap (λ h. grown.fetches ++ f ∷ h) e }) in
-      (h.0, part_is g pair.graph f part.problem r ag, parts_said g pairs parts (f ∷ past) (f ∷ older) (ap (λ h. f ∷ h) e) rest h.1)
+      let ag = agreed old new k f
+      (record { newer = grown.fetches; older = older; is = grown.is ∙ ap (λ h. grown.fetches ++ f ∷ h) e }) in (
+        h.0,
+        part_is g pair.graph f part.problem r ag,
+        parts_said g pairs parts (f ∷ past) (f ∷ older) (ap (λ h. f ∷ h) e) rest h.1,
+      )
 
-  pub parts_within : (g : Option Graph) (pairs : List Pair) (parts : List Part) (past older : List Fetch) → past ≡ older ++ old.history → 0 < length pairs →
-      Reads g (part_files pairs) past new.history (part_values parts) → HavePeriods pairs parts → given_count new ≤ GRAPH_LIMIT
+  pub parts_within : (g : Option Graph) (pairs : List Pair) (parts : List Part) (past older : List Fetch) →
+      past ≡ older ++ old.history →
+      0 < length pairs →
+      Reads g (part_files pairs) past new.history (part_values parts) → HavePeriods pairs parts →
+      given_count new ≤ GRAPH_LIMIT
   parts_within g [] parts past older e some r h = absurd (omega (arith, some))
   parts_within g (pair ∷ pairs) [] past older e some r h = absurd h
-  parts_within g (pair ∷ []) (part ∷ []) past older e some (f, r, is) h = within f (limit_of PartFile) (last old new k f older (is ∙ ap (λ h. f ∷ h) e)) r.whole.short
+  parts_within g (pair ∷ []) (part ∷ []) past older e some (f, r, is) h =
+      within f (limit_of PartFile) (last old new k f older (is ∙ ap (λ h. f ∷ h) e)) r.whole.short
   parts_within g (pair ∷ []) (part ∷ other ∷ parts) past older e some r h = absurd h.1
-  parts_within g (pair ∷ next ∷ pairs) (part ∷ parts) past older e some (f, r, rest) h = parts_within g (next ∷ pairs) parts (f ∷ past) (f ∷ older) (ap (λ h. f ∷ h) e) (omega arith) rest h.1
+  parts_within g (pair ∷ next ∷ pairs) (part ∷ parts) past older e some (f, r, rest) h =
+      parts_within g (next ∷ pairs) parts (f ∷ past) (f ∷ older) (ap (λ h. f ∷ h) e) (omega arith) rest h.1
 
   -- ---- a file stops a command
 
-  pub stops_files : (c : Command) (halt : Halt) → StopsFiles None (files_of c) old.history new.history halt → StopsCommand (seen old new) c halt
+  pub stops_files : (c : Command) (halt : Halt) → StopsFiles None (files_of c) old.history new.history halt →
+      StopsCommand (seen old new) c halt
   stops_files (Show name) halt (f, inl (stops, e)) = inl (stops_graph old new f (one f e) name None halt stops)
   stops_files (Show name) halt (f, inr (v, r, none)) = absurd none
   stops_files (Compile name) halt (f, inl (stops, e)) = inl (stops_graph old new f (one f e) name None halt stops)
@@ -168,7 +230,8 @@ module _ (old new : ShelfState) (k : KeepsShelf old new) where
       let a = graph_of None name f v r (first f p e) in
       inr (a.0, a.2, inl (stops_pack old new p (two f p e) pack (graph_after None v) halt stops))
   stops_files (Check name pack) halt (f, inr (v, r, (p, inr (w, q, none)))) = absurd none
-  stops_files (Play name pack scenario turns) halt (f, inl (stops, e)) = inl (stops_graph old new f (one f e) name None halt stops)
+  stops_files (Play name pack scenario turns) halt (f, inl (stops, e)) =
+      inl (stops_graph old new f (one f e) name None halt stops)
   stops_files (Play name pack scenario turns) halt (f, inr (v, r, (p, inl (stops, e)))) =
       let a = graph_of None name f v r (first f p e) in
       inr (a.0, a.2, inl (stops_pack old new p (two f p e) pack (graph_after None v) halt stops))
@@ -186,18 +249,29 @@ module _ (old new : ShelfState) (k : KeepsShelf old new) where
         ),
       )
   stops_files (Play name pack scenario turns) halt (f, inr (v, r, (p, inr (w, q, (c, inr (u, s, none)))))) = absurd none
-  stops_files (Audit name pack log) halt (f, inl (stops, e)) = inl (stops_graph old new f (one f e) name None halt stops)
+  stops_files (Audit name pack log) halt (f, inl (stops, e)) =
+      inl (stops_graph old new f (one f e) name None halt stops)
   stops_files (Audit name pack log) halt (f, inr (v, r, (p, inl (stops, e)))) =
       let a = graph_of None name f v r (first f p e) in
       inr (a.0, a.2, inl (stops_pack old new p (two f p e) pack (graph_after None v) halt stops))
   stops_files (Audit name pack log) halt (f, inr (v, r, (p, inr (w, q, (c, inl (stops, e)))))) =
       let a = graph_of None name f v r (first_three f p c e) in
       let t = tables_of (graph_after None v) pack p w q (second_three f p c e) in
-      inr (a.0, a.2, inr (t.0, t.2, inl (stops_log old new c (three f p c e) log a.0.graph halt (subst (λ g. StopsAt g (file LogFile log) c halt) (behind v w a.0 t.0 a.1 t.1) stops))))
+      inr (
+        a.0,
+        a.2,
+        inr (
+          t.0,
+          t.2,
+          inl (stops_log old new c (three f p c e) log a.0.graph halt
+              (subst (λ g. StopsAt g (file LogFile log) c halt) (behind v w a.0 t.0 a.1 t.1) stops)),
+        ),
+      )
   stops_files (Audit name pack log) halt (f, inr (v, r, (p, inr (w, q, (c, inr (u, s, none)))))) = absurd none
   stops_files (Node pack name) halt (p, inl (stops, e)) = inl (stops_pack old new p (one p e) pack None halt stops)
   stops_files (Node pack name) halt (p, inr (v, r, none)) = absurd none
-  stops_files (Live pack name stream) halt (p, inl (stops, e)) = inl (stops_pack old new p (one p e) pack None halt stops)
+  stops_files (Live pack name stream) halt (p, inl (stops, e)) =
+      inl (stops_pack old new p (one p e) pack None halt stops)
   stops_files (Live pack name stream) halt (p, inr (v, r, none)) = absurd none
   stops_files (Trial number) halt none = absurd none
   stops_files (Hyper pairs) halt s = inl (inl (unsaid None pairs old.history [] halt refl s))
@@ -209,7 +283,9 @@ module _ (old new : ShelfState) (k : KeepsShelf old new) where
     r : IsRead None (file kind name) f v
     end : new.history ≡ f ∷ old.history
 
-  one_read : (kind : FileKind) (name : Text) (v : Value) → Reads None (file kind name ∷ []) old.history new.history (v ∷ []) → OneRead kind name v
+  one_read : (kind : FileKind) (name : Text) (v : Value) →
+      Reads None (file kind name ∷ []) old.history new.history (v ∷ []) →
+      OneRead kind name v
   one_read kind name v (f, r, e) = record { f = f; r = r; end = e }
 
   record TwoRead (name pack : Text) (a : Admission) (t : Tables) : Type 0 where
@@ -219,7 +295,9 @@ module _ (old new : ShelfState) (k : KeepsShelf old new) where
     q : IsRead (Some a.graph) (file PackFile pack) p (tables_value t)
     end : new.history ≡ p ∷ f ∷ old.history
 
-  two_read : (name pack : Text) (a : Admission) (t : Tables) → Reads None (file GraphFile name ∷ file PackFile pack ∷ []) old.history new.history (graph_value a ∷ tables_value t ∷ []) →
+  two_read : (name pack : Text) (a : Admission) (t : Tables) →
+      Reads None (file GraphFile name ∷ file PackFile pack ∷ []) old.history new.history
+      (graph_value a ∷ tables_value t ∷ []) →
       TwoRead name pack a t
   two_read name pack a t (f, r, (p, q, e)) = record { f = f; p = p; r = r; q = q; end = e }
 
@@ -233,8 +311,10 @@ module _ (old new : ShelfState) (k : KeepsShelf old new) where
     end : new.history ≡ c ∷ p ∷ f ∷ old.history
 
   three_read : (kind : FileKind) (name pack third : Text) (a : Admission) (t : Tables) (v : Value) →
-      Reads None (file GraphFile name ∷ file PackFile pack ∷ file kind third ∷ []) old.history new.history (graph_value a ∷ tables_value t ∷ v ∷ []) → ThreeRead kind name pack third a t v
-  three_read kind name pack third a t v (f, r, (p, q, (c, s, e))) = record { f = f; p = p; c = c; r = r; q = q; s = s; end = e }
+      Reads None (file GraphFile name ∷ file PackFile pack ∷ file kind third ∷ []) old.history new.history
+      (graph_value a ∷ tables_value t ∷ v ∷ []) → ThreeRead kind name pack third a t v
+  three_read kind name pack third a t v (f, r, (p, q, (c, s, e))) =
+      record { f = f; p = p; c = c; r = r; q = q; s = s; end = e }
 
   abbrev Files : Command → List Value → Type 0
   Files c values = Reads None (files_of c) old.history new.history values
@@ -263,7 +343,8 @@ module _ (old new : ShelfState) (k : KeepsShelf old new) where
     two_within : given_count new ≤ PACK_LIMIT
     two_within = within h.p (limit_of PackFile) (two h.f h.p h.end) h.q.whole.short
 
-  module _ (kind : FileKind) (name pack third : Text) (a : Admission) (t : Tables) (v : Value) (h : ThreeRead kind name pack third a t v) where
+  module _ (kind : FileKind) (name pack third : Text) (a : Admission) (t : Tables) (v : Value)
+      (h : ThreeRead kind name pack third a t v) where
     three_graph : Admits (old.stands name) a
     three_graph = graph_is None name h.f a h.r (first_three h.f h.p h.c h.end)
 
@@ -278,19 +359,28 @@ module _ (old new : ShelfState) (k : KeepsShelf old new) where
 
   -- ---- the work stops a command
 
-  compiled_stops : (name : Text) (halt : Halt) (values : List Value) → Reads None (file GraphFile name ∷ []) old.history new.history values → OnGraph values (λ a. IsUncompiled a halt) →
+  compiled_stops : (name : Text) (halt : Halt) (values : List Value) →
+      Reads None (file GraphFile name ∷ []) old.history new.history values →
+      OnGraph values (λ a. IsUncompiled a halt) →
       StopsGraph (seen old new) (old.stands name) (IsAfterReading (given_count new) GRAPH_LIMIT IsUncompiled) halt
   compiled_stops name halt values reads (a, e, un) =
-      let h = one_read GraphFile name (graph_value a) (subst (λ vs. Reads None (file GraphFile name ∷ []) old.history new.history vs) e reads) in
+      let h = one_read GraphFile name (graph_value a)
+      (subst (λ vs. Reads None (file GraphFile name ∷ []) old.history new.history vs) e reads) in
       inr (a, one_graph name a h, record { stops = un; within = one_within name a h })
 
-  naming_stops : (pack name : Text) (halt : Halt) (values : List Value) → Reads None (file PackFile pack ∷ []) old.history new.history values → OnTables values (λ t. Unnamed t name halt) →
-      StopsTables (seen old new) (old.stands pack) (IsAfterReading (given_count new) PACK_LIMIT (λ t. StopsNaming t name)) halt
+  naming_stops : (pack name : Text) (halt : Halt) (values : List Value) →
+      Reads None (file PackFile pack ∷ []) old.history new.history values →
+      OnTables values (λ t. Unnamed t name halt) →
+      StopsTables (seen old new) (old.stands pack)
+      (IsAfterReading (given_count new) PACK_LIMIT (λ t. StopsNaming t name)) halt
   naming_stops pack name halt values reads (t, e, un) =
-      let h = one_read PackFile pack (tables_value t) (subst (λ vs. Reads None (file PackFile pack ∷ []) old.history new.history vs) e reads) in
+      let h = one_read PackFile pack (tables_value t)
+      (subst (λ vs. Reads None (file PackFile pack ∷ []) old.history new.history vs) e reads) in
       inr (t, one_pack pack t h, record { stops = naming_told t name halt un; within = pack_within pack t h })
 
-  pub stops_work : (words : List Text) (c : Command) (halt : Halt) (values : List Value) → command_of words ≡ Some c → Files c values → StopsWork c values halt → StopsCommand (seen old new) c halt
+  pub stops_work : (words : List Text) (c : Command) (halt : Halt) (values : List Value) → command_of words ≡ Some c →
+      Files c values → StopsWork c values halt →
+      StopsCommand (seen old new) c halt
   stops_work words (Show name) halt values is reads stops = compiled_stops name halt values reads stops
   stops_work words (Compile name) halt values is reads stops = compiled_stops name halt values reads stops
   stops_work words (Tune name) halt values is reads stops = absurd stops
@@ -299,10 +389,19 @@ module _ (old new : ShelfState) (k : KeepsShelf old new) where
   stops_work words (Live pack name stream) halt values is reads stops = naming_stops pack name halt values reads stops
   stops_work words (Check name pack) halt values is reads (a, t, e, un) =
       let h = two_read name pack a t (subst (λ vs. Files (Check name pack) vs) e reads) in
-      inr (a, two_graph name pack a t h, inr (t, two_pack name pack a t h, record { stops = verdict_told a t halt un; within = two_within name pack a t h }))
+      inr (
+        a,
+        two_graph name pack a t h,
+        inr (
+          t,
+          two_pack name pack a t h,
+          record { stops = verdict_told a t halt un; within = two_within name pack a t h },
+        ),
+      )
   stops_work words (Play name pack scenario turns) halt values is reads (a, t, p, e, un) =
       let v = played_value p in
-      let h = three_read ScenarioFile name pack scenario a t v (subst (λ vs. Files (Play name pack scenario turns) vs) e reads) in
+      let h = three_read ScenarioFile name pack scenario a t v
+      (subst (λ vs. Files (Play name pack scenario turns) vs) e reads) in
       let said = played_is a.graph scenario h.c p h.s (three_agrees ScenarioFile name pack scenario a t v h) in
       inr (
         a,
@@ -310,7 +409,11 @@ module _ (old new : ShelfState) (k : KeepsShelf old new) where
         inr (
           t,
           three_pack ScenarioFile name pack scenario a t v h,
-          inr (p, said, record { stops = verdict_told a t halt un; within = three_within ScenarioFile name pack scenario a t v h }),
+          inr (
+            p,
+            said,
+            record { stops = verdict_told a t halt un; within = three_within ScenarioFile name pack scenario a t v h },
+          ),
         ),
       )
   stops_work words (Audit name pack log) halt values is reads (a, t, l, e, un) =
@@ -323,16 +426,29 @@ module _ (old new : ShelfState) (k : KeepsShelf old new) where
         inr (
           t,
           three_pack LogFile name pack log a t v h,
-          inr (l, said, record { stops = verdict_told a t halt un; within = three_within LogFile name pack log a t v h }),
+          inr (
+            l,
+            said,
+            record { stops = verdict_told a t halt un; within = three_within LogFile name pack log a t v h },
+          ),
         ),
       )
   stops_work words (Hyper pairs) halt values is reads (parts, e, periods, un) =
       let h = subst (λ vs. Files (Hyper pairs) vs) e reads in
-      inr (parts, parts_said None pairs parts old.history [] refl h periods, record { stops = un; within = parts_within None pairs parts old.history [] refl (some_parts words pairs is) h periods })
+      inr (
+        parts,
+        parts_said None pairs parts old.history [] refl h periods,
+        record {
+          stops = un;
+          within = parts_within None pairs parts old.history [] refl (some_parts words pairs is) h periods;
+        },
+      )
 
   -- ---- a command puts out a text
 
-  pub prints : (words : List Text) (c : Command) (text : Text) (values : List Value) → command_of words ≡ Some c → Files c values → PutsOut c values text → PrintsCommand (seen old new) c text
+  pub prints : (words : List Text) (c : Command) (text : Text) (values : List Value) → command_of words ≡ Some c →
+      Files c values → PutsOut c values text →
+      PrintsCommand (seen old new) c text
   prints words (Show name) text values is reads (a, e, made) =
       let h = one_read GraphFile name (graph_value a) (subst (λ vs. Files (Show name) vs) e reads) in
       record { output = (a, one_graph name a h, made); within = one_within name a h }
@@ -349,10 +465,14 @@ module _ (old new : ShelfState) (k : KeepsShelf old new) where
   prints words (Live pack name stream) text values is reads none = absurd none
   prints words (Check name pack) text values is reads (a, t, e, made) =
       let h = two_read name pack a t (subst (λ vs. Files (Check name pack) vs) e reads) in
-      record { output = (a, two_graph name pack a t h, (t, two_pack name pack a t h, made)); within = two_within name pack a t h }
+      record {
+        output = (a, two_graph name pack a t h, (t, two_pack name pack a t h, made));
+        within = two_within name pack a t h;
+      }
   prints words (Play name pack scenario turns) text values is reads (a, t, p, e, made) =
       let v = played_value p in
-      let h = three_read ScenarioFile name pack scenario a t v (subst (λ vs. Files (Play name pack scenario turns) vs) e reads) in
+      let h = three_read ScenarioFile name pack scenario a t v
+      (subst (λ vs. Files (Play name pack scenario turns) vs) e reads) in
       let said = played_is a.graph scenario h.c p h.s (three_agrees ScenarioFile name pack scenario a t v h) in
       record {
         output = (
@@ -361,7 +481,13 @@ module _ (old new : ShelfState) (k : KeepsShelf old new) where
           (
             t,
             three_pack ScenarioFile name pack scenario a t v h,
-            record { judged = made.judged; played = p; says = said; lawful = (says_played a.graph h.c.given p h.s.says).lawful; played_text = made.play },
+            record {
+              judged = made.judged;
+              played = p;
+              says = said;
+              lawful = (says_played a.graph h.c.given p h.s.says).lawful;
+              played_text = made.play;
+            },
           ),
         );
         within = three_within ScenarioFile name pack scenario a t v h;
@@ -374,10 +500,23 @@ module _ (old new : ShelfState) (k : KeepsShelf old new) where
         output = (
           a,
           three_graph LogFile name pack log a t v h,
-          (t, three_pack LogFile name pack log a t v h, record { judged = made.judged; log = l; says = said; lawful = (says_log a.graph h.c.given l h.s.says).lawful; audited = made.audited }),
+          (
+            t,
+            three_pack LogFile name pack log a t v h,
+            record {
+              judged = made.judged;
+              log = l;
+              says = said;
+              lawful = (says_log a.graph h.c.given l h.s.says).lawful;
+              audited = made.audited;
+            },
+          ),
         );
         within = three_within LogFile name pack log a t v h;
       }
   prints words (Hyper pairs) text values is reads (parts, e, periods, made) =
       let h = subst (λ vs. Files (Hyper pairs) vs) e reads in
-      record { output = (parts, parts_said None pairs parts old.history [] refl h periods, made); within = parts_within None pairs parts old.history [] refl (some_parts words pairs is) h periods }
+      record {
+        output = (parts, parts_said None pairs parts old.history [] refl h periods, made);
+        within = parts_within None pairs parts old.history [] refl (some_parts words pairs is) h periods;
+      }

@@ -16,7 +16,9 @@ use Rattle.cpg_live.specs.declared.following.StreamFault.TheVariants.{Long}
 use Rattle.cpg_live.specs.declared.following.TheConstants.{STREAM_LIMIT}
 use Rattle.cpg_live.specs.Following.{Breaks as BreaksFetch}
 use Rattle.cpg_live.specs.Streams.{IsClosed as IsClosedFetch, IsRefused as IsRefusedFetch}
-use Rattle.cpg_app.specs.Endings.{Ran as Run, Ends as EndsRun, Follows as FollowsRun, IsCut as IsCutRun, IsMuted as IsMutedRun, IsPrinted as IsPrintedRun, IsTold as IsToldRun, Prints as PrintsRun}
+use Rattle.cpg_app.specs.Endings.{Ran as Run, Ends as EndsRun, Follows as FollowsRun, IsCut as IsCutRun}
+use Rattle.cpg_app.specs.Endings.{IsMuted as IsMutedRun, IsPrinted as IsPrintedRun, IsTold as IsToldRun}
+use Rattle.cpg_app.specs.Endings.{Prints as PrintsRun}
 use Rattle.cpg_app.specs.Endings.{Stops as StopsRun, stream_of as stream_of_run, table_of as table_in}
 use Rattle.cpg_app.specs.Lawful.{IsRefusedStream as IsRefusedRun, IsUnreadStream as IsUnreadRun}
 use Rattle.cpg_shelf_laws.specs.Causes.{StopsAsked, seen}
@@ -30,26 +32,33 @@ use Rattle.cpg_shelf_laws.proofs.Fetched.{IsLast, agreed, last}
 use Rattle.cpg_shelf_laws.proofs.Sinks.{either_told, part_told, said_told}
 use Rattle.cpg_shelf_laws.proofs.Streams.{closed_told, cut_told, lawful_told, refused_told}
 
-asked_memory : (r : Run) (c : Option Command) (halt : Halt) → halt ≡ Memory → StopsAsked (seen r.shelf.old r.shelf.new) c halt
+asked_memory : (r : Run) (c : Option Command) (halt : Halt) → halt ≡ Memory →
+    StopsAsked (seen r.shelf.old r.shelf.new) c halt
 asked_memory r None halt e = inr e
 asked_memory r (Some c) halt e = memory_stops r.shelf.old r.shelf.new c halt e
 
 module _ (r : Run) (k : KeepsShelf r.shelf.old r.shelf.new) where
-  of_command : (c : Command) (halt : Halt) → command_of r.words ≡ Some c → StopsAsked (seen r.shelf.old r.shelf.new) (Some c) halt → StopsAsked (seen r.shelf.old r.shelf.new) (command_of r.words) halt
+  of_command : (c : Command) (halt : Halt) → command_of r.words ≡ Some c →
+      StopsAsked (seen r.shelf.old r.shelf.new) (Some c) halt →
+      StopsAsked (seen r.shelf.old r.shelf.new) (command_of r.words) halt
   of_command c halt e stops = subst (λ asked. StopsAsked (seen r.shelf.old r.shelf.new) asked halt) (sym e) stops
 
   pub stops_told : (halt : Halt) → StopsRun r halt → StopsAsked (seen r.shelf.old r.shelf.new) (command_of r.words) halt
   stops_told halt (inl w) = elim w.cause [
-    | inl formless ↦ subst (λ asked. StopsAsked (seen r.shelf.old r.shelf.new) asked halt) (sym formless.1) (inl formless.0)
+    | inl formless ↦
+        subst (λ asked. StopsAsked (seen r.shelf.old r.shelf.new) asked halt) (sym formless.1) (inl formless.0)
     | inr memory ↦ asked_memory r (command_of r.words) halt memory
   ]
-  stops_told halt (inr (inl f)) = of_command f.command halt f.words (stops_files r.shelf.old r.shelf.new k f.command halt f.stops)
+  stops_told halt (inr (inl f)) =
+      of_command f.command halt f.words (stops_files r.shelf.old r.shelf.new k f.command halt f.stops)
   stops_told halt (inr (inr w)) = elim w.stops [
-    | inl stops ↦ of_command w.command halt w.has.words (stops_work r.shelf.old r.shelf.new k r.words w.command halt w.values w.has.words w.has.reads stops)
+    | inl stops ↦ of_command w.command halt w.has.words
+        (stops_work r.shelf.old r.shelf.new k r.words w.command halt w.values w.has.words w.has.reads stops)
     | inr memory ↦ asked_memory r (command_of r.words) halt memory
   ]
 
-  pub prints_told : (text : Text) → PrintsRun r text → PrintsAsked (seen r.shelf.old r.shelf.new) (command_of r.words) text
+  pub prints_told : (text : Text) → PrintsRun r text →
+      PrintsAsked (seen r.shelf.old r.shelf.new) (command_of r.words) text
   prints_told text p = subst (λ asked. PrintsAsked (seen r.shelf.old r.shelf.new) asked text) (sym p.has.words)
       (prints r.shelf.old r.shelf.new k r.words p.command text p.values p.has.words p.has.reads p.puts)
 
@@ -63,7 +72,8 @@ module _ (r : Run) (k : KeepsShelf r.shelf.old r.shelf.new) where
   printed text t = record { status = t.status; out = t.out.taken; err = t.err.taken }
 
   cut : (text : Text) → IsCutRun r text → IsCut (told_of r) text
-  cut text t = record { status = t.status; out = part_told r.out text t.out; err = either_told r.err write_fault_line t.err }
+  cut text t =
+      record { status = t.status; out = part_told r.out text t.out; err = either_told r.err write_fault_line t.err }
 
   -- ---- a stream
 
@@ -74,7 +84,8 @@ module _ (r : Run) (k : KeepsShelf r.shelf.old r.shelf.new) where
     stream = f.stream;
     words = f.words;
     tables = f.tables;
-    spells = spelled_by r.shelf.old r.shelf.new k f.pack f.read f.tables f.spelled (agreed r.shelf.old r.shelf.new k f.read (record { newer = f.fetch ∷ []; older = []; is = f.history }));
+    spells = spelled_by r.shelf.old r.shelf.new k f.pack f.read f.tables f.spelled
+        (agreed r.shelf.old r.shelf.new k f.read (record { newer = f.fetch ∷ []; older = []; is = f.history }));
     node = f.node;
     named = f.named;
   }
@@ -83,16 +94,20 @@ module _ (r : Run) (k : KeepsShelf r.shelf.old r.shelf.new) where
   last_of f = last r.shelf.old r.shelf.new k f.fetch (f.read ∷ []) f.history
 
   pub front_of : (f : FollowsRun r) → IfSome (r.shelf.old.stands f.stream) (λ whole. IsFrontOf whole f.fetch)
-  front_of f = subst (λ name. IfSome (r.shelf.old.stands name) (λ whole. IsFrontOf whole f.fetch)) f.of (last_of f).agrees
+  front_of f =
+      subst (λ name. IfSome (r.shelf.old.stands name) (λ whole. IsFrontOf whole f.fetch)) f.of (last_of f).agrees
 
-  over : (f : FollowsRun r) (fault : StreamFault) (lines : Text) → IsRefusedFetch f.tables.head (table_in f) f.fetch fault lines → fault ≡ Long → STREAM_LIMIT < given_count r.shelf.new
+  over : (f : FollowsRun r) (fault : StreamFault) (lines : Text) →
+      IsRefusedFetch f.tables.head (table_in f) f.fetch fault lines → fault ≡ Long →
+      STREAM_LIMIT < given_count r.shelf.new
   over f fault lines c e = let m = (c.long e).more in let n = (last_of f).count in omega (arith, m, n)
 
   pub unread_told : IsUnreadRun r → IsUnreadStream (told_of r)
   unread_told u = let f = u.follows in record {
     follows = follows_told f;
     lines = u.lines;
-    lawful = lawful_told f.tables.head (table_in f) f.fetch (r.shelf.old.stands f.stream) (given_count r.shelf.new) u.lines (last_of f).count (front_of f) u.lawful;
+    lawful = lawful_told f.tables.head (table_in f) f.fetch (r.shelf.old.stands f.stream)
+        (given_count r.shelf.new) u.lines (last_of f).count (front_of f) u.lawful;
     out = u.out.taken;
     err = u.err.taken;
   }
@@ -102,30 +117,73 @@ module _ (r : Run) (k : KeepsShelf r.shelf.old r.shelf.new) where
     follows = follows_told f;
     fault = u.fault;
     lines = u.lines;
-    refused = refused_told f.tables.head (table_in f) f.fetch (r.shelf.old.stands f.stream) u.fault u.lines (front_of f) u.refused;
+    refused = refused_told f.tables.head (table_in f) f.fetch (r.shelf.old.stands f.stream) u.fault u.lines
+        (front_of f) u.refused;
     over = over f u.fault u.lines u.refused;
     out = u.out.taken;
     err = u.err.taken;
   }
 
-  pub closed_prints : (f : FollowsRun r) (lines : Text) → IsClosedFetch f.tables.head (table_in f) f.fetch lines → PrintsAsked (seen r.shelf.old r.shelf.new) (command_of r.words) lines
-  closed_prints f lines c = subst (λ asked. PrintsAsked (seen r.shelf.old r.shelf.new) asked lines) (sym f.words) (record {
-    output = (f.tables, (follows_told f).spells, record { node = f.node; named = f.named; closed = closed_told f.tables.head (table_in f) f.fetch (r.shelf.old.stands f.stream) lines (front_of f) c });
-    within = (let m = c.short in let n = (last_of f).count in omega (arith, m, n));
-  })
+  pub closed_prints : (f : FollowsRun r) (lines : Text) → IsClosedFetch f.tables.head (table_in f) f.fetch lines →
+      PrintsAsked (seen r.shelf.old r.shelf.new) (command_of r.words) lines
+  closed_prints f lines c =
+      subst (λ asked. PrintsAsked (seen r.shelf.old r.shelf.new) asked lines) (sym f.words) (record {
+        output = (
+          f.tables,
+          (follows_told f).spells,
+          record {
+            node = f.node;
+            named = f.named;
+            closed = closed_told f.tables.head (table_in f) f.fetch (r.shelf.old.stands f.stream) lines (front_of f) c;
+          },
+        );
+        within = (let m = c.short in let n = (last_of f).count in omega (arith, m, n));
+      })
 
-  breaks_told : (f : FollowsRun r) (broken : Broken) → BreaksFetch f.tables.head (table_in f) (stream_of_run r f) broken →
+  breaks_told : (f : FollowsRun r) (broken : Broken) →
+      BreaksFetch f.tables.head (table_in f) (stream_of_run r f) broken →
       Breaks f.tables.head (table_in f) (stream_of (told_of r) (follows_told f)) broken
   breaks_told f Shelf (lines, c, wrote) = (
     (last_of f).rose c.failed,
-    (lines, lawful_told f.tables.head (table_in f) f.fetch (r.shelf.old.stands f.stream) (given_count r.shelf.new) lines (last_of f).count (front_of f) c, wrote.taken),
+    (
+      lines,
+      lawful_told f.tables.head (table_in f) f.fetch (r.shelf.old.stands f.stream) (given_count r.shelf.new) lines
+          (last_of f).count (front_of f) c,
+      wrote.taken,
+    ),
   )
-  breaks_told f Sink (rose, c) = (rose, cut_told f.tables.head (table_in f) f.fetch (r.shelf.old.stands f.stream) r.out.old r.out.new (front_of f) c)
-  breaks_told f (Refused fault) (lines, c, wrote) = (lines, refused_told f.tables.head (table_in f) f.fetch (r.shelf.old.stands f.stream) fault lines (front_of f) c, wrote.taken, over f fault lines c)
+  breaks_told f Sink (rose, c) = (
+    rose,
+    cut_told f.tables.head (table_in f) f.fetch (r.shelf.old.stands f.stream) r.out.old r.out.new (front_of f) c,
+  )
+  breaks_told f (Refused fault) (lines, c, wrote) = (
+    lines,
+    refused_told f.tables.head (table_in f) f.fetch (r.shelf.old.stands f.stream) fault lines (front_of f) c,
+    wrote.taken,
+    over f fault lines c,
+  )
 
   pub ends_told : EndsRun r → Ends (told_of r)
-  ends_told (inl (text, e)) = inl (text, record { prints = prints_told text e.prints; ending = elim e.ending [ inl p ↦ inl (printed text p) | inr c ↦ inr (cut text c) ] })
-  ends_told (inr (inl (halt, e))) = inr (inl (halt, record { stops = stops_told halt e.stops; ending = elim e.ending [ inl t ↦ inl (told halt t) | inr m ↦ inr (muted halt m) ] }))
-  ends_told (inr (inr (inl e))) = let c = e.completes in inl (c.0, record { prints = closed_prints e.follows c.0 c.1; ending = inl (record { status = e.status; out = c.2.taken; err = e.err.taken }) })
+  ends_told (inl (text, e)) = inl (
+    text,
+    record {
+      prints = prints_told text e.prints;
+      ending = elim e.ending [ inl p ↦ inl (printed text p) | inr c ↦ inr (cut text c) ];
+    },
+  )
+  ends_told (inr (inl (halt, e))) = inr (inl (
+    halt,
+    record {
+      stops = stops_told halt e.stops;
+      ending = elim e.ending [ inl t ↦ inl (told halt t) | inr m ↦ inr (muted halt m) ];
+    },
+  ))
+  ends_told (inr (inr (inl e))) = let c = e.completes in inl (
+    c.0,
+    record {
+      prints = closed_prints e.follows c.0 c.1;
+      ending = inl (record { status = e.status; out = c.2.taken; err = e.err.taken });
+    },
+  )
   ends_told (inr (inr (inr e))) = inr (inr (record
       { follows = follows_told e.follows; broken = e.broken; breaks = breaks_told e.follows e.broken e.breaks; said = said_told r.err r.status e.broken e.said }))

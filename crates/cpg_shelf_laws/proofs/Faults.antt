@@ -19,9 +19,12 @@ use Rattle.cpg_app.proofs.Statuses.{of_work}
 use Rattle.cpg_shelf_laws.proofs.Fetched.{last}
 
 longer : (f : Fetch) (newer past now : List Fetch) → now ≡ newer ++ f ∷ past → now ≡ past → ⊥
-longer f newer past now is same = let l = ap (λ (h : List Fetch). length h) (sym is ∙ same) in let k = length-append newer (f ∷ past) in omega (arith, l, k)
+longer f newer past now is same = let l = ap (λ (h : List Fetch). length h) (sym is ∙ same) in
+    let k = length-append newer (f ∷ past) in
+    omega (arith, l, k)
 
-grows : (g : Option Graph) (files : List File) (past now : List Fetch) (h : Halt) → StopsReading g files past now h → now ≡ past → ⊥
+grows : (g : Option Graph) (files : List File) (past now : List Fetch) (h : Halt) →
+    StopsReading g files past now h → now ≡ past → ⊥
 grows g [] past now h s same = absurd s
 grows g (file ∷ files) past now h (f, inl here) same = longer f [] past now here.1 same
 grows g (file ∷ files) past now h (f, inr (v, read, there)) same =
@@ -40,8 +43,10 @@ module _ (r : Run) (k : KeepsShelf r.shelf.old r.shelf.new) where
     | inr memory ↦ absurd (let e = ap status_of memory in omega (arith, e))
   ]
 
-  pub read_rose : IsFailed r × ((StopsRun r Read × IsToldRun r Read) ⊎ IsUnreadRun r) → Rose r.shelf.old.faults r.shelf.new.faults
-  read_rose (x, inr u) = (last r.shelf.old r.shelf.new k u.follows.fetch (u.follows.read ∷ []) u.follows.history).rose u.lawful.failed
+  pub read_rose : IsFailed r × ((StopsRun r Read × IsToldRun r Read) ⊎ IsUnreadRun r) →
+      Rose r.shelf.old.faults r.shelf.new.faults
+  read_rose (x, inr u) =
+      (last r.shelf.old r.shelf.new k u.follows.fetch (u.follows.read ∷ []) u.follows.history).rose u.lawful.failed
   read_rose (x, inl told) = elim (k.rose x.fetch x.past x.last x.failed) [
     | inl same ↦ absurd (not_same told.0 same)
     | inr up ↦ up

@@ -1,5 +1,6 @@
 -- What a fetch gave is what the shelf tells, if it does.
-use Rattle.std.proofs.Common.{ℕ, ◌≡◌, ◌+◌, ◌<◌, ◌≤◌, ◌∙◌, true, List, [], ◌∷◌, ◌++◌, All, Option, Some, None, IfSome, length, sym, ap, subst, arith, append-nil, inl, inr}
+use Rattle.std.proofs.Common.{ℕ, ◌≡◌, ◌+◌, ◌<◌, ◌≤◌, ◌∙◌, true, List, [], ◌∷◌, ◌++◌, All, Option, Some, None, IfSome}
+use Rattle.std.proofs.Common.{length, sym, ap, subst, arith, append-nil, inl, inr}
 use Rattle.std.proofs.lemmas.List.{append_assoc, append_cancel_right, length-append}
 use Rattle.std.proofs.lemmas.List.Elements.{All-head, All-tail}
 use Rattle.cpg_history.specs.Fetch.{Fetch, newest_given}
@@ -12,7 +13,8 @@ use Rattle.cpg_inputs.specs.Files.{File, limit_of}
 use Rattle.cpg_inputs.specs.Reading.{IsFetchOf, IsWhole}
 use Rattle.cpg_shelf_laws.specs.Causes.{IsShort}
 
-pub on_some : (told : Option Text) (P Q : Text → Type 0) → ((bytes : Text) → P bytes → Q bytes) → IfSome told P → IfSome told Q
+pub on_some : (told : Option Text) (P Q : Text → Type 0) → ((bytes : Text) → P bytes → Q bytes) → IfSome told P →
+    IfSome told Q
 on_some None P Q f p = tt
 on_some (Some bytes) P Q f p = f bytes p
 
@@ -20,8 +22,10 @@ on_some (Some bytes) P Q f p = f bytes p
 abbrev pub TellsAs : Option Text → Text → Type 0
 TellsAs told given = IfSome told (λ bytes. bytes ≡ given)
 
-pub told_short : (told : Option Text) (given : Text) (limit : ℕ) → TellsAs told given → length given ≤ limit → IsShort limit told
-told_short told given limit alike short = on_some told (λ bytes. bytes ≡ given) (λ bytes. length bytes ≤ limit) (λ bytes e. subst (λ (b : Text). length b ≤ limit) (sym e) short) alike
+pub told_short : (told : Option Text) (given : Text) (limit : ℕ) → TellsAs told given → length given ≤ limit →
+    IsShort limit told
+told_short told given limit alike short = on_some told (λ bytes. bytes ≡ given) (λ bytes. length bytes ≤ limit)
+    (λ bytes e. subst (λ (b : Text). length b ≤ limit) (sym e) short) alike
 
 pub told_says : (told : Option Text) (given : Text) (P : Text → Type 0) → TellsAs told given → P given → IfSome told P
 told_says told given P alike p = on_some told (λ bytes. bytes ≡ given) P (λ bytes e. subst P (sym e) p) alike
@@ -49,8 +53,10 @@ module _ (old new : ShelfState) (k : KeepsShelf old new) where
   pub agreed : (f : Fetch) → IsIn old.history new.history f → Agrees old.stands f
   agreed f i =
       let x = k.fetched in
-      let same : x.fetches ++ old.history ≡ (i.newer ++ f ∷ i.older) ++ old.history = sym x.history ∙ i.is ∙ sym (append_assoc i.newer (f ∷ i.older) old.history) in
-      all_at (Agrees old.stands) i.newer f i.older (subst (All (Agrees old.stands)) (append_cancel_right x.fetches (i.newer ++ f ∷ i.older) old.history same) x.agree)
+      let same : x.fetches ++ old.history ≡ (i.newer ++ f ∷ i.older) ++ old.history =
+      sym x.history ∙ i.is ∙ sym (append_assoc i.newer (f ∷ i.older) old.history) in
+      all_at (Agrees old.stands) i.newer f i.older (subst (All (Agrees old.stands))
+      (append_cancel_right x.fetches (i.newer ++ f ∷ i.older) old.history same) x.agree)
 
   pub last : (f : Fetch) (older : List Fetch) → new.history ≡ f ∷ (older ++ old.history) → IsLast old new f
   last f older is = record {
@@ -66,19 +72,26 @@ module _ (old new : ShelfState) (k : KeepsShelf old new) where
 whole_front : (bytes : Text) (f : Fetch) → f.ended ≡ true → IsFrontOf bytes f → bytes ≡ f.given
 whole_front bytes f ended h = h.front ∙ ap (λ rest. f.given ++ rest) (h.all ended) ∙ append-nil f.given
 
-pub tells_whole : (stands : Text → Option Text) (file : File) (f : Fetch) → IsWhole file f → Agrees stands f → TellsAs (stands file.name) f.given
+pub tells_whole : (stands : Text → Option Text) (file : File) (f : Fetch) → IsWhole file f → Agrees stands f →
+    TellsAs (stands file.name) f.given
 tells_whole stands file f w agrees = subst (λ name. TellsAs (stands name) f.given) w.named
-    (on_some (stands f.name) (λ bytes. IsFrontOf bytes f) (λ bytes. bytes ≡ f.given) (λ bytes h. whole_front bytes f w.ended h) agrees)
+    (on_some (stands f.name) (λ bytes. IsFrontOf bytes f) (λ bytes. bytes ≡ f.given)
+    (λ bytes h. whole_front bytes f w.ended h) agrees)
 
 long_front : (bytes : Text) (f : Fetch) (limit : ℕ) → limit < length f.given → IsFrontOf bytes f → limit < length bytes
-long_front bytes f limit over h = let l = ap (λ (b : Text). length b) h.front in let k = length-append f.given h.rest in omega (arith, over, l, k)
+long_front bytes f limit over h = let l = ap (λ (b : Text). length b) h.front in
+    let k = length-append f.given h.rest in
+    omega (arith, over, l, k)
 
 -- a byte more than a limit is more than it
 pub more : (count limit : ℕ) → count ≡ limit + 1 → limit < count
 more count limit is = omega (arith, is)
 
-pub tells_long : (stands : Text → Option Text) (file : File) (f : Fetch) → IsFetchOf file f → limit_of file.kind < length f.given → Agrees stands f →
+pub tells_long : (stands : Text → Option Text) (file : File) (f : Fetch) → IsFetchOf file f →
+    limit_of file.kind < length f.given →
+    Agrees stands f →
     IfSome (stands file.name) (λ bytes. limit_of file.kind < length bytes)
 tells_long stands file f of over agrees =
     subst (λ name. IfSome (stands name) (λ bytes. limit_of file.kind < length bytes)) of.named
-    (on_some (stands f.name) (λ bytes. IsFrontOf bytes f) (λ bytes. limit_of file.kind < length bytes) (λ bytes h. long_front bytes f (limit_of file.kind) over h) agrees)
+    (on_some (stands f.name) (λ bytes. IsFrontOf bytes f) (λ bytes. limit_of file.kind < length bytes)
+    (λ bytes h. long_front bytes f (limit_of file.kind) over h) agrees)

@@ -16,8 +16,10 @@ use Rattle.cpg_shelf_laws.specs.Lawful.{IsLawful, IsRefusedStream, IsUnreadStrea
 use Rattle.cpg_shelf_laws.specs.Outputs.{Prints}
 use Rattle.cpg_shelf_laws.specs.Sinks.{Untouched, telling}
 use Rattle.cpg_shelf_laws.specs.Told.{told_of}
-use Rattle.cpg_shelf_laws.proofs.Complete.{apart, broken, late, made, named, nameless, other, safe, tuned, unrolled, wide}
-use Rattle.cpg_shelf_laws.proofs.Endings.{closed_prints, ends_told, printed, prints_told, refused_stream_told, stops_told, told, unread_told}
+use Rattle.cpg_shelf_laws.proofs.Complete.{apart, broken, late, made, named, nameless, other, safe, tuned, unrolled}
+use Rattle.cpg_shelf_laws.proofs.Complete.{wide}
+use Rattle.cpg_shelf_laws.proofs.Endings.{closed_prints, ends_told, printed, prints_told, refused_stream_told}
+use Rattle.cpg_shelf_laws.proofs.Endings.{stops_told, told, unread_told}
 use Rattle.cpg_shelf_laws.proofs.Faults.{read_rose}
 use Rattle.cpg_shelf_laws.proofs.Followed.{followed, unfollowed}
 
@@ -27,25 +29,40 @@ module _ (r : Run) (w : IsLawfulRun r) (k : KeepsShelf r.shelf.old r.shelf.new) 
   done : r.status ≡ 0 → (text : Text) × Prints (seen r.shelf.old r.shelf.new) r.words text × IsPrinted (told_of r) text
   done e = elim (w.done e) [
     | inl p ↦ (p.0, prints_told r k p.0 p.1, printed r k p.0 p.2)
-    | inr c ↦ (c.lines, closed_prints r k c.follows c.lines c.closed, record { status = e; out = c.out.taken; err = c.err.taken })
+    | inr c ↦ (
+      c.lines,
+      closed_prints r k c.follows c.lines c.closed,
+      record { status = e; out = c.out.taken; err = c.err.taken },
+    )
   ]
 
-  refused : r.status ≡ 4 → ((refusal : Refusal) × Stops (seen r.shelf.old r.shelf.new) r.words (Refused refusal) × IsTold (told_of r) (Refused refusal)) ⊎ IsRefusedStream (told_of r)
+  refused : r.status ≡ 4 →
+      ((refusal : Refusal) × Stops (seen r.shelf.old r.shelf.new) r.words (Refused refusal) ×
+      IsTold (told_of r) (Refused refusal)) ⊎ IsRefusedStream (told_of r)
   refused e = elim (w.refused e) [
     | inl p ↦ inl (p.0, stops_told r k (Refused p.0) p.1, told r k (Refused p.0) p.2)
     | inr s ↦ inr (refused_stream_told r k s)
   ]
 
-  is_late : r.status ≡ 5 → (a : Admission) × (s : Scenario) × (p : ℕ) × (finish : ℕ) × Stops (seen r.shelf.old r.shelf.new) r.words (Late a s p finish) × IsTold (told_of r) (Late a s p finish)
-  is_late e = let p = w.is_late e in (p.0, p.1, p.2, p.3, stops_told r k (Late p.0 p.1 p.2 p.3) p.4, told r k (Late p.0 p.1 p.2 p.3) p.5)
+  is_late : r.status ≡ 5 →
+      (a : Admission) × (s : Scenario) × (p : ℕ) × (finish : ℕ) ×
+      Stops (seen r.shelf.old r.shelf.new) r.words (Late a s p finish) × IsTold (told_of r) (Late a s p finish)
+  is_late e = let p = w.is_late e in
+      (p.0, p.1, p.2, p.3, stops_told r k (Late p.0 p.1 p.2 p.3) p.4, told r k (Late p.0 p.1 p.2 p.3) p.5)
 
-  is_wide : r.status ≡ 6 → (a : Admission) × (x : ℕ) × Stops (seen r.shelf.old r.shelf.new) r.words (TooWide a x) × IsTold (told_of r) (TooWide a x)
+  is_wide : r.status ≡ 6 →
+      (a : Admission) × (x : ℕ) × Stops (seen r.shelf.old r.shelf.new) r.words (TooWide a x) ×
+      IsTold (told_of r) (TooWide a x)
   is_wide e = let p = w.is_wide e in (p.0, p.1, stops_told r k (TooWide p.0 p.1) p.2, told r k (TooWide p.0 p.1) p.3)
 
-  is_unsafe : r.status ≡ 7 → (a : Admission) × (fault : Fault) × Stops (seen r.shelf.old r.shelf.new) r.words (Unsafe a fault) × IsTold (told_of r) (Unsafe a fault)
+  is_unsafe : r.status ≡ 7 →
+      (a : Admission) × (fault : Fault) × Stops (seen r.shelf.old r.shelf.new) r.words (Unsafe a fault) ×
+      IsTold (told_of r) (Unsafe a fault)
   is_unsafe e = let p = w.is_unsafe e in (p.0, p.1, stops_told r k (Unsafe p.0 p.1) p.2, told r k (Unsafe p.0 p.1) p.3)
 
-  silent : r.status ≢ 0 → r.status ≢ 3 → Untouched (telling r.out) ⊎ (((r.status ≡ 2) × IsUnreadStream (told_of r)) ⊎ ((r.status ≡ 4) × IsRefusedStream (told_of r)))
+  silent : r.status ≢ 0 → r.status ≢ 3 →
+      Untouched (telling r.out) ⊎
+      (((r.status ≡ 2) × IsUnreadStream (told_of r)) ⊎ ((r.status ≡ 4) × IsRefusedStream (told_of r)))
   silent n m = elim (w.silent n m) [
     | inl untouched ↦ inl untouched.taken
     | inr rest ↦ elim rest [

@@ -1,13 +1,16 @@
 -- A command of parts has some.
-use Rattle.std.proofs.Common.{ℕ, ◌≡◌, ◌<◌, Bool, true, false, cond, List, [], ◌∷◌, Option, Some, None, length, arith, subst}
+use Rattle.std.proofs.Common.{ℕ, ◌≡◌, ◌<◌, Bool, true, false, cond, List, [], ◌∷◌, Option, Some, None, length, arith}
+use Rattle.std.proofs.Common.{subst}
 use Rattle.std.specs.Prelude.{option_map, option_and_then, nat_lt, nat_le, ◌&&◌, ⊤}
 use Rattle.std.specs.Str.{bytes_eq}
 use Rattle.cpg_words.specs.Parts.{Text, Parts, parts_of}
-use Rattle.cpg_words.specs.Forms.{Form, command_named, command_of, forms, hyper_of, in_form, one_to_four, one_word, pairs_of, play_of, three_words, trial_of, two_words}
+use Rattle.cpg_words.specs.Forms.{Form, command_named, command_of, forms, hyper_of, in_form, one_to_four, one_word}
+use Rattle.cpg_words.specs.Forms.{pairs_of, play_of, three_words, trial_of, two_words}
 use Rattle.cpg_words.specs.Number.{number}
 use Rattle.cpg_words.specs.declared.command.Pair.{Pair}
 use Rattle.cpg_words.specs.declared.command.Command.{Command}
-use Rattle.cpg_words.specs.declared.command.Command.TheVariants.{Show, Compile, Check, Play, Node, Trial, Live, Hyper, Tune, Audit}
+use Rattle.cpg_words.specs.declared.command.Command.TheVariants.{Show, Compile, Check, Play, Node, Trial, Live, Hyper}
+use Rattle.cpg_words.specs.declared.command.Command.TheVariants.{Tune, Audit}
 
 abbrev HasParts : Option Command → Type 0
 HasParts None = ⊤
@@ -22,20 +25,24 @@ HasParts (Some (Live a b c)) = ⊤
 HasParts (Some (Tune a)) = ⊤
 HasParts (Some (Audit a b c)) = ⊤
 
-one_has : (make : Text → Command) → ((a : Text) → HasParts (Some (make a))) → (ws ts : List Text) → HasParts (one_word make ws ts)
+one_has : (make : Text → Command) → ((a : Text) → HasParts (Some (make a))) → (ws ts : List Text) →
+    HasParts (one_word make ws ts)
 one_has make h [] ts = tt
 one_has make h (a ∷ []) [] = h a
 one_has make h (a ∷ []) (t ∷ ts) = tt
 one_has make h (a ∷ b ∷ ws) ts = tt
 
-two_have : (make : Text → Text → Command) → ((a b : Text) → HasParts (Some (make a b))) → (ws ts : List Text) → HasParts (two_words make ws ts)
+two_have : (make : Text → Text → Command) → ((a b : Text) → HasParts (Some (make a b))) → (ws ts : List Text) →
+    HasParts (two_words make ws ts)
 two_have make h [] ts = tt
 two_have make h (a ∷ []) ts = tt
 two_have make h (a ∷ b ∷ []) [] = h a b
 two_have make h (a ∷ b ∷ []) (t ∷ ts) = tt
 two_have make h (a ∷ b ∷ c ∷ ws) ts = tt
 
-three_have : (make : Text → Text → Text → Command) → ((a b c : Text) → HasParts (Some (make a b c))) → (ws ts : List Text) → HasParts (three_words make ws ts)
+three_have : (make : Text → Text → Text → Command) → ((a b c : Text) → HasParts (Some (make a b c))) →
+    (ws ts : List Text) →
+    HasParts (three_words make ws ts)
 three_have make h [] ts = tt
 three_have make h (a ∷ []) ts = tt
 three_have make h (a ∷ b ∷ []) ts = tt
@@ -85,7 +92,9 @@ abbrev AllHave : List Form → Type 0
 AllHave [] = ⊤
 AllHave (f ∷ fs) = ((ws ts : List Text) → HasParts (f.1 ws ts)) × AllHave fs
 
-found : (p : Parts) (b : Bool) (f : Form) (rest : Option Form) → HasParts (f.1 p.positionals p.turns) → HasParts (in_form p rest) → HasParts (in_form p (cond b (Some f) rest))
+found : (p : Parts) (b : Bool) (f : Form) (rest : Option Form) → HasParts (f.1 p.positionals p.turns) →
+    HasParts (in_form p rest) →
+    HasParts (in_form p (cond b (Some f) rest))
 found p true f rest h k = h
 found p false f rest h k = k
 
@@ -93,7 +102,8 @@ named : (fs : List Form) (name : Text) (p : Parts) → AllHave fs → HasParts (
 named [] name p h = tt
 named (f ∷ fs) name p h = found p (bytes_eq f.0 name) f _ (h.0 p.positionals p.turns) (named fs name p h.1)
 
-parted : (fs : List Form) (name : Text) (p : Option Parts) → AllHave fs → HasParts (option_and_then (command_named fs name) p)
+parted : (fs : List Form) (name : Text) (p : Option Parts) → AllHave fs →
+    HasParts (option_and_then (command_named fs name) p)
 parted fs name None h = tt
 parted fs name (Some p) h = named fs name p h
 
@@ -102,7 +112,22 @@ all_forms = (
   one_has Show (λ a. tt),
   (
     one_has Compile (λ a. tt),
-    (two_have Check (λ a b. tt), (play_has, (two_have Node (λ a b. tt), (trial_has, (three_have Live (λ a b c. tt), (hyper_has, (one_has Tune (λ a. tt), (three_have Audit (λ a b c. tt), tt)))))))),
+    (
+      two_have Check (λ a b. tt),
+      (
+        play_has,
+        (
+          two_have Node (λ a b. tt),
+          (
+            trial_has,
+            (
+              three_have Live (λ a b c. tt),
+              (hyper_has, (one_has Tune (λ a. tt), (three_have Audit (λ a b c. tt), tt))),
+            ),
+          ),
+        ),
+      ),
+    ),
   ),
 )
 

@@ -13,13 +13,19 @@ use Rattle.cpg_shelf_laws.specs.Sinks.{Part, Sent, Whole, telling}
 pub part_told : (s : SinkSeenRun) (bytes : List ℕ) → PartRun s bytes → Part (telling s) bytes
 part_told s bytes p = record { rose = p.rose; prefix = p.prefix }
 
-pub either_told : (s : SinkSeenRun) (bytes : List ℕ) → WholeRun s bytes ⊎ PartRun s bytes → Whole (telling s) bytes ⊎ Part (telling s) bytes
+pub either_told : (s : SinkSeenRun) (bytes : List ℕ) → WholeRun s bytes ⊎ PartRun s bytes →
+    Whole (telling s) bytes ⊎ Part (telling s) bytes
 either_told s bytes e = elim e [ inl whole ↦ inl whole.taken | inr part ↦ inr (part_told s bytes part) ]
 
-sent_told : (s : SinkSeenRun) (status wanted : ℕ) (bytes : List ℕ) → SentRun s status wanted bytes → Sent (telling s) status wanted bytes
-sent_told s status wanted bytes p = record { whole = λ other. let w = p.whole other in (w.0, w.1.taken); part = λ three. part_told s bytes (p.part three) }
+sent_told : (s : SinkSeenRun) (status wanted : ℕ) (bytes : List ℕ) → SentRun s status wanted bytes →
+    Sent (telling s) status wanted bytes
+sent_told s status wanted bytes p = record {
+  whole = λ other. let w = p.whole other in (w.0, w.1.taken);
+  part = λ three. part_told s bytes (p.part three);
+}
 
-pub said_told : (s : SinkSeenRun) (status : ℕ) (broken : Broken) → IsSaidRun s status broken → IsSaid (telling s) status broken
+pub said_told : (s : SinkSeenRun) (status : ℕ) (broken : Broken) → IsSaidRun s status broken →
+    IsSaid (telling s) status broken
 said_told s status Broken.Shelf said = sent_told s status 2 (line_of Read) said
 said_told s status Broken.Sink said = (said.0, either_told s write_fault_line said.1)
 said_told s status (Broken.Refused fault) said = sent_told s status 4 (fault_line fault) said

@@ -26,25 +26,44 @@ use Rattle.cpg_inputs.specs.declared.kind.FileKind.TheVariants.{GraphFile, PartF
 use Rattle.cpg_inputs.specs.Files.{file, limit_of, long_of}
 use Rattle.cpg_inputs.specs.Reading.{IsWhole, StopsAt, IsLong as IsLongFile, IsUnread as IsUnreadFile}
 use Rattle.cpg_inputs.specs.Says.{AreAdmitted, AreFaulty, AreOfNone, AreSpelled, ArePlayed, AreLogged}
-use Rattle.cpg_shelf_laws.specs.Causes.{Admits, IsFaulty, IsLong, IsUnread, Says, SaysLog, SaysPlayed, Spells, StopsAdmission, StopsLog, StopsPack, StopsPlayed, StopsReading, seen}
+use Rattle.cpg_shelf_laws.specs.Causes.{Admits, IsFaulty, IsLong, IsUnread, Says, SaysLog, SaysPlayed, Spells}
+use Rattle.cpg_shelf_laws.specs.Causes.{StopsAdmission, StopsLog, StopsPack, StopsPlayed, StopsReading, seen}
 use Rattle.cpg_shelf_laws.proofs.Fetched.{IsLast, TellsAs, more, tells_long, tells_whole, told_says, told_short}
 
 -- ---- what files say
 
-pub admits : (told : Option Text) (given : Text) (a : Admission) → TellsAs told given → length given ≤ limit_of GraphFile → AreAdmitted given a → Admits told a
-admits told given a alike short x = record { says = (told_short told given _ alike short, told_says told given (λ bytes. problem_of bytes ≡ Ok a.graph) alike x.says); admitted = x.admitted }
+pub admits : (told : Option Text) (given : Text) (a : Admission) → TellsAs told given →
+    length given ≤ limit_of GraphFile → AreAdmitted given a → Admits told a
+admits told given a alike short x = record {
+  says =
+      (told_short told given _ alike short, told_says told given (λ bytes. problem_of bytes ≡ Ok a.graph) alike x.says);
+  admitted = x.admitted;
+}
 
-pub says : (told : Option Text) (given : Text) (g : Graph) → TellsAs told given → length given ≤ limit_of GraphFile → problem_of given ≡ Ok g → Says told g
-says told given g alike short x = (told_short told given _ alike short, told_says told given (λ bytes. problem_of bytes ≡ Ok g) alike x)
+pub says : (told : Option Text) (given : Text) (g : Graph) → TellsAs told given → length given ≤ limit_of GraphFile →
+    problem_of given ≡ Ok g → Says told g
+says told given g alike short x =
+    (told_short told given _ alike short, told_says told given (λ bytes. problem_of bytes ≡ Ok g) alike x)
 
-pub spells : (told : Option Text) (given : Text) (t : Tables) → TellsAs told given → length given ≤ limit_of PackFile → AreSpelled given t → Spells told t
-spells told given t alike short x = record { lawful = x.lawful; short = told_short told given _ alike short; spelled = told_says told given (λ bytes. bytes ≡ spelling t) alike x.spelled }
+pub spells : (told : Option Text) (given : Text) (t : Tables) → TellsAs told given → length given ≤ limit_of PackFile →
+    AreSpelled given t → Spells told t
+spells told given t alike short x = record {
+  lawful = x.lawful;
+  short = told_short told given _ alike short;
+  spelled = told_says told given (λ bytes. bytes ≡ spelling t) alike x.spelled;
+}
 
-pub says_scenario : (told : Option Text) (given : Text) (g : Graph) (p : Played) → TellsAs told given → length given ≤ limit_of ScenarioFile → ArePlayed given g p → SaysPlayed told g p
-says_scenario told given g p alike short x = (told_short told given _ alike short, told_says told given (λ bytes. file_of g bytes ≡ Ok p) alike x.says)
+pub says_scenario : (told : Option Text) (given : Text) (g : Graph) (p : Played) → TellsAs told given →
+    length given ≤ limit_of ScenarioFile → ArePlayed given g p →
+    SaysPlayed told g p
+says_scenario told given g p alike short x =
+    (told_short told given _ alike short, told_says told given (λ bytes. file_of g bytes ≡ Ok p) alike x.says)
 
-pub says_acts : (told : Option Text) (given : Text) (g : Graph) (l : Log) → TellsAs told given → length given ≤ limit_of LogFile → AreLogged given g l → SaysLog told g l
-says_acts told given g l alike short x = (told_short told given _ alike short, told_says told given (λ bytes. IsLogOf g bytes l) alike x.says)
+pub says_acts : (told : Option Text) (given : Text) (g : Graph) (l : Log) → TellsAs told given →
+    length given ≤ limit_of LogFile → AreLogged given g l →
+    SaysLog told g l
+says_acts told given g l alike short x =
+    (told_short told given _ alike short, told_says told given (λ bytes. IsLogOf g bytes l) alike x.says)
 
 -- ---- why the last file stops a run
 
@@ -55,7 +74,8 @@ module _ (old new : ShelfState) (f : Fetch) (is : IsLast old new f) (name : Text
   unread : (kind : FileKind) (halt : Halt) → IsUnreadFile (file kind name) f halt → IsUnread (seen old new) halt
   unread kind halt u = record { halt_is = u.halt_is; rose = is.rose u.failed }
 
-  long : (kind : FileKind) (halt : Halt) → IsLongFile (file kind name) f halt → IsLong (limit_of kind) (long_of kind) (seen old new) (old.stands name) halt
+  long : (kind : FileKind) (halt : Halt) → IsLongFile (file kind name) f halt →
+      IsLong (limit_of kind) (long_of kind) (seen old new) (old.stands name) halt
   long kind halt l = record {
     halt_is = l.halt_is;
     given = (let c = is.count in let o = l.over in omega (arith, c, o));
@@ -66,35 +86,53 @@ module _ (old new : ShelfState) (f : Fetch) (is : IsLast old new f) (name : Text
   tells : (kind : FileKind) → IsWhole (file kind name) f → TellsAs (old.stands name) f.given
   tells kind w = tells_whole old.stands (file kind name) f w is.agrees
 
-  faulty : (halt : Halt) (short : length f.given ≤ limit_of GraphFile) → TellsAs (old.stands name) f.given → AreFaulty f.given halt → IsFaulty (seen old new) (old.stands name) halt
+  faulty : (halt : Halt) (short : length f.given ≤ limit_of GraphFile) → TellsAs (old.stands name) f.given →
+      AreFaulty f.given halt →
+      IsFaulty (seen old new) (old.stands name) halt
   faulty halt short alike x = record {
     fault = x.fault;
     halt_is = x.halt_is;
     within = λ other. within (limit_of GraphFile) short;
-    first = λ other. (told_short (old.stands name) f.given _ alike short, told_says (old.stands name) f.given (λ bytes. problem_of bytes ≡ Err x.fault) alike x.first);
+    first = λ other. (
+      told_short (old.stands name) f.given _ alike short,
+      told_says (old.stands name) f.given (λ bytes. problem_of bytes ≡ Err x.fault) alike x.first,
+    );
   }
 
   no_graph : (halt : Halt) → halt ≡ Memory → IsFaulty (seen old new) (old.stands name) halt
-  no_graph halt e = record { fault = ReadFault.OutOfMemory; halt_is = e; within = λ other. absurd (other refl); first = λ other. absurd (other refl) }
+  no_graph halt e = record {
+    fault = ReadFault.OutOfMemory;
+    halt_is = e;
+    within = λ other. absurd (other refl);
+    first = λ other. absurd (other refl);
+  }
 
-  pub stops_part : (g : Option Graph) (halt : Halt) → StopsAt g (file PartFile name) f halt → StopsReading (seen old new) (old.stands name) halt
+  pub stops_part : (g : Option Graph) (halt : Halt) → StopsAt g (file PartFile name) f halt →
+      StopsReading (seen old new) (old.stands name) halt
   stops_part g halt (inl u) = inl (unread PartFile halt u)
   stops_part g halt (inr (inl l)) = inr (inl (long PartFile halt l))
   stops_part g halt (inr (inr (inl r))) = inr (inr (faulty halt r.whole.short (tells PartFile r.whole) r.refuses))
   stops_part g halt (inr (inr (inr w))) = inr (inr (no_graph halt w.halt_is))
 
-  refused_graph : (halt : Halt) (short : length f.given ≤ limit_of GraphFile) → TellsAs (old.stands name) f.given → (AreFaulty f.given halt ⊎ AreOfNone f.given halt) →
+  refused_graph : (halt : Halt) (short : length f.given ≤ limit_of GraphFile) → TellsAs (old.stands name) f.given →
+      (AreFaulty f.given halt ⊎ AreOfNone f.given halt) →
       StopsAdmission (seen old new) (old.stands name) halt
   refused_graph halt short alike (inl x) = inl (inr (inr (faulty halt short alike x)))
-  refused_graph halt short alike (inr x) = inr (x.graph, says (old.stands name) f.given x.graph alike short x.says, record { stops = x.breaks; within = within (limit_of GraphFile) short })
+  refused_graph halt short alike (inr x) = inr (
+    x.graph,
+    says (old.stands name) f.given x.graph alike short x.says,
+    record { stops = x.breaks; within = within (limit_of GraphFile) short },
+  )
 
-  pub stops_graph : (g : Option Graph) (halt : Halt) → StopsAt g (file GraphFile name) f halt → StopsAdmission (seen old new) (old.stands name) halt
+  pub stops_graph : (g : Option Graph) (halt : Halt) → StopsAt g (file GraphFile name) f halt →
+      StopsAdmission (seen old new) (old.stands name) halt
   stops_graph g halt (inl u) = inl (inl (unread GraphFile halt u))
   stops_graph g halt (inr (inl l)) = inl (inr (inl (long GraphFile halt l)))
   stops_graph g halt (inr (inr (inl r))) = refused_graph halt r.whole.short (tells GraphFile r.whole) r.refuses
   stops_graph g halt (inr (inr (inr w))) = inl (inr (inr (no_graph halt w.halt_is)))
 
-  pub stops_pack : (g : Option Graph) (halt : Halt) → StopsAt g (file PackFile name) f halt → StopsPack (seen old new) (old.stands name) halt
+  pub stops_pack : (g : Option Graph) (halt : Halt) → StopsAt g (file PackFile name) f halt →
+      StopsPack (seen old new) (old.stands name) halt
   stops_pack g halt (inl u) = inl (unread PackFile halt u)
   stops_pack g halt (inr (inl l)) = inr (inl (long PackFile halt l))
   stops_pack g halt (inr (inr (inl r))) =
@@ -103,11 +141,16 @@ module _ (old new : ShelfState) (f : Fetch) (is : IsLast old new f) (name : Text
         fault = PackFault.BadPack r.refuses.length;
         halt_is = r.refuses.halt_is;
         within = λ other. within (limit_of PackFile) r.whole.short;
-        shows = (told_short (old.stands name) f.given _ alike r.whole.short, told_says (old.stands name) f.given (λ bytes. IsBadPack bytes r.refuses.length) alike r.refuses.bad);
+        shows = (
+          told_short (old.stands name) f.given _ alike r.whole.short,
+          told_says (old.stands name) f.given (λ bytes. IsBadPack bytes r.refuses.length) alike r.refuses.bad,
+        );
       }))
-  stops_pack g halt (inr (inr (inr w))) = inr (inr (record { fault = PackFault.OutOfMemory; halt_is = w.halt_is; within = λ other. absurd (other refl); shows = tt }))
+  stops_pack g halt (inr (inr (inr w))) =
+      inr (inr (record { fault = PackFault.OutOfMemory; halt_is = w.halt_is; within = λ other. absurd (other refl); shows = tt }))
 
-  pub stops_scenario : (g : Graph) (halt : Halt) → StopsAt (Some g) (file ScenarioFile name) f halt → StopsPlayed (seen old new) (old.stands name) g halt
+  pub stops_scenario : (g : Graph) (halt : Halt) → StopsAt (Some g) (file ScenarioFile name) f halt →
+      StopsPlayed (seen old new) (old.stands name) g halt
   stops_scenario g halt (inl u) = inl (unread ScenarioFile halt u)
   stops_scenario g halt (inr (inl l)) = inr (inl (long ScenarioFile halt l))
   stops_scenario g halt (inr (inr (inl r))) =
@@ -116,11 +159,16 @@ module _ (old new : ShelfState) (f : Fetch) (is : IsLast old new f) (name : Text
         fault = r.refuses.fault;
         halt_is = r.refuses.halt_is;
         within = λ other. within (limit_of ScenarioFile) r.whole.short;
-        first = λ other. (told_short (old.stands name) f.given _ alike r.whole.short, told_says (old.stands name) f.given (λ bytes. file_of g bytes ≡ Err r.refuses.fault) alike r.refuses.first);
+        first = λ other. (
+          told_short (old.stands name) f.given _ alike r.whole.short,
+          told_says (old.stands name) f.given (λ bytes. file_of g bytes ≡ Err r.refuses.fault) alike r.refuses.first,
+        );
       }))
-  stops_scenario g halt (inr (inr (inr w))) = inr (inr (record { fault = ScenarioFault.OutOfMemory; halt_is = w.halt_is; within = λ other. absurd (other refl); first = λ other. absurd (other refl) }))
+  stops_scenario g halt (inr (inr (inr w))) =
+      inr (inr (record { fault = ScenarioFault.OutOfMemory; halt_is = w.halt_is; within = λ other. absurd (other refl); first = λ other. absurd (other refl) }))
 
-  pub stops_log : (g : Graph) (halt : Halt) → StopsAt (Some g) (file LogFile name) f halt → StopsLog (seen old new) (old.stands name) g halt
+  pub stops_log : (g : Graph) (halt : Halt) → StopsAt (Some g) (file LogFile name) f halt →
+      StopsLog (seen old new) (old.stands name) g halt
   stops_log g halt (inl u) = inl (unread LogFile halt u)
   stops_log g halt (inr (inl l)) = inr (inl (long LogFile halt l))
   stops_log g halt (inr (inr (inl r))) =
@@ -129,6 +177,10 @@ module _ (old new : ShelfState) (f : Fetch) (is : IsLast old new f) (name : Text
         fault = LogFault.Bad r.refuses.line;
         halt_is = r.refuses.halt_is;
         within = λ other. within (limit_of LogFile) r.whole.short;
-        shows = (told_short (old.stands name) f.given _ alike r.whole.short, told_says (old.stands name) f.given (λ bytes. IsBadLine g (lines bytes) r.refuses.line) alike r.refuses.bad);
+        shows = (
+          told_short (old.stands name) f.given _ alike r.whole.short,
+          told_says (old.stands name) f.given (λ bytes. IsBadLine g (lines bytes) r.refuses.line) alike r.refuses.bad,
+        );
       }))
-  stops_log g halt (inr (inr (inr w))) = inr (inr (record { fault = LogFault.OutOfMemory; halt_is = w.halt_is; within = λ other. absurd (other refl); shows = tt }))
+  stops_log g halt (inr (inr (inr w))) = inr (inr
+      (record { fault = LogFault.OutOfMemory; halt_is = w.halt_is; within = λ other. absurd (other refl); shows = tt }))

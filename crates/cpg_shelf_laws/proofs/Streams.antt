@@ -1,5 +1,6 @@
 -- How a stream ends, by what the shelf tells of it: of a part that came, if the rest changes nothing.
-use Rattle.std.proofs.Common.{◌≡◌, ℕ, ◌+◌, ◌-◌, ◌<◌, ◌≤◌, true, cond, ◌&&◌, List, [], ◌++◌, length, take, Option, Some, None, IfSome, refl, sym, ap, ap₂, ◌∙◌, subst, arith, append_assoc, append-nil}
+use Rattle.std.proofs.Common.{◌≡◌, ℕ, ◌+◌, ◌-◌, ◌<◌, ◌≤◌, true, cond, ◌&&◌, List, [], ◌++◌, length, take, Option, Some}
+use Rattle.std.proofs.Common.{None, IfSome, refl, sym, ap, ap₂, ◌∙◌, subst, arith, append_assoc, append-nil}
 use Rattle.std.proofs.Common.{true≢false, inl, inr}
 use Rattle.std.specs.Prelude.{is_none, nat_lt, Ok, Err}
 use Rattle.std.proofs.Math.Seq.{take-append-add}
@@ -16,7 +17,8 @@ use Rattle.cpg_live.specs.Stream.{LiveState, after, outcome_if}
 use Rattle.cpg_live.specs.declared.following.StreamFault.{StreamFault}
 use Rattle.cpg_live.specs.declared.following.StreamFault.TheVariants.{Lawless, Long}
 use Rattle.cpg_live.specs.declared.following.TheConstants.{STREAM_LIMIT}
-use Rattle.cpg_live.specs.Streams.{act_line, act_lines, close_of, end_by, end_of, read_part, stream_end, stream_lines, IsTooLong, IsClosed as IsClosedFetch, IsRefused as IsRefusedFetch}
+use Rattle.cpg_live.specs.Streams.{act_line, act_lines, close_of, end_by, end_of, read_part, stream_end, stream_lines}
+use Rattle.cpg_live.specs.Streams.{IsTooLong, IsClosed as IsClosedFetch, IsRefused as IsRefusedFetch}
 use Rattle.cpg_live.specs.Streams.{IsLawfulSoFar as IsLawfulFetch, IsCutOff as IsCutFetch}
 use Rattle.cpg_live.proofs.Cutting.{bad_stays}
 use Rattle.cpg_live.proofs.Streams.{acts_more, after_more, not_long, took_more}
@@ -25,13 +27,15 @@ use Rattle.cpg_shelf_laws.specs.Streams.{IsClosed, IsCutOff, IsLawfulSoFar, IsRe
 end_bad : (s : LiveState) (count : ℕ) (bad : Bad) → s.bad ≡ Some bad → end_of s count ≡ Err (Lawless bad)
 end_bad s count bad e = ap (λ o. cond (is_none o && nat_lt STREAM_LIMIT count) (Err Long) (end_by (outcome_if s o))) e
 
-after_bad : (table : NodeTable) (fed more : List ℕ) (bad : Bad) → (after table fed).bad ≡ Some bad → after table (fed ++ more) ≡ after table fed
+after_bad : (table : NodeTable) (fed more : List ℕ) (bad : Bad) → (after table fed).bad ≡ Some bad →
+    after table (fed ++ more) ≡ after table fed
 after_bad table fed more bad e = after_more table fed more ∙ bad_stays (after table fed) bad more e
 
 none_some : (bad : Bad) → None ≡ Some bad → ⊥
 none_some bad e = true≢false (ap is_none e)
 
-part_of : (limit : ℕ) (fed rest : List ℕ) → length fed ≤ limit → take limit (fed ++ rest) ≡ fed ++ take (limit - length fed) rest
+part_of : (limit : ℕ) (fed rest : List ℕ) → length fed ≤ limit →
+    take limit (fed ++ rest) ≡ fed ++ take (limit - length fed) rest
 part_of limit fed rest l =
     let e : limit ≡ length fed + (limit - length fed) = omega (arith, l) in
     ap (λ n. take n (fed ++ rest)) e ∙ take-append-add fed rest (limit - length fed)
@@ -42,7 +46,8 @@ record IsRefusedBy (h : Head) (table : NodeTable) (bytes : List ℕ) (fault : St
   long : fault ≡ Long → IsTooLong table bytes
   spelled : lines ≡ stream_lines h table bytes
 
-module _ (h : Head) (table : NodeTable) (f : Fetch) (whole : List ℕ) (w : IsFrontOf whole f) (few : length f.given ≤ STREAM_LIMIT + 1) where
+module _ (h : Head) (table : NodeTable) (f : Fetch) (whole : List ℕ) (w : IsFrontOf whole f)
+    (few : length f.given ≤ STREAM_LIMIT + 1) where
   read_given : read_part f.given ≡ f.given
   read_given = take_all (STREAM_LIMIT + 1) f.given few
 
@@ -58,48 +63,67 @@ module _ (h : Head) (table : NodeTable) (f : Fetch) (whole : List ℕ) (w : IsFr
       read_whole ∙ (ap (λ n. f.given ++ take n w.rest) e ∙ (append-nil f.given ∙ sym read_given))
 
   -- what is read of both is the same
-  refused_same : (fault : StreamFault) (lines : List ℕ) → IsRefusedFetch h table f fault lines → read_part whole ≡ read_part f.given → IsRefusedBy h table whole fault lines
+  refused_same : (fault : StreamFault) (lines : List ℕ) → IsRefusedFetch h table f fault lines →
+      read_part whole ≡ read_part f.given →
+      IsRefusedBy h table whole fault lines
   refused_same fault lines c same = record {
     ends = ap (λ bytes. end_of (after table bytes) (length bytes)) same ∙ c.ends;
     long = λ e. let long = c.long e in record {
-      more = (let m = long.more in let l = ap (λ (bytes : List ℕ). length bytes) w.front in let k = length-append f.given w.rest in omega (arith, m, l, k));
+      more = (let m = long.more in let l = ap (λ (bytes : List ℕ). length bytes) w.front in
+          let k = length-append f.given w.rest in omega (arith, m, l, k));
       lawful = ap (λ bytes. (after table bytes).bad) same ∙ long.lawful;
       taken = ap (λ bytes. (after table bytes).taken) same ∙ long.taken;
       not_closed = ap (λ bytes. (after table bytes).closed) same ∙ long.not_closed;
     };
-    spelled = c.spelled ∙ sym (ap (λ bytes. act_lines h (after table bytes).progress.acts ++ close_of (end_of (after table bytes) (length bytes))) same);
+    spelled = c.spelled ∙ sym (ap (λ bytes.
+        act_lines h (after table bytes).progress.acts ++ close_of (end_of (after table bytes) (length bytes))) same);
   }
 
   -- the rest comes after a lawless record
-  refused_bad : (fault : StreamFault) (lines : List ℕ) (bad : Bad) → IsRefusedFetch h table f fault lines → (after table f.given).bad ≡ Some bad → IsRefusedBy h table whole fault lines
+  refused_bad : (fault : StreamFault) (lines : List ℕ) (bad : Bad) → IsRefusedFetch h table f fault lines →
+      (after table f.given).bad ≡ Some bad →
+      IsRefusedBy h table whole fault lines
   refused_bad fault lines bad c e =
-      let state : after table (read_part whole) ≡ after table (read_part f.given) = ap (after table) read_whole ∙ (after_bad table f.given _ bad e ∙ sym (ap (after table) read_given)) in
-      let bad_given : (after table (read_part f.given)).bad ≡ Some bad = ap (λ bytes. (after table bytes).bad) read_given ∙ e in
-      let ends : stream_end table whole ≡ stream_end table f.given = ap (λ (s : LiveState). end_of s (length (read_part whole))) state ∙
-      (end_bad (after table (read_part f.given)) (length (read_part whole)) bad bad_given ∙ sym (end_bad (after table (read_part f.given)) (length (read_part f.given)) bad bad_given)) in
+      let state : after table (read_part whole) ≡ after table (read_part f.given) =
+      ap (after table) read_whole ∙ (after_bad table f.given _ bad e ∙ sym (ap (after table) read_given)) in
+      let bad_given : (after table (read_part f.given)).bad ≡ Some bad =
+      ap (λ bytes. (after table bytes).bad) read_given ∙ e in
+      let ends : stream_end table whole ≡ stream_end table f.given =
+      ap (λ (s : LiveState). end_of s (length (read_part whole))) state ∙
+      (end_bad (after table (read_part f.given)) (length (read_part whole)) bad bad_given
+      ∙ sym (end_bad (after table (read_part f.given)) (length (read_part f.given)) bad bad_given)) in
       record {
         ends = ends ∙ c.ends;
         long = λ is. absurd (none_some bad (sym (c.long is).lawful ∙ bad_given));
         spelled = c.spelled ∙ sym (ap₂ (λ (s : LiveState) r. act_lines h s.progress.acts ++ close_of r) state ends);
       }
 
-  refused_lawful : (fault : StreamFault) (lines : List ℕ) → IsRefusedFetch h table f fault lines → (after table f.given).bad ≡ None → IsRefusedBy h table whole fault lines
+  refused_lawful : (fault : StreamFault) (lines : List ℕ) → IsRefusedFetch h table f fault lines →
+      (after table f.given).bad ≡ None →
+      IsRefusedBy h table whole fault lines
   refused_lawful Long lines c none = refused_same Long lines c (same_of_full (c.long refl).more)
-  refused_lawful (Lawless bad) lines c none = refused_same (Lawless bad) lines c (same_of_none (w.all (c.all (not_long bad) none)))
+  refused_lawful (Lawless bad) lines c none =
+      refused_same (Lawless bad) lines c (same_of_none (w.all (c.all (not_long bad) none)))
 
-  by_bad : (fault : StreamFault) (lines : List ℕ) → IsRefusedFetch h table f fault lines → (o : Option Bad) → (after table f.given).bad ≡ o → IsRefusedBy h table whole fault lines
+  by_bad : (fault : StreamFault) (lines : List ℕ) → IsRefusedFetch h table f fault lines → (o : Option Bad) →
+      (after table f.given).bad ≡ o →
+      IsRefusedBy h table whole fault lines
   by_bad fault lines c None e = refused_lawful fault lines c e
   by_bad fault lines c (Some bad) e = refused_bad fault lines bad c e
 
   -- a front of the lines so far is one of all lines
-  cut_lines : (a b : List ℕ) → TookPrefix a b (act_lines h (after table f.given).progress.acts) → TookPrefix a b (stream_lines h table whole)
+  cut_lines : (a b : List ℕ) → TookPrefix a b (act_lines h (after table f.given).progress.acts) →
+      TookPrefix a b (stream_lines h table whole)
   cut_lines a b took =
       let acts : List Act = (after table f.given).progress.acts in
       let g = acts_more table f.given (take (STREAM_LIMIT + 1 - length f.given) w.rest) in
-      let grown : (after table (read_part whole)).progress.acts ≡ acts ++ g.0 = ap (λ bytes. (after table bytes).progress.acts) read_whole ∙ g.1 in
+      let grown : (after table (read_part whole)).progress.acts ≡ acts ++ g.0 =
+      ap (λ bytes. (after table bytes).progress.acts) read_whole ∙ g.1 in
       let close = close_of (stream_end table whole) in
       let all : stream_lines h table whole ≡ act_lines h acts ++ (act_lines h g.0 ++ close) =
-      ap (λ (done : List Act). act_lines h done ++ close) grown ∙ (ap (λ l. l ++ close) (flat_map-append (act_line h) acts g.0) ∙ append_assoc (act_lines h acts) (act_lines h g.0) close) in
+      ap (λ (done : List Act). act_lines h done ++ close) grown
+      ∙ (ap (λ l. l ++ close) (flat_map-append (act_line h) acts g.0)
+      ∙ append_assoc (act_lines h acts) (act_lines h g.0) close) in
       subst (TookPrefix a b) (sym all) (took_more a b (act_lines h acts) (act_lines h g.0 ++ close) took)
 
 ended_whole : (f : Fetch) (whole : List ℕ) → f.ended ≡ true → IsFrontOf whole f → f.given ≡ whole
@@ -108,36 +132,54 @@ ended_whole f whole ended w = sym (w.front ∙ (ap (λ rest. f.given ++ rest) (w
 -- ---- what the shelf tells
 
 module _ (h : Head) (table : NodeTable) (f : Fetch) where
-  pub refused_ends : (whole : List ℕ) (fault : StreamFault) (lines : List ℕ) → IsFrontOf whole f → IsRefusedFetch h table f fault lines → stream_end table whole ≡ Err fault
-  refused_ends whole fault lines w c = (by_bad h table f whole w c.few fault lines c (after table f.given).bad refl).ends
+  pub refused_ends : (whole : List ℕ) (fault : StreamFault) (lines : List ℕ) → IsFrontOf whole f →
+      IsRefusedFetch h table f fault lines →
+      stream_end table whole ≡ Err fault
+  refused_ends whole fault lines w c =
+      (by_bad h table f whole w c.few fault lines c (after table f.given).bad refl).ends
 
-  pub closed_ends : (whole : List ℕ) (lines : List ℕ) → IsFrontOf whole f → (c : IsClosedFetch h table f lines) → stream_end table whole ≡ Ok c.time
+  pub closed_ends : (whole : List ℕ) (lines : List ℕ) → IsFrontOf whole f → (c : IsClosedFetch h table f lines) →
+      stream_end table whole ≡ Ok c.time
   closed_ends whole lines w c = ap (stream_end table) (sym (ended_whole f whole c.ended w)) ∙ c.ends
 
-  pub refused_told : (told : Option (List ℕ)) (fault : StreamFault) (lines : List ℕ) → IfSome told (λ whole. IsFrontOf whole f) → IsRefusedFetch h table f fault lines →
+  pub refused_told : (told : Option (List ℕ)) (fault : StreamFault) (lines : List ℕ) →
+      IfSome told (λ whole. IsFrontOf whole f) →
+      IsRefusedFetch h table f fault lines →
       IsRefused h table told fault lines
-  refused_told None fault lines w c = record { bytes = f.given; of = tt; ends = c.ends; long = c.long; spelled = c.spelled }
+  refused_told None fault lines w c =
+      record { bytes = f.given; of = tt; ends = c.ends; long = c.long; spelled = c.spelled }
   refused_told (Some whole) fault lines w c =
       let by = by_bad h table f whole w c.few fault lines c (after table f.given).bad refl in
       record { bytes = whole; of = refl; ends = by.ends; long = by.long; spelled = by.spelled }
 
-  pub closed_told : (told : Option (List ℕ)) (lines : List ℕ) → IfSome told (λ whole. IsFrontOf whole f) → IsClosedFetch h table f lines → IsClosed h table told lines
+  pub closed_told : (told : Option (List ℕ)) (lines : List ℕ) → IfSome told (λ whole. IsFrontOf whole f) →
+      IsClosedFetch h table f lines →
+      IsClosed h table told lines
   closed_told None lines w c = record { bytes = f.given; of = tt; time = c.time; ends = c.ends; spelled = c.spelled }
-  closed_told (Some whole) lines w c = record { bytes = f.given; of = ended_whole f whole c.ended w; time = c.time; ends = c.ends; spelled = c.spelled }
+  closed_told (Some whole) lines w c =
+      record { bytes = f.given; of = ended_whole f whole c.ended w; time = c.time; ends = c.ends; spelled = c.spelled }
 
-  given_first : (told : Option (List ℕ)) (count : ℕ) → count ≡ length f.given → IfSome told (λ whole. IsFrontOf whole f) → IfSome told (λ whole. f.given ≡ take count whole)
+  given_first : (told : Option (List ℕ)) (count : ℕ) → count ≡ length f.given →
+      IfSome told (λ whole. IsFrontOf whole f) →
+      IfSome told (λ whole. f.given ≡ take count whole)
   given_first None count e w = tt
   given_first (Some whole) count e w =
-      sym (ap₂ take e w.front ∙ (part_of (length f.given) f.given w.rest (omega arith) ∙ (ap (λ n. f.given ++ take n w.rest) (none_more (length f.given)) ∙ append-nil f.given)))
+      sym (ap₂ take e w.front ∙ (part_of (length f.given) f.given w.rest (omega arith)
+      ∙ (ap (λ n. f.given ++ take n w.rest) (none_more (length f.given)) ∙ append-nil f.given)))
     where
       none_more : (n : ℕ) → n - n ≡ 0
       none_more n = omega arith
 
-  pub lawful_told : (told : Option (List ℕ)) (count : ℕ) (lines : List ℕ) → count ≡ length f.given → IfSome told (λ whole. IsFrontOf whole f) → IsLawfulFetch h table f lines →
+  pub lawful_told : (told : Option (List ℕ)) (count : ℕ) (lines : List ℕ) → count ≡ length f.given →
+      IfSome told (λ whole. IsFrontOf whole f) →
+      IsLawfulFetch h table f lines →
       IsLawfulSoFar h table told count lines
-  lawful_told told count lines e w c = record { bytes = f.given; count = e; first = given_first told count e w; lawful = c.lawful; spelled = c.spelled }
+  lawful_told told count lines e w c =
+      record { bytes = f.given; count = e; first = given_first told count e w; lawful = c.lawful; spelled = c.spelled }
 
-  pub cut_told : (told : Option (List ℕ)) (a b : List ℕ) → IfSome told (λ whole. IsFrontOf whole f) → IsCutFetch h table f a b → IsCutOff h table told (Some a) (Some b)
+  pub cut_told : (told : Option (List ℕ)) (a b : List ℕ) → IfSome told (λ whole. IsFrontOf whole f) →
+      IsCutFetch h table f a b →
+      IsCutOff h table told (Some a) (Some b)
   cut_told None a b w c = record { bytes = f.given; of = tt; front = c.front }
   cut_told (Some whole) a b w c = elim c.so_far [
     | inl ended ↦ record { bytes = f.given; of = ended_whole f whole ended w; front = c.front }

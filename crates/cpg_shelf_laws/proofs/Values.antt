@@ -9,7 +9,8 @@ use Rattle.cpg_reader.specs.Document.{problem_of}
 use Rattle.cpg_scenario.specs.declared.reading.Played.{Played}
 use Rattle.std.specs.Prelude.{Ok}
 use Rattle.cpg_inputs.specs.declared.kind.FileKind.TheVariants.{GraphFile, PartFile, PackFile, ScenarioFile, LogFile}
-use Rattle.cpg_inputs.specs.Says.{Value, graph_value, part_value, tables_value, played_value, log_value, AreAdmitted, AreLogged, ArePlayed, AreSpelled, Says}
+use Rattle.cpg_inputs.specs.Says.{Value, graph_value, part_value, tables_value, played_value, log_value, AreAdmitted}
+use Rattle.cpg_inputs.specs.Says.{AreLogged, ArePlayed, AreSpelled, Says}
 
 abbrev graph_in : Admission → Value → Admission
 graph_in d (graph_value a) = a
@@ -31,16 +32,20 @@ abbrev log_in : Log → Value → Log
 log_in d (log_value l) = l
 log_in d v = d
 
-pub says_graph : (g : Option Graph) (given : Text) (a : Admission) → Says g GraphFile given (graph_value a) → AreAdmitted given a
+pub says_graph : (g : Option Graph) (given : Text) (a : Admission) → Says g GraphFile given (graph_value a) →
+    AreAdmitted given a
 says_graph g given a (b, e, x) = subst (AreAdmitted given) (sym (ap (graph_in a) e)) x
 
-pub says_part : (g : Option Graph) (given : Text) (h : Graph) → Says g PartFile given (part_value h) → problem_of given ≡ Ok h
+pub says_part : (g : Option Graph) (given : Text) (h : Graph) → Says g PartFile given (part_value h) →
+    problem_of given ≡ Ok h
 says_part g given h (b, e, x) = subst (λ b. problem_of given ≡ Ok b) (sym (ap (part_in h) e)) x
 
-pub says_tables : (g : Option Graph) (given : Text) (t : Tables) → Says g PackFile given (tables_value t) → AreSpelled given t
+pub says_tables : (g : Option Graph) (given : Text) (t : Tables) → Says g PackFile given (tables_value t) →
+    AreSpelled given t
 says_tables g given t (u, e, x) = subst (AreSpelled given) (sym (ap (tables_in t) e)) x
 
-pub says_played : (g : Graph) (given : Text) (p : Played) → Says (Some g) ScenarioFile given (played_value p) → ArePlayed given g p
+pub says_played : (g : Graph) (given : Text) (p : Played) → Says (Some g) ScenarioFile given (played_value p) →
+    ArePlayed given g p
 says_played g given p (q, e, x) = subst (ArePlayed given g) (sym (ap (played_in p) e)) x
 
 pub says_log : (g : Graph) (given : Text) (l : Log) → Says (Some g) LogFile given (log_value l) → AreLogged given g l

@@ -1,6 +1,7 @@
--- Why a run stops, and what is then true of its words and of what its shelf reports. This is as an earlier contract of a run
--- said it, which was stated over what stands under a name.
-use Rattle.std.specs.Prelude.{ℕ, ◌≡◌, ◌≢◌, ◌<◌, ◌≤◌, ◌+◌, ◌⊎◌, List, [], ◌∷◌, Option, Some, None, IfSome, Ok, Err, length, take, get_or, ⊤}
+-- Why a run stops, and what is then true of its words and of what its shelf reports. This is as an earlier contract of
+-- a run said it, which was stated over what stands under a name.
+use Rattle.std.specs.Prelude.{ℕ, ◌≡◌, ◌≢◌, ◌<◌, ◌≤◌, ◌+◌, ◌⊎◌, List, [], ◌∷◌, Option, Some, None, IfSome, Ok, Err}
+use Rattle.std.specs.Prelude.{length, take, get_or, ⊤}
 use Rattle.cpg_base.specs.Graph.{Graph}
 use Rattle.cpg_io.specs.Causes.{Rose}
 use Rattle.cpg_io.specs.State.{ShelfState, given_count}
@@ -8,7 +9,8 @@ use Rattle.cpg_words.specs.Parts.{Text}
 use Rattle.cpg_words.specs.Forms.{command_of}
 use Rattle.cpg_words.specs.declared.command.Pair.{Pair}
 use Rattle.cpg_words.specs.declared.command.Command.{Command}
-use Rattle.cpg_words.specs.declared.command.Command.TheVariants.{Show, Compile, Check, Play, Node, Trial, Live, Hyper, Tune, Audit}
+use Rattle.cpg_words.specs.declared.command.Command.TheVariants.{Show, Compile, Check, Play, Node, Trial, Live, Hyper}
+use Rattle.cpg_words.specs.declared.command.Command.TheVariants.{Tune, Audit}
 use Rattle.cpg_reader.specs.declared.place.ReadFault.{ReadFault}
 use Rattle.cpg_reader.specs.Document.{problem_of}
 use Rattle.cpg_rules.specs.Admission.{Admission, IsAdmitted}
@@ -35,8 +37,8 @@ use Rattle.cpg_inputs.specs.Halts.{halt_of_log}
 use Rattle.cpg_inputs.specs.Says.{BreaksRule}
 use Rattle.cpg_app.specs.Causes.{IsUncompiled, IsOtherGraph, IsUnsafe, IsNotUnrolled, first_named}
 
--- What a run sees of its shelf: what stands under each name, how many bytes the last fetch gave, and the count of faults before
--- and after.
+-- What a run sees of its shelf: what stands under each name, how many bytes the last fetch gave, and the count of
+-- faults before and after.
 pub record Seen : Type 0 where
   pub stands : Text → Option Text
   pub given : ℕ
@@ -90,19 +92,23 @@ pub record IsFaulty (seen : Seen) (told : Option Text) (halt : Halt) : Type 0 wh
   pub fault : ReadFault
   pub halt_is : halt ≡ halt_of_reading fault
   pub within : fault ≢ ReadFault.OutOfMemory → seen.given ≤ GRAPH_LIMIT
-  pub first : fault ≢ ReadFault.OutOfMemory → IsShort GRAPH_LIMIT told × IfSome told (λ bytes. problem_of bytes ≡ Err fault)
+  pub first : fault ≢ ReadFault.OutOfMemory →
+      IsShort GRAPH_LIMIT told × IfSome told (λ bytes. problem_of bytes ≡ Err fault)
 
 -- something stops a run after a file was read that gave no more bytes than its limit
-pub record IsAfterReading {T : Type 0} (given limit : ℕ) (Stops : T → Halt → Type 0) (x : T) (halt : Halt) : Type 0 where
+pub record IsAfterReading {T : Type 0} (given limit : ℕ) (Stops : T → Halt → Type 0) (x : T)
+    (halt : Halt) : Type 0 where
   pub stops : Stops x halt
   pub within : given ≤ limit
 
 abbrev pub StopsReading : Seen → Option Text → Halt → Type 0
-StopsReading seen told halt = IsUnread seen halt ⊎ (IsLong GRAPH_LIMIT LongGraph seen told halt ⊎ IsFaulty seen told halt)
+StopsReading seen told halt =
+    IsUnread seen halt ⊎ (IsLong GRAPH_LIMIT LongGraph seen told halt ⊎ IsFaulty seen told halt)
 
 -- a graph file isn't admitted: its reading stops, or the graph breaks a rule
 abbrev pub StopsAdmission : Seen → Option Text → Halt → Type 0
-StopsAdmission seen told halt = StopsReading seen told halt ⊎ ((g : Graph) × Says told g × IsAfterReading seen.given GRAPH_LIMIT BreaksRule g halt)
+StopsAdmission seen told halt =
+    StopsReading seen told halt ⊎ ((g : Graph) × Says told g × IsAfterReading seen.given GRAPH_LIMIT BreaksRule g halt)
 
 -- a graph file stops a run: it isn't admitted, or the command's work on the admitted graph stops
 abbrev pub StopsGraph : Seen → Option Text → (Admission → Halt → Type 0) → Halt → Type 0
@@ -145,10 +151,12 @@ pub record IsNoScenario (seen : Seen) (told : Option Text) (g : Graph) (halt : H
   pub fault : ScenarioFault
   pub halt_is : halt ≡ halt_of_scenario fault
   pub within : fault ≢ ScenarioFault.OutOfMemory → seen.given ≤ SCENARIO_LIMIT
-  pub first : fault ≢ ScenarioFault.OutOfMemory → IsShort SCENARIO_LIMIT told × IfSome told (λ bytes. file_of g bytes ≡ Err fault)
+  pub first : fault ≢ ScenarioFault.OutOfMemory →
+      IsShort SCENARIO_LIMIT told × IfSome told (λ bytes. file_of g bytes ≡ Err fault)
 
 abbrev pub StopsPlayed : Seen → Option Text → Graph → Halt → Type 0
-StopsPlayed seen told g halt = IsUnread seen halt ⊎ (IsLong SCENARIO_LIMIT LongScenario seen told halt ⊎ IsNoScenario seen told g halt)
+StopsPlayed seen told g halt =
+    IsUnread seen halt ⊎ (IsLong SCENARIO_LIMIT LongScenario seen told halt ⊎ IsNoScenario seen told g halt)
 
 -- a scenario file stops a run: its reading stops, or the check before its play does
 abbrev pub StopsPlay : Seen → Option Text → Admission → Tables → Halt → Type 0
@@ -161,7 +169,8 @@ SaysLog told g log = IsShort LOG_LIMIT told × IfSome told (λ bytes. IsLogOf g 
 
 -- the bytes are no log of the graph, and this is the first line to blame
 abbrev pub ShowsLogFault : Option Text → Graph → LogFault → Type 0
-ShowsLogFault told g (LogFault.Bad line) = IsShort LOG_LIMIT told × IfSome told (λ bytes. IsBadLine g (lines bytes) line)
+ShowsLogFault told g (LogFault.Bad line) =
+    IsShort LOG_LIMIT told × IfSome told (λ bytes. IsBadLine g (lines bytes) line)
 ShowsLogFault told g LogFault.OutOfMemory = ⊤
 
 pub record IsNoLog (seen : Seen) (told : Option Text) (g : Graph) (halt : Halt) : Type 0 where
@@ -187,7 +196,8 @@ abbrev pub AreSaid : (Text → Option Text) → List Pair → List Part → Type
 AreSaid stands [] [] = ⊤
 AreSaid stands [] (part ∷ parts) = ⊥
 AreSaid stands (pair ∷ pairs) [] = ⊥
-AreSaid stands (pair ∷ pairs) (part ∷ parts) = (part.period ≡ pair.period) × Says (stands pair.graph) part.problem × AreSaid stands pairs parts
+AreSaid stands (pair ∷ pairs) (part ∷ parts) =
+    (part.period ≡ pair.period) × Says (stands pair.graph) part.problem × AreSaid stands pairs parts
 
 -- this is the first file that isn't read as a graph
 pub record IsUnsaid (seen : Seen) (pairs : List Pair) (halt : Halt) : Type 0 where
@@ -202,7 +212,8 @@ StopsReadingParts seen pairs halt = IsUnsaid seen pairs halt ⊎ (halt ≡ Memor
 
 -- why the unrolling of the words' parts stops
 abbrev pub StopsParts : Seen → List Pair → Halt → Type 0
-StopsParts seen pairs halt = StopsReadingParts seen pairs halt ⊎ ((parts : List Part) × AreSaid seen.stands pairs parts ×
+StopsParts seen pairs halt =
+    StopsReadingParts seen pairs halt ⊎ ((parts : List Part) × AreSaid seen.stands pairs parts ×
     IsAfterReading seen.given GRAPH_LIMIT IsNotUnrolled parts halt)
 
 -- nothing stops a command's work on an admitted graph but being out of memory
@@ -210,17 +221,22 @@ abbrev pub IsOutOfMemory : Admission → Halt → Type 0
 IsOutOfMemory a halt = halt ≡ Memory
 
 abbrev pub StopsCommand : Seen → Command → Halt → Type 0
-StopsCommand seen (Show graph) halt = StopsGraph seen (seen.stands graph) (IsAfterReading seen.given GRAPH_LIMIT IsUncompiled) halt
-StopsCommand seen (Compile graph) halt = StopsGraph seen (seen.stands graph) (IsAfterReading seen.given GRAPH_LIMIT IsUncompiled) halt
+StopsCommand seen (Show graph) halt =
+    StopsGraph seen (seen.stands graph) (IsAfterReading seen.given GRAPH_LIMIT IsUncompiled) halt
+StopsCommand seen (Compile graph) halt =
+    StopsGraph seen (seen.stands graph) (IsAfterReading seen.given GRAPH_LIMIT IsUncompiled) halt
 StopsCommand seen (Check graph pack) halt = StopsGraph seen (seen.stands graph) (λ a.
     StopsTables seen (seen.stands pack) (IsAfterReading seen.given PACK_LIMIT (StopsVerdict a))) halt
 StopsCommand seen (Play graph pack scenario turns) halt = StopsGraph seen (seen.stands graph) (λ a.
     StopsTables seen (seen.stands pack) (StopsPlay seen (seen.stands scenario) a)) halt
-StopsCommand seen (Node pack name) halt = StopsTables seen (seen.stands pack) (IsAfterReading seen.given PACK_LIMIT (λ t. StopsNaming t name)) halt
+StopsCommand seen (Node pack name) halt =
+    StopsTables seen (seen.stands pack) (IsAfterReading seen.given PACK_LIMIT (λ t. StopsNaming t name)) halt
 StopsCommand seen (Trial number) halt = halt ≡ Memory
-StopsCommand seen (Live pack name stream) halt = StopsTables seen (seen.stands pack) (IsAfterReading seen.given PACK_LIMIT (λ t. StopsNaming t name)) halt
+StopsCommand seen (Live pack name stream) halt =
+    StopsTables seen (seen.stands pack) (IsAfterReading seen.given PACK_LIMIT (λ t. StopsNaming t name)) halt
 StopsCommand seen (Hyper parts) halt = StopsParts seen parts halt
-StopsCommand seen (Tune graph) halt = StopsGraph seen (seen.stands graph) (IsAfterReading seen.given GRAPH_LIMIT IsOutOfMemory) halt
+StopsCommand seen (Tune graph) halt =
+    StopsGraph seen (seen.stands graph) (IsAfterReading seen.given GRAPH_LIMIT IsOutOfMemory) halt
 StopsCommand seen (Audit graph pack log) halt = StopsGraph seen (seen.stands graph) (λ a.
     StopsTables seen (seen.stands pack) (StopsAudit seen (seen.stands log) a)) halt
 

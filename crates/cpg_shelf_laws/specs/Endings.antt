@@ -1,5 +1,5 @@
--- How a run ends: either its output or its line is taken whole, or a sink meets a fault. A run that follows a stream has
--- endings of its own.
+-- How a run ends: either its output or its line is taken whole, or a sink meets a fault. A run that follows a stream
+-- has endings of its own.
 use Rattle.std.specs.Prelude.{ℕ, ◌≡◌, ◌⊎◌, List, Some}
 use Rattle.cpg_words.specs.Parts.{Text}
 use Rattle.cpg_words.specs.Forms.{command_of}

@@ -6,7 +6,8 @@ use Rattle.cpg_words.specs.Parts.{Text}
 use Rattle.cpg_words.specs.Forms.{command_of}
 use Rattle.cpg_words.specs.declared.command.Pair.{Pair}
 use Rattle.cpg_words.specs.declared.command.Command.{Command}
-use Rattle.cpg_words.specs.declared.command.Command.TheVariants.{Show, Compile, Check, Play, Node, Trial, Hyper, Tune, Audit, Live}
+use Rattle.cpg_words.specs.declared.command.Command.TheVariants.{Show, Compile, Check, Play, Node, Trial, Hyper, Tune}
+use Rattle.cpg_words.specs.declared.command.Command.TheVariants.{Audit, Live}
 use Rattle.cpg_reader.specs.Document.{problem_of}
 use Rattle.cpg_rules.specs.Admission.{Admission, IsAdmitted}
 use Rattle.cpg_base.specs.Scenario.{Scenario}
@@ -86,7 +87,8 @@ pub record SaysActs (r : Ran) (g : Graph) (name : Text) : Type 0 where
 -- the words ask to check a pack, to play it as such a scenario file says, or to audit such a log by it
 abbrev pub AsksToJudge : Ran → Graph → Text → Text → Type 0
 AsksToJudge r g graph pack = (command_of r.words ≡ Some (Check graph pack))
-    ⊎ (((scenario : Text) × (turns : ℕ) × (command_of r.words ≡ Some (Play graph pack scenario turns)) × SaysScenario r g scenario)
+    ⊎ (((scenario : Text) × (turns : ℕ) × (command_of r.words ≡ Some (Play graph pack scenario turns)) ×
+    SaysScenario r g scenario)
     ⊎ ((log : Text) × (command_of r.words ≡ Some (Audit graph pack log)) × SaysActs r g log))
 
 -- the words ask so, the shelf reports the bytes of an admitted graph and of tables, and nothing failed
@@ -130,7 +132,8 @@ abbrev pub AreTold : (Text → Option Text) → List Pair → List Part → Type
 AreTold stands [] [] = ⊤
 AreTold stands [] (part ∷ parts) = ⊥
 AreTold stands (pair ∷ pairs) [] = ⊥
-AreTold stands (pair ∷ pairs) (part ∷ parts) = (part.period ≡ pair.period) × TellsGraph (stands pair.graph) part.problem × AreTold stands pairs parts
+AreTold stands (pair ∷ pairs) (part ∷ parts) =
+    (part.period ≡ pair.period) × TellsGraph (stands pair.graph) part.problem × AreTold stands pairs parts
 
 -- the words ask for the graph of all instances of such parts, and nothing failed
 pub record AsksUnrolling (r : Ran) (parts : List Part) : Type 0 where
@@ -139,8 +142,8 @@ pub record AsksUnrolling (r : Ran) (parts : List Part) : Type 0 where
   pub told : AreTold r.shelf.stands pairs parts
   pub faultless : IsFaultless r
 
--- the words ask the node of that name to follow a stream, the shelf reports the bytes of tables and of the stream, and nothing
--- failed
+-- the words ask the node of that name to follow a stream, the shelf reports the bytes of tables and of the stream, and
+-- nothing failed
 pub record AsksStream (r : Ran) (t : Tables) (name bytes : Text) : Type 0 where
   pub pack : Text
   pub stream : Text
@@ -163,8 +166,8 @@ pub record IsUnreadStream (r : Ran) : Type 0 where
   pub out : Whole r.out lines
   pub err : Whole r.err (line_of Read)
 
--- A stream is rejected; the lines of the records before were written. It is rejected as too long only if more bytes were given
--- than the limit.
+-- A stream is rejected; the lines of the records before were written. It is rejected as too long only if more bytes
+-- were given than the limit.
 pub record IsRefusedStream (r : Ran) : Type 0 where
   pub follows : Follows r
   pub fault : StreamFault
@@ -186,7 +189,8 @@ pub record IsLawful (r : Ran) : Type 0 where
   pub ends : Ends r
   -- 0: the output was written whole
   pub done : r.status ≡ 0 → (text : Text) × Prints r.shelf r.words text × IsPrinted r text
-  -- 1: the words form no command. Conversely, words that form none end with 1, unless `err` meets a fault or memory runs out.
+  -- 1: the words form no command. Conversely, words that form none end with 1, unless `err` meets a fault or memory
+  -- runs out.
   pub words : r.status ≡ 1 → command_of r.words ≡ None
   pub formless : command_of r.words ≡ None → r.status ≢ 3 → (r.status ≡ 1) ⊎ (r.status ≡ 8)
   -- 2: the shelf met a fault
@@ -194,44 +198,65 @@ pub record IsLawful (r : Ran) : Type 0 where
   -- 3: a sink met a fault
   pub write : r.status ≡ 3 → Rose r.out.before r.out.now ⊎ Rose r.err.before r.err.now
   -- 4: a refusal whose cause holds and whose line was written whole, or a rejected stream
-  pub refused : r.status ≡ 4 → ((refusal : Refusal) × Stops r.shelf r.words (Refused refusal) × IsTold r (Refused refusal)) ⊎ IsRefusedStream r
+  pub refused : r.status ≡ 4 →
+      ((refusal : Refusal) × Stops r.shelf r.words (Refused refusal) × IsTold r (Refused refusal)) ⊎ IsRefusedStream r
   -- 5: a process is late, as the line says
-  pub is_late : r.status ≡ 5 → (a : Admission) × (s : Scenario) × (p : ℕ) × (finish : ℕ) × Stops r.shelf r.words (Late a s p finish) ×
+  pub is_late : r.status ≡ 5 →
+      (a : Admission) × (s : Scenario) × (p : ℕ) × (finish : ℕ) × Stops r.shelf r.words (Late a s p finish) ×
       IsTold r (Late a s p finish)
   -- 6: an item is too wide, as the line says
   pub is_wide : r.status ≡ 6 → (a : Admission) × (x : ℕ) × Stops r.shelf r.words (TooWide a x) × IsTold r (TooWide a x)
   -- 7: the tables of a pack break a rule, as the line says
-  pub is_unsafe : r.status ≡ 7 → (a : Admission) × (fault : Fault) × Stops r.shelf r.words (Unsafe a fault) × IsTold r (Unsafe a fault)
-  -- Under a status other than 0 and 3, nothing was written to `out`, with one exception. If a stream that a node follows meets
-  -- a fault of the shelf or is rejected, the lines of the records before were written.
-  pub silent : r.status ≢ 0 → r.status ≢ 3 → Untouched r.out ⊎ (((r.status ≡ 2) × IsUnreadStream r) ⊎ ((r.status ≡ 4) × IsRefusedStream r))
-  -- If such a graph gives no order and some item is too wide by its views under its urgency order, it is rejected as too wide.
-  -- Otherwise the graph is shown or packed if every process ends by its due in every scenario, under the order that the graph
-  -- gives, or under its urgency order or its track order. If some process doesn't, the graph is rejected as late. If the graph
-  -- gives an order under which some item is too wide by its views, it may be rejected as too wide instead. In each case memory
-  -- may run out.
-  pub wide : (a : Admission) (x : ℕ) → Asks r a → a.graph.order ≡ None → IsWide a.graph (first_order a.graph a.order) x →
+  pub is_unsafe : r.status ≡ 7 →
+      (a : Admission) × (fault : Fault) × Stops r.shelf r.words (Unsafe a fault) × IsTold r (Unsafe a fault)
+  -- Under a status other than 0 and 3, nothing was written to `out`, with one exception. If a stream that a node
+  -- follows meets a fault of the shelf or is rejected, the lines of the records before were written.
+  pub silent : r.status ≢ 0 → r.status ≢ 3 →
+      Untouched r.out ⊎ (((r.status ≡ 2) × IsUnreadStream r) ⊎ ((r.status ≡ 4) × IsRefusedStream r))
+  -- If such a graph gives no order and some item is too wide by its views under its urgency order, it is rejected as
+  -- too wide.
+  -- Otherwise the graph is shown or packed if every process ends by its due in every scenario, under the order that the
+  -- graph gives, or under its urgency order or its track order. If some process doesn't, the graph is rejected as late.
+  -- If the graph gives an order under which some item is too wide by its views, it may be rejected as too wide instead.
+  -- In each case memory may run out.
+  pub wide : (a : Admission) (x : ℕ) → Asks r a → a.graph.order ≡ None →
+      IsWide a.graph (first_order a.graph a.order) x →
       (r.status ≡ 6) ⊎ (r.status ≡ 8)
-  pub made : (a : Admission) → Asks r a → IsTimely a.graph a.order → ((r.status ≡ 0) ⊎ (r.status ≡ 8)) ⊎ IsRefusedAsWide r a
-  pub late : (a : Admission) → Asks r a → IsLate a.graph a.order → ((r.status ≡ 5) ⊎ (r.status ≡ 8)) ⊎ IsRefusedAsWide r a
-  -- A pack is rejected as another graph's if its head is. Otherwise, a pack whose tables keep the ten rules is found safe, is
-  -- played, or serves to audit a log, and a pack whose tables don't is found unsafe. In each case memory may run out.
-  pub other : (a : Admission) (t : Tables) → AsksVerdict r a t → (IsHeadFor a.graph t.head → ⊥) → (r.status ≡ 4) ⊎ (r.status ≡ 8)
-  pub safe : (a : Admission) (t : Tables) → AsksVerdict r a t → IsHeadFor a.graph t.head → IsValid a.graph t.nodes → (r.status ≡ 0) ⊎ (r.status ≡ 8)
-  pub broken : (a : Admission) (t : Tables) → AsksVerdict r a t → IsHeadFor a.graph t.head → (IsValid a.graph t.nodes → ⊥) → (r.status ≡ 7) ⊎ (r.status ≡ 8)
-  -- The table of the first node of that name is printed. A name that no node has is rejected. In both cases memory may run out.
-  pub named : (t : Tables) (name : Text) (node : ℕ) → AsksNode r t name → first_named t.head name ≡ Some node → (r.status ≡ 0) ⊎ (r.status ≡ 8)
-  pub nameless : (t : Tables) (name : Text) → AsksNode r t name → first_named t.head name ≡ None → (r.status ≡ 4) ⊎ (r.status ≡ 8)
+  pub made : (a : Admission) → Asks r a → IsTimely a.graph a.order →
+      ((r.status ≡ 0) ⊎ (r.status ≡ 8)) ⊎ IsRefusedAsWide r a
+  pub late : (a : Admission) → Asks r a → IsLate a.graph a.order →
+      ((r.status ≡ 5) ⊎ (r.status ≡ 8)) ⊎ IsRefusedAsWide r a
+  -- A pack is rejected as another graph's if its head is. Otherwise, a pack whose tables keep the ten rules is found
+  -- safe, is played, or serves to audit a log, and a pack whose tables don't is found unsafe. In each case memory may
+  -- run out.
+  pub other : (a : Admission) (t : Tables) → AsksVerdict r a t → (IsHeadFor a.graph t.head → ⊥) →
+      (r.status ≡ 4) ⊎ (r.status ≡ 8)
+  pub safe : (a : Admission) (t : Tables) → AsksVerdict r a t → IsHeadFor a.graph t.head → IsValid a.graph t.nodes →
+      (r.status ≡ 0) ⊎ (r.status ≡ 8)
+  pub broken : (a : Admission) (t : Tables) → AsksVerdict r a t → IsHeadFor a.graph t.head →
+      (IsValid a.graph t.nodes → ⊥) →
+      (r.status ≡ 7) ⊎ (r.status ≡ 8)
+  -- The table of the first node of that name is printed. A name that no node has is rejected. In both cases memory may
+  -- run out.
+  pub named : (t : Tables) (name : Text) (node : ℕ) → AsksNode r t name → first_named t.head name ≡ Some node →
+      (r.status ≡ 0) ⊎ (r.status ≡ 8)
+  pub nameless : (t : Tables) (name : Text) → AsksNode r t name → first_named t.head name ≡ None →
+      (r.status ≡ 4) ⊎ (r.status ≡ 8)
   -- a trial of a number writes its figures, unless a sink meets a fault or memory runs out
-  pub tried : (number : ℕ) → command_of r.words ≡ Some (Trial number) → (r.status ≡ 0) ⊎ ((r.status ≡ 3) ⊎ (r.status ≡ 8))
+  pub tried : (number : ℕ) → command_of r.words ≡ Some (Trial number) →
+      (r.status ≡ 0) ⊎ ((r.status ≡ 3) ⊎ (r.status ≡ 8))
   -- an admitted graph is tuned, however late or wide it is, unless memory runs out
   pub tuned : (a : Admission) → AsksTuning r a → (r.status ≡ 0) ⊎ (r.status ≡ 8)
-  -- If parts have a graph of all their instances, it is written. If not, the parts are rejected. In both cases memory may run
-  -- out.
-  pub unrolled : (parts : List Part) (g : Graph) → AsksUnrolling r parts → ShowsUnrolled parts (Ok g) → (r.status ≡ 0) ⊎ (r.status ≡ 8)
-  pub apart : (parts : List Part) (fault : HyperFault) → AsksUnrolling r parts → ShowsUnrolled parts (Err fault) → fault ≢ OutOfMemory →
+  -- If parts have a graph of all their instances, it is written. If not, the parts are rejected. In both cases memory
+  -- may run out.
+  pub unrolled : (parts : List Part) (g : Graph) → AsksUnrolling r parts → ShowsUnrolled parts (Ok g) →
+      (r.status ≡ 0) ⊎ (r.status ≡ 8)
+  pub apart : (parts : List Part) (fault : HyperFault) → AsksUnrolling r parts → ShowsUnrolled parts (Err fault) →
+      fault ≢ OutOfMemory →
       (r.status ≡ 4) ⊎ (r.status ≡ 8)
   -- such a node follows a stream to its close, or the stream is rejected; in both cases memory may run out
-  pub followed : (t : Tables) (name bytes : Text) (node : ℕ) → AsksStream r t name bytes → first_named t.head name ≡ Some node →
+  pub followed : (t : Tables) (name bytes : Text) (node : ℕ) → AsksStream r t name bytes →
+      first_named t.head name ≡ Some node →
       (r.status ≡ status_of_end (stream_end (table_at t.nodes node) bytes)) ⊎ (r.status ≡ 8)
-  pub unfollowed : (t : Tables) (name bytes : Text) → AsksStream r t name bytes → first_named t.head name ≡ None → (r.status ≡ 4) ⊎ (r.status ≡ 8)
+  pub unfollowed : (t : Tables) (name bytes : Text) → AsksStream r t name bytes → first_named t.head name ≡ None →
+      (r.status ≡ 4) ⊎ (r.status ≡ 8)

@@ -5,7 +5,8 @@ use Rattle.cpg_words.specs.Parts.{Text}
 use Rattle.cpg_words.specs.Forms.{command_of}
 use Rattle.cpg_words.specs.declared.command.Pair.{Pair}
 use Rattle.cpg_words.specs.declared.command.Command.{Command}
-use Rattle.cpg_words.specs.declared.command.Command.TheVariants.{Show, Compile, Check, Play, Node, Trial, Live, Hyper, Tune, Audit}
+use Rattle.cpg_words.specs.declared.command.Command.TheVariants.{Show, Compile, Check, Play, Node, Trial, Live, Hyper}
+use Rattle.cpg_words.specs.declared.command.Command.TheVariants.{Tune, Audit}
 use Rattle.cpg_rules.specs.Admission.{Admission}
 use Rattle.cpg_table.specs.Lawful.{Tables}
 use Rattle.cpg_table.specs.Table.{table_at}
@@ -16,10 +17,12 @@ use Rattle.cpg_scenario.specs.File.{IsPlayed}
 use Rattle.cpg_scenario.specs.declared.reading.Played.{Played}
 use Rattle.cpg_live.specs.declared.following.TheConstants.{STREAM_LIMIT}
 use Rattle.cpg_app.specs.Causes.{first_named}
-use Rattle.cpg_app.specs.Outputs.{AreJudgedSafe, IsAuditText, IsMadeOf, IsNodeText, IsSafeText, IsTrialText, IsUnrolledText, packed, shown}
+use Rattle.cpg_app.specs.Outputs.{AreJudgedSafe, IsAuditText, IsMadeOf, IsNodeText, IsSafeText, IsTrialText}
+use Rattle.cpg_app.specs.Outputs.{IsUnrolledText, packed, shown}
 use Rattle.cpg_app.specs.Plays.{IsPlayText, world_of}
 use Rattle.cpg_app.specs.Tunes.{IsTuningText}
-use Rattle.cpg_shelf_laws.specs.Causes.{Seen, Admits, AreSaid, SaysPlayed, Spells, SaysLog, GRAPH_LIMIT, SCENARIO_LIMIT, LOG_LIMIT, PACK_LIMIT}
+use Rattle.cpg_shelf_laws.specs.Causes.{Seen, Admits, AreSaid, SaysPlayed, Spells, SaysLog, GRAPH_LIMIT, SCENARIO_LIMIT}
+use Rattle.cpg_shelf_laws.specs.Causes.{LOG_LIMIT, PACK_LIMIT}
 use Rattle.cpg_shelf_laws.specs.Streams.{IsClosed}
 
 -- the bytes are made of the graph that the file says
@@ -56,7 +59,8 @@ pub record IsPlayedText (told : Option Text) (a : Admission) (t : Tables) (numbe
 
 -- the same, with the graph of a file and the tables of a pack
 abbrev pub IsPlayOf : Option Text → Option Text → Option Text → ℕ → Text → Type 0
-IsPlayOf graph pack scenario number text = (a : Admission) × Admits graph a × IsSpelled pack (λ t. IsPlayedText scenario a t number text)
+IsPlayOf graph pack scenario number text =
+    (a : Admission) × Admits graph a × IsSpelled pack (λ t. IsPlayedText scenario a t number text)
 
 -- the text is that of the audit of a log by safe tables
 pub record IsAuditedText (told : Option Text) (a : Admission) (t : Tables) (text : Text) : Type 0 where
@@ -83,7 +87,8 @@ abbrev pub IsOutputOf : Seen → Command → Text → Type 0
 IsOutputOf seen (Show graph) text = IsMade (seen.stands graph) shown text
 IsOutputOf seen (Compile graph) text = IsMade (seen.stands graph) packed text
 IsOutputOf seen (Check graph pack) text = IsChecked (seen.stands graph) (seen.stands pack) text
-IsOutputOf seen (Play graph pack scenario turns) text = IsPlayOf (seen.stands graph) (seen.stands pack) (seen.stands scenario) turns text
+IsOutputOf seen (Play graph pack scenario turns) text =
+    IsPlayOf (seen.stands graph) (seen.stands pack) (seen.stands scenario) turns text
 IsOutputOf seen (Node pack name) text = IsNodeOf (seen.stands pack) name text
 IsOutputOf seen (Trial number) text = IsTrialText number text
 IsOutputOf seen (Live pack name stream) text = IsFollowedOf (seen.stands pack) name (seen.stands stream) text
@@ -104,8 +109,8 @@ ReadsWithin (Hyper parts) given = given ≤ GRAPH_LIMIT
 ReadsWithin (Tune graph) given = given ≤ GRAPH_LIMIT
 ReadsWithin (Audit graph pack log) given = given ≤ LOG_LIMIT
 
--- A command puts out a text. The file that it reads last gave no more bytes than its limit, even if the shelf reports nothing
--- of it.
+-- A command puts out a text. The file that it reads last gave no more bytes than its limit, even if the shelf reports
+-- nothing of it.
 pub record PrintsCommand (seen : Seen) (command : Command) (text : Text) : Type 0 where
   pub output : IsOutputOf seen command text
   pub within : ReadsWithin command seen.given

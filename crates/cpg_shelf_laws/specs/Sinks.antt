@@ -1,5 +1,5 @@
--- What a run saw of its sinks while a sink didn't have to report what it took. If a sink reports nothing, nothing is required
--- of what it took.
+-- What a run saw of its sinks while a sink didn't have to report what it took. If a sink reports nothing, nothing is
+-- required of what it took.
 use Rattle.std.specs.Prelude.{ℕ, ◌≡◌, ◌≢◌, ◌<◌, List, Option, Some, length, take}
 use Rattle.std.specs.Io.KnownBytes.{Appends, Keeps}
 use Rattle.cpg_io.specs.Causes.{Rose}
@@ -29,7 +29,8 @@ pub record Part (sink : SinkSeen) (bytes : List ℕ) : Type 0 where
   pub rose : Rose sink.before sink.now
   pub prefix : TookPrefix sink.old sink.new bytes
 
--- Bytes were sent to a sink under a status. Status 3 means that the sink met a fault; under any other they were taken whole.
+-- Bytes were sent to a sink under a status. Status 3 means that the sink met a fault; under any other they were taken
+-- whole.
 pub record Sent (sink : SinkSeen) (status wanted : ℕ) (bytes : List ℕ) : Type 0 where
   pub whole : status ≢ 3 → (status ≡ wanted) × Whole sink bytes
   pub part : status ≡ 3 → Part sink bytes

@@ -26,7 +26,8 @@ pub record IsClosed (h : Head) (table : NodeTable) (told : Option (List ℕ)) (l
   pub spelled : lines ≡ stream_lines h table bytes
 
 -- a stream that is rejected, with the lines of the records before
-pub record IsRefused (h : Head) (table : NodeTable) (told : Option (List ℕ)) (fault : StreamFault) (lines : List ℕ) : Type 0 where
+pub record IsRefused (h : Head) (table : NodeTable) (told : Option (List ℕ)) (fault : StreamFault)
+    (lines : List ℕ) : Type 0 where
   pub bytes : List ℕ
   pub of : AreBytesOf told bytes
   pub ends : stream_end table bytes ≡ Err fault
@@ -34,7 +35,8 @@ pub record IsRefused (h : Head) (table : NodeTable) (told : Option (List ℕ)) (
   pub spelled : lines ≡ stream_lines h table bytes
 
 -- the first bytes of a stream, as many as the shelf gave; their records are all lawful, and these are their lines
-pub record IsLawfulSoFar (h : Head) (table : NodeTable) (told : Option (List ℕ)) (given : ℕ) (lines : List ℕ) : Type 0 where
+pub record IsLawfulSoFar (h : Head) (table : NodeTable) (told : Option (List ℕ)) (given : ℕ)
+    (lines : List ℕ) : Type 0 where
   pub bytes : List ℕ
   pub count : given ≡ length bytes
   pub first : IfSome told (λ whole. bytes ≡ take given whole)
@@ -47,8 +49,8 @@ pub record IsCutOff (h : Head) (table : NodeTable) (told old new : Option (List 
   pub of : AreBytesOf told bytes
   pub front : TookPrefix old new (stream_lines h table bytes)
 
--- What a run sees of a stream's shelf and of `out`: the bytes of the stream, how many were given, and, before and after, the
--- counts of faults and what was taken.
+-- What a run sees of a stream's shelf and of `out`: the bytes of the stream, how many were given, and, before and
+-- after, the counts of faults and what was taken.
 pub record Stream : Type 0 where
   pub told : Option (List ℕ)
   pub given : ℕ
@@ -61,10 +63,13 @@ pub record Stream : Type 0 where
 
 -- A stream is followed to its close: all its lines are written, and no more bytes were given than the limit.
 abbrev pub Completes : Head → NodeTable → Stream → Type 0
-Completes h table r = (lines : List ℕ) × IsClosed h table r.told lines × Appends r.old r.new lines × (r.given ≤ STREAM_LIMIT)
+Completes h table r =
+    (lines : List ℕ) × IsClosed h table r.told lines × Appends r.old r.new lines × (r.given ≤ STREAM_LIMIT)
 
 -- a stream isn't followed to its close; it is too long only if more bytes were given than the limit
 abbrev pub Breaks : Head → NodeTable → Stream → Broken → Type 0
-Breaks h table r Shelf = Rose r.shelf_before r.shelf_now × ((lines : List ℕ) × IsLawfulSoFar h table r.told r.given lines × Appends r.old r.new lines)
+Breaks h table r Shelf = Rose r.shelf_before r.shelf_now ×
+    ((lines : List ℕ) × IsLawfulSoFar h table r.told r.given lines × Appends r.old r.new lines)
 Breaks h table r Sink = Rose r.out_before r.out_now × IsCutOff h table r.told r.old r.new
-Breaks h table r (Refused fault) = (lines : List ℕ) × IsRefused h table r.told fault lines × Appends r.old r.new lines × (fault ≡ Long → STREAM_LIMIT < r.given)
+Breaks h table r (Refused fault) = (lines : List ℕ) × IsRefused h table r.told fault lines × Appends r.old r.new lines ×
+    (fault ≡ Long → STREAM_LIMIT < r.given)

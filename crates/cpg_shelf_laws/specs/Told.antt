@@ -1,5 +1,5 @@
--- A run as the earlier contract saw it, which was stated over what the shelf reports for the names. The run keeps that contract
--- too.
+-- A run as the earlier contract saw it, which was stated over what the shelf reports for the names. The run keeps that
+-- contract too.
 use Rattle.cpg_io.specs.Shelf.{KeepsShelf}
 use Rattle.cpg_app.specs.Endings.{Ran as Run}
 use Rattle.cpg_app.specs.Lawful.{IsLawful as IsLawfulRun}
@@ -9,8 +9,15 @@ use Rattle.cpg_shelf_laws.specs.Lawful.{IsLawful}
 use Rattle.cpg_shelf_laws.specs.Sinks.{telling}
 
 abbrev pub told_of : Run → Ran
-told_of r = record { words = r.words; shelf = seen r.shelf.old r.shelf.new; out = telling r.out; err = telling r.err; status = r.status }
+told_of r = record {
+  words = r.words;
+  shelf = seen r.shelf.old r.shelf.new;
+  out = telling r.out;
+  err = telling r.err;
+  status = r.status;
+}
 
--- What a run says of the bytes that its fetches gave, it also says of what stands under their names, if the shelf reports that.
+-- What a run says of the bytes that its fetches gave, it also says of what stands under their names, if the shelf
+-- reports that.
 abbrev pub RunsKeepWhatWasTold : Type 0
 RunsKeepWhatWasTold = (r : Run) → IsLawfulRun r → KeepsShelf r.shelf.old r.shelf.new → IsLawful (told_of r)

@@ -1,5 +1,6 @@
 -- One more row of a sheet, and the text of tables by their rows.
-use Rattle.std.proofs.Common.{◌≡◌, ℕ, ◌+◌, List, [], ◌∷◌, ◌++◌, if◌then◌else◌, true, false, refl, flat_map, string_bytes, append-nil, sym, ap, ap₂, ◌∙◌}
+use Rattle.std.proofs.Common.{◌≡◌, ℕ, ◌+◌, List, [], ◌∷◌, ◌++◌, if◌then◌else◌, true, false, refl, flat_map}
+use Rattle.std.proofs.Common.{string_bytes, append-nil, sym, ap, ap₂, ◌∙◌}
 use Rattle.std.proofs.lemmas.Grind.{flat_map-append}
 use Rattle.cpg_base.specs.Graph.{Graph, item_count}
 use Rattle.cpg_base.specs.Numbers.{numbers_below}
@@ -9,34 +10,47 @@ use Rattle.cpg_table.specs.Writing.{row_for}
 use Rattle.cpg_label.specs.CubeText.{columns_text}
 use Rattle.cpg_label.specs.Labels.{Labels, labels_of}
 use Rattle.cpg_show.specs.Sheet.{part_text}
-use Rattle.cpg_show.specs.TableText.{head_line, is_shown, item_text, lines_of_row, order_line, table_text, text_of_rows, worst_line}
+use Rattle.cpg_show.specs.TableText.{head_line, is_shown, item_text, lines_of_row, order_line, table_text, text_of_rows}
+use Rattle.cpg_show.specs.TableText.{worst_line}
 use Rattle.cpg_show.specs.declared.sheet.SheetPart.{SheetPart}
 
-pushed : (labels : Labels) (rows : List SheetPart) (part : SheetPart) → flat_map (part_text labels) (rows ++ part ∷ []) ≡ flat_map (part_text labels) rows ++ part_text labels part
-pushed labels rows part = flat_map-append (part_text labels) rows (part ∷ []) ∙ ap (λ t. flat_map (part_text labels) rows ++ t) (append-nil (part_text labels part))
+pushed : (labels : Labels) (rows : List SheetPart) (part : SheetPart) →
+    flat_map (part_text labels) (rows ++ part ∷ []) ≡ flat_map (part_text labels) rows ++ part_text labels part
+pushed labels rows part = flat_map-append (part_text labels) rows (part ∷ [])
+    ∙ ap (λ t. flat_map (part_text labels) rows ++ t) (append-nil (part_text labels part))
 
 module _ (g : Graph) (made : List Row) (labels : Labels) (n : ℕ) (rows : List SheetPart) where
-  next : flat_map (lines_of_row g made) (numbers_below (n + 1)) ≡ flat_map (lines_of_row g made) (numbers_below n) ++ lines_of_row g made n
-  next = ap (flat_map (lines_of_row g made)) (below_push n) ∙ flat_map-append (lines_of_row g made) (numbers_below n) (n ∷ []) ∙
+  next : flat_map (lines_of_row g made) (numbers_below (n + 1)) ≡ flat_map (lines_of_row g made) (numbers_below n)
+      ++ lines_of_row g made n
+  next = ap (flat_map (lines_of_row g made)) (below_push n)
+      ∙ flat_map-append (lines_of_row g made) (numbers_below n) (n ∷ []) ∙
       ap (λ t. flat_map (lines_of_row g made) (numbers_below n) ++ t) (append-nil (lines_of_row g made n))
 
   -- an item without lines
-  pub hidden_more : is_shown g n ≡ false → flat_map (lines_of_row g made) (numbers_below n) ≡ flat_map (part_text labels) rows →
+  pub hidden_more : is_shown g n ≡ false →
+      flat_map (lines_of_row g made) (numbers_below n) ≡ flat_map (part_text labels) rows →
       flat_map (lines_of_row g made) (numbers_below (n + 1)) ≡ flat_map (part_text labels) rows
   hidden_more hidden e =
       let none : lines_of_row g made n ≡ [] = rw hidden refl in
-      next ∙ ap (λ t. flat_map (lines_of_row g made) (numbers_below n) ++ t) none ∙ append-nil (flat_map (lines_of_row g made) (numbers_below n)) ∙ e
+      next ∙ ap (λ t. flat_map (lines_of_row g made) (numbers_below n) ++ t) none
+      ∙ append-nil (flat_map (lines_of_row g made) (numbers_below n)) ∙ e
 
   -- an item with lines
-  pub shown_more : (part : SheetPart) → is_shown g n ≡ true → labels ≡ labels_of g → string_bytes part.head ≡ head_line g n → part.columns.now ≡ (row_for made n).columns →
-      flat_map (lines_of_row g made) (numbers_below n) ≡ flat_map (part_text labels) rows → flat_map (lines_of_row g made) (numbers_below (n + 1)) ≡ flat_map (part_text labels) (rows ++ part ∷ [])
+  pub shown_more : (part : SheetPart) → is_shown g n ≡ true → labels ≡ labels_of g →
+      string_bytes part.head ≡ head_line g n →
+      part.columns.now ≡ (row_for made n).columns →
+      flat_map (lines_of_row g made) (numbers_below n) ≡ flat_map (part_text labels) rows →
+      flat_map (lines_of_row g made) (numbers_below (n + 1)) ≡ flat_map (part_text labels) (rows ++ part ∷ [])
   shown_more part shown names head columns e =
-      let one : lines_of_row g made n ≡ part_text labels part = rw shown (sym (ap₂ (λ h cs. h ++ cs) head (ap₂ columns_text names columns))) in
+      let one : lines_of_row g made n ≡ part_text labels part =
+      rw shown (sym (ap₂ (λ h cs. h ++ cs) head (ap₂ columns_text names columns))) in
       next ∙ ap₂ (λ before last. before ++ last) e one ∙ sym (pushed labels rows part)
 
 -- tables that have these rows have their text
-pub tables_have_text : (g : Graph) (order : List ℕ) (rows : List Row) (worst : ℕ) (tables : List NodeTable) → ((x : ℕ) → columns_of tables x ≡ (row_for rows x).columns) →
+pub tables_have_text : (g : Graph) (order : List ℕ) (rows : List Row) (worst : ℕ) (tables : List NodeTable) →
+    ((x : ℕ) → columns_of tables x ≡ (row_for rows x).columns) →
     table_text g order tables worst ≡ text_of_rows g order rows worst
 tables_have_text g order rows worst tables same =
-    ap (λ lines. order_line g order ++ worst_line worst ++ lines) (same_flat_map (item_text g tables) (lines_of_row g rows) (numbers_below (item_count g))
+    ap (λ lines. order_line g order ++ worst_line worst ++ lines)
+    (same_flat_map (item_text g tables) (lines_of_row g rows) (numbers_below (item_count g))
     (λ x c. ap (λ columns. if is_shown g x then head_line g x ++ columns_text (labels_of g) columns else []) (same x)))

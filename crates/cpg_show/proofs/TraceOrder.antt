@@ -1,5 +1,6 @@
 -- The order of a trace: the derived order keeps it, and if no two events have one key there is one such order.
-use Rattle.std.proofs.Common.{◌≡◌, ◌≢◌, ℕ, ◌+◌, Bool, true, false, not, ◌&&◌, List, ◌++◌, get_or, flat_map, AllPairs, IsPermutation, Ordering, Less, Equal, Greater, arith, refl, sym, ap, ◌∙◌}
+use Rattle.std.proofs.Common.{◌≡◌, ◌≢◌, ℕ, ◌+◌, Bool, true, false, not, ◌&&◌, List, ◌++◌, get_or, flat_map, AllPairs}
+use Rattle.std.proofs.Common.{IsPermutation, Ordering, Less, Equal, Greater, arith, refl, sym, ap, ◌∙◌}
 use Rattle.std.proofs.Common.{true≢false}
 use Rattle.std.specs.Ordering.{nat_cmp, is_lt, ordering_then}
 use Rattle.std.specs.Cmp.{IsStrictWeakOrder}
@@ -20,7 +21,8 @@ use Rattle.cpg_show.specs.TraceEvents.{EventKind, TraceEvent, AreToldInOrder, al
 use Rattle.cpg_show.specs.TraceText.{IsTraceText, event_line, finish_line}
 
 -- what is not less stays so when the later part is replaced by one that is not less either
-then_weaker : (o p q : Ordering) → (is_lt p ≡ false → is_lt q ≡ false) → is_lt (ordering_then o p) ≡ false → is_lt (ordering_then o q) ≡ false
+then_weaker : (o p q : Ordering) → (is_lt p ≡ false → is_lt q ≡ false) → is_lt (ordering_then o p) ≡ false →
+    is_lt (ordering_then o q) ≡ false
 then_weaker Less p q h k = k
 then_weaker Equal p q h k = h k
 then_weaker Greater p q h k = k
@@ -42,9 +44,11 @@ kind_order (Start p) (End q g w) h = refl
 kind_order (Start p) (Send y) h = refl
 kind_order (Start p) (Start q) h = then_equal (nat_cmp p q) h
 
-event_order : (a b : TraceEvent) → is_lt ((event_ord.ghosts).cmp a b) ≡ false → is_below (event_key a) (event_key b) ≡ false
+event_order : (a b : TraceEvent) → is_lt ((event_ord.ghosts).cmp a b) ≡ false →
+    is_below (event_key a) (event_key b) ≡ false
 event_order a b h = then_weaker (nat_cmp a.time b.time) _ _
-    (then_weaker (nat_cmp a.node b.node) ((kind_ord.ghosts).cmp a.kind b.kind) (slice_cmp nat_cmp (kind_key a.kind) (kind_key b.kind)) (kind_order a.kind b.kind)) h
+    (then_weaker (nat_cmp a.node b.node) ((kind_ord.ghosts).cmp a.kind b.kind)
+    (slice_cmp nat_cmp (kind_key a.kind) (kind_key b.kind)) (kind_order a.kind b.kind)) h
 
 -- one event comes before another
 abbrev is_event_below : TraceEvent → TraceEvent → Bool
@@ -54,8 +58,10 @@ is_total : IsStrictWeakOrder is_event_below
 is_total = ranks_by nat_list_cmp_total event_key
 
 -- a sort by the derived order gives the order of a trace
-pub in_order : (events : List TraceEvent) → IsSorted (event_ord.ghosts).cmp events → AllPairs (λ a b. is_below (event_key b) (event_key a) ≡ false) events
-in_order events up i j d h l = sorted_far is_event_below is_total events (λ k e m n. event_order (get_or events (k + 1) e) (get_or events k e) (up k e m n)) i j d (omega arith) l
+pub in_order : (events : List TraceEvent) → IsSorted (event_ord.ghosts).cmp events →
+    AllPairs (λ a b. is_below (event_key b) (event_key a) ≡ false) events
+in_order events up i j d h l = sorted_far is_event_below is_total events
+    (λ k e m n. event_order (get_or events (k + 1) e) (get_or events k e) (up k e m n)) i j d (omega arith) l
 
 -- ---- if no two events have one key there is one order, and one text
 
@@ -79,21 +85,31 @@ before_from true y h k = refl
 before_from false true h k = absurd (true≢false k)
 before_from false false h k = absurd (true≢false h)
 
-rises : (xs ys : List TraceEvent) → AllPairs (λ a b. event_key a ≢ event_key b) xs → IsPermutation xs ys → AllPairs (λ a b. is_below (event_key b) (event_key a) ≡ false) ys →
+rises : (xs ys : List TraceEvent) → AllPairs (λ a b. event_key a ≢ event_key b) xs → IsPermutation xs ys →
+    AllPairs (λ a b. is_below (event_key b) (event_key a) ≡ false) ys →
     AllPairs (λ a b. is_event_below a b ≡ true) ys
-rises xs ys apart p up i j d h l = before_from (is_event_below (get_or ys i d) (get_or ys j d)) (is_event_below (get_or ys j d) (get_or ys i d))
+rises xs ys apart p up i j d h l =
+    before_from (is_event_below (get_or ys i d) (get_or ys j d)) (is_event_below (get_or ys j d) (get_or ys i d))
     (apart_from_distinct is_tied ys i j d
     (IsDistinct-IsPermutation is_tied (λ a b. and_flips (is_event_below a b) (is_event_below b a)) xs ys p
-    (IsDistinct-from_apart is_tied xs (λ m n e k o. not_both (is_event_below (get_or xs m e) (get_or xs n e)) (is_event_below (get_or xs n e) (get_or xs m e))
+    (IsDistinct-from_apart is_tied xs (λ m n e k o.
+    not_both (is_event_below (get_or xs m e) (get_or xs n e)) (is_event_below (get_or xs n e) (get_or xs m e))
     (λ f b. apart m n e k o (below_total (event_key (get_or xs m e)) (event_key (get_or xs n e)) f b)))))
     h l)
     (up i j d h l)
 
-one_events : (g : Graph) (acts : List (List Act)) (ends : List (List (ℕ × Ended))) (xs ys : List TraceEvent) → AllPairs (λ a b. event_key a ≢ event_key b) (all_events g acts ends) →
+one_events : (g : Graph) (acts : List (List Act)) (ends : List (List (ℕ × Ended))) (xs ys : List TraceEvent) →
+    AllPairs (λ a b. event_key a ≢ event_key b) (all_events g acts ends) →
     AreToldInOrder g acts ends xs → AreToldInOrder g acts ends ys → xs ≡ ys
-one_events g acts ends xs ys apart a b = one_order (λ a b. is_event_below a b ≡ true) (λ x y h k. true≢false (sym k ∙ below_one_way (event_key x) (event_key y) h))
-    (all_events g acts ends) xs ys a.all b.all (rises (all_events g acts ends) xs apart a.all a.in_order) (rises (all_events g acts ends) ys apart b.all b.in_order)
+one_events g acts ends xs ys apart a b = one_order (λ a b. is_event_below a b ≡ true)
+    (λ x y h k. true≢false (sym k ∙ below_one_way (event_key x) (event_key y) h))
+    (all_events g acts ends) xs ys a.all b.all (rises (all_events g acts ends) xs apart a.all a.in_order)
+    (rises (all_events g acts ends) ys apart b.all b.in_order)
 
-pub one_text : (g : Graph) (lengths : List ℕ) (acts : List (List Act)) (ends : List (List (ℕ × Ended))) (text other : List ℕ) → AllPairs (λ a b. event_key a ≢ event_key b) (all_events g acts ends)
+pub one_text : (g : Graph) (lengths : List ℕ) (acts : List (List Act)) (ends : List (List (ℕ × Ended)))
+    (text other : List ℕ) →
+    AllPairs (λ a b. event_key a ≢ event_key b) (all_events g acts ends)
     → IsTraceText g lengths acts ends text → IsTraceText g lengths acts ends other → text ≡ other
-one_text g lengths acts ends text other apart (xs, a, t) (ys, b, u) = t ∙ ap (λ events. flat_map (event_line g lengths) events ++ finish_line g ends) (one_events g acts ends xs ys apart a b) ∙ sym u
+one_text g lengths acts ends text other apart (xs, a, t) (ys, b, u) =
+    t ∙ ap (λ events. flat_map (event_line g lengths) events ++ finish_line g ends)
+    (one_events g acts ends xs ys apart a b) ∙ sym u

@@ -1,5 +1,6 @@
 -- One more node of a trace, and that all of its events are of items of the graph.
-use Rattle.std.proofs.Common.{◌≡◌, ℕ, ◌+◌, ◌<◌, List, [], ◌++◌, length, get_or, map, flat_map, fold, max, All, refl, sym, ap, ◌∙◌, subst, inl, inr}
+use Rattle.std.proofs.Common.{◌≡◌, ℕ, ◌+◌, ◌<◌, List, [], ◌++◌, length, get_or, map, flat_map, fold, max, All, refl}
+use Rattle.std.proofs.Common.{sym, ap, ◌∙◌, subst, inl, inr}
 use Rattle.std.proofs.lemmas.List.{append_assoc}
 use Rattle.std.proofs.lemmas.List.Elements.{All-append, All-contains, All-map, Contains-get_or}
 use Rattle.std.proofs.lemmas.List.Sums.{fold-append}
@@ -9,15 +10,20 @@ use Rattle.cpg_base.specs.declared.item.Item.{Item}
 use Rattle.cpg_base.proofs.Items.{item_cases}
 use Rattle.cpg_base.proofs.Lists.{Contains-flat_map_parts, numbers-Contains}
 use Rattle.cpg_node.specs.Dispatcher.{Act, Ended}
-use Rattle.cpg_show.specs.TraceEvents.{TraceEvent, IsActWithin, IsKindWithin, IsEndWithin, all_events, kind_of, event_of_act, event_of_end, node_events}
+use Rattle.cpg_show.specs.TraceEvents.{TraceEvent, IsActWithin, IsKindWithin, IsEndWithin, all_events, kind_of}
+use Rattle.cpg_show.specs.TraceEvents.{event_of_act, event_of_end, node_events}
 use Rattle.cpg_show.specs.TraceText.{end_times}
 use Rattle.cpg_label.proofs.Steps.{next_piece}
 
 module _ (g : Graph) (acts : List (List Act)) (ends : List (List (ℕ × Ended))) where
-  pub one_node : (i : ℕ) (before middle after : List TraceEvent) → before ≡ flat_map (node_events g acts ends) (numbers_below i) → middle ≡ before ++ map (event_of_act g i) (get_or acts i [])
-      → after ≡ middle ++ map (event_of_end i) (get_or ends i []) → after ≡ flat_map (node_events g acts ends) (numbers_below (i + 1))
+  pub one_node : (i : ℕ) (before middle after : List TraceEvent) →
+      before ≡ flat_map (node_events g acts ends) (numbers_below i) →
+      middle ≡ before ++ map (event_of_act g i) (get_or acts i [])
+      → after ≡ middle ++ map (event_of_end i) (get_or ends i []) →
+      after ≡ flat_map (node_events g acts ends) (numbers_below (i + 1))
   one_node i before middle after is m a = sym (next_piece (node_events g acts ends) i [] before after (sym is)
-      (a ∙ ap (λ xs. xs ++ map (event_of_end i) (get_or ends i [])) m ∙ append_assoc before (map (event_of_act g i) (get_or acts i [])) (map (event_of_end i) (get_or ends i []))))
+      (a ∙ ap (λ xs. xs ++ map (event_of_end i) (get_or ends i [])) m
+      ∙ append_assoc before (map (event_of_act g i) (get_or acts i [])) (map (event_of_end i) (get_or ends i []))))
 
   kind_within : (x : ℕ) → x < item_count g → IsKindWithin g (kind_of (item_at g x) x)
   kind_within x l = elim (item_cases g x l) [
@@ -26,20 +32,31 @@ module _ (g : Graph) (acts : List (List Act)) (ends : List (List (ℕ × Ended))
     | inr (inr c) ↦ subst (λ (i : Item). IsKindWithin g (kind_of i x)) (sym c.3) l
   ]
 
-  node_within : (i : ℕ) → All (IsActWithin g) (get_or acts i []) → All (IsEndWithin g) (get_or ends i []) → All (λ e. IsKindWithin g e.kind) (node_events g acts ends i)
-  node_within i a h = All-append (λ (e : TraceEvent). IsKindWithin g e.kind) (map (event_of_act g i) (get_or acts i [])) (map (event_of_end i) (get_or ends i []))
-      (All-map (λ (e : TraceEvent). IsKindWithin g e.kind) (event_of_act g i) (get_or acts i []) (λ k d l. kind_within (get_or (get_or acts i []) k d).item (a k d l)))
-      (All-map (λ (e : TraceEvent). IsKindWithin g e.kind) (event_of_end i) (get_or ends i []) (λ k d l. ((h k d l).process, (h k d l).faults)))
+  node_within : (i : ℕ) → All (IsActWithin g) (get_or acts i []) → All (IsEndWithin g) (get_or ends i []) →
+      All (λ e. IsKindWithin g e.kind) (node_events g acts ends i)
+  node_within i a h = All-append (λ (e : TraceEvent). IsKindWithin g e.kind) (map (event_of_act g i) (get_or acts i []))
+      (map (event_of_end i) (get_or ends i []))
+      (All-map (λ (e : TraceEvent). IsKindWithin g e.kind) (event_of_act g i) (get_or acts i [])
+      (λ k d l. kind_within (get_or (get_or acts i []) k d).item (a k d l)))
+      (All-map (λ (e : TraceEvent). IsKindWithin g e.kind) (event_of_end i) (get_or ends i [])
+      (λ k d l. ((h k d l).process, (h k d l).faults)))
 
-  pub all_within : ((i : ℕ) → i < length g.nodes → All (IsActWithin g) (get_or acts i [])) → ((i : ℕ) → i < length g.nodes → All (IsEndWithin g) (get_or ends i [])) →
+  pub all_within : ((i : ℕ) → i < length g.nodes → All (IsActWithin g) (get_or acts i [])) →
+      ((i : ℕ) → i < length g.nodes → All (IsEndWithin g) (get_or ends i [])) →
       All (λ e. IsKindWithin g e.kind) (all_events g acts ends)
   all_within a h k d l =
-      let there = Contains-flat_map_parts (node_events g acts ends) (numbers_below (length g.nodes)) (get_or (all_events g acts ends) k d) (Contains-get_or (all_events g acts ends) k d l) in
+      let there = Contains-flat_map_parts (node_events g acts ends) (numbers_below (length g.nodes))
+      (get_or (all_events g acts ends) k d) (Contains-get_or (all_events g acts ends) k d l) in
       let i = numbers-Contains (length g.nodes) there.0 there.1 in
-      All-contains (λ (e : TraceEvent). IsKindWithin g e.kind) (node_events g acts ends there.0) (get_or (all_events g acts ends) k d) (node_within there.0 (a there.0 i) (h there.0 i)) there.2
+      All-contains (λ (e : TraceEvent). IsKindWithin g e.kind) (node_events g acts ends there.0)
+      (get_or (all_events g acts ends) k d) (node_within there.0 (a there.0 i) (h there.0 i)) there.2
 
 -- the greatest end, of one node more
-pub one_finish : (ends : List (List (ℕ × Ended))) (i before after : ℕ) → before ≡ greatest (flat_map (end_times ends) (numbers_below i)) → after ≡ fold max before (end_times ends i) →
+pub one_finish : (ends : List (List (ℕ × Ended))) (i before after : ℕ) →
+    before ≡ greatest (flat_map (end_times ends) (numbers_below i)) →
+    after ≡ fold max before (end_times ends i) →
     after ≡ greatest (flat_map (end_times ends) (numbers_below (i + 1)))
-one_finish ends i before after is a = a ∙ ap (λ n. fold max n (end_times ends i)) is ∙ sym (fold-append max 0 (flat_map (end_times ends) (numbers_below i)) (end_times ends i))
-    ∙ sym (ap greatest (next_piece (end_times ends) i [] (flat_map (end_times ends) (numbers_below i)) (flat_map (end_times ends) (numbers_below i) ++ end_times ends i) refl refl))
+one_finish ends i before after is a = a ∙ ap (λ n. fold max n (end_times ends i)) is
+    ∙ sym (fold-append max 0 (flat_map (end_times ends) (numbers_below i)) (end_times ends i))
+    ∙ sym (ap greatest (next_piece (end_times ends) i [] (flat_map (end_times ends) (numbers_below i))
+    (flat_map (end_times ends) (numbers_below i) ++ end_times ends i) refl refl))

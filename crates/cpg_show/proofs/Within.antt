@@ -1,5 +1,6 @@
 -- What nodes have done in a play is of items and processes of the graph, with faults within its number.
-use Rattle.std.proofs.Common.{ℕ, ◌≡◌, ◌<◌, ◌≤◌, ◌==◌, List, [], All, Contains, length, get_or, ap, subst, arith, inl, inr}
+use Rattle.std.proofs.Common.{ℕ, ◌≡◌, ◌<◌, ◌≤◌, ◌==◌, List, [], All, Contains, length, get_or, ap, subst, arith, inl}
+use Rattle.std.proofs.Common.{inr}
 use Rattle.std.proofs.lemmas.Bool.{cases_lt}
 use Rattle.std.proofs.lemmas.List.{get_or_past}
 use Rattle.std.proofs.lemmas.List.Elements.{All-weaker, All-contains_itself}
@@ -31,7 +32,8 @@ module _ (p : Playing) (is : IsPlaying p) where
   acts_within node l =
       let acts : List Act = get_or p.cluster.acts node [] in
       let done = ((played_reached k p.cluster is.played).holds node l).done in
-      All-weaker (Contains acts) (IsActWithin p.graph) (λ a h. (done.only a h).0.row.within) acts (All-contains_itself acts)
+      All-weaker (Contains acts) (IsActWithin p.graph) (λ a h. (done.only a h).0.row.within) acts
+      (All-contains_itself acts)
 
   ends_within : (node : ℕ) → node < length p.graph.nodes → All (IsEndWithin p.graph) (get_or p.cluster.ends node [])
   ends_within node l =
@@ -40,15 +42,25 @@ module _ (p : Playing) (is : IsPlaying p) where
       let h = ended_by k p.cluster is.played node l in
       All-weaker (Contains ends) (IsEndWithin g) (λ q m.
       let planned = (h.only q m).0 in
-      let here = numbers-Contains (process_count g) planned.process (Contains-filter_parts (λ r. node_of g r == node) (numbers_below (process_count g)) planned.process planned.on).0 in
+      let here = numbers-Contains (process_count g) planned.process (Contains-filter_parts (λ r. node_of g r == node)
+      (numbers_below (process_count g)) planned.process planned.on).0 in
       let same : planned.process ≡ q.1.process = ap (λ (e : Ended). e.process) planned.is in
       let faults : fault_of p.world.scenario planned.process ≡ q.1.faults = ap (λ (e : Ended). e.faults) planned.is in
-      record { process = omega (arith, here, same); faults = omega (arith, faults, fault_within g p.world.scenario is.world.scenario planned.process) }) ends (All-contains_itself ends)
+      record {
+        process = omega (arith, here, same);
+        faults = omega (arith, faults, fault_within g p.world.scenario is.world.scenario planned.process);
+      }) ends (All-contains_itself ends)
 
 -- The same of the graph as code sees it.
 
-pub acts_at : (p : Playing) → IsPlaying p → (g : Graph) → p.graph ≡ g → (node : ℕ) → node < length g.nodes → All (IsActWithin g) (get_or p.cluster.acts node [])
-acts_at p is g same = subst (λ (g : Graph). (node : ℕ) → node < length g.nodes → All (IsActWithin g) (get_or p.cluster.acts node [])) same (acts_within p is)
+pub acts_at : (p : Playing) → IsPlaying p → (g : Graph) → p.graph ≡ g → (node : ℕ) → node < length g.nodes →
+    All (IsActWithin g) (get_or p.cluster.acts node [])
+acts_at p is g same =
+    subst (λ (g : Graph). (node : ℕ) → node < length g.nodes → All (IsActWithin g) (get_or p.cluster.acts node [])) same
+    (acts_within p is)
 
-pub ends_at : (p : Playing) → IsPlaying p → (g : Graph) → p.graph ≡ g → (node : ℕ) → node < length g.nodes → All (IsEndWithin g) (get_or p.cluster.ends node [])
-ends_at p is g same = subst (λ (g : Graph). (node : ℕ) → node < length g.nodes → All (IsEndWithin g) (get_or p.cluster.ends node [])) same (ends_within p is)
+pub ends_at : (p : Playing) → IsPlaying p → (g : Graph) → p.graph ≡ g → (node : ℕ) → node < length g.nodes →
+    All (IsEndWithin g) (get_or p.cluster.ends node [])
+ends_at p is g same =
+    subst (λ (g : Graph). (node : ℕ) → node < length g.nodes → All (IsEndWithin g) (get_or p.cluster.ends node [])) same
+    (ends_within p is)

@@ -18,7 +18,8 @@ hear_row labels row = hear_text labels (item_of labels row.item) ++ codes "\n" +
 
 -- the lines of all rows of a table
 abbrev pub rows_text : Labels → NodeTable → List ℕ
-rows_text labels t = flat_map (act_row labels) t.starts ++ flat_map (act_row labels) t.sends ++ flat_map (hear_row labels) t.hears
+rows_text labels t =
+    flat_map (act_row labels) t.starts ++ flat_map (act_row labels) t.sends ++ flat_map (hear_row labels) t.hears
 
 -- the line of a node's name
 abbrev pub name_line : Head → ℕ → List ℕ

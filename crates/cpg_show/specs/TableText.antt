@@ -40,14 +40,17 @@ worst_line worst = codes "worst " ++ decimal worst ++ codes "\n"
 
 -- the text of tables: the order, the greatest finish, and the items by number
 abbrev pub table_text : Graph → List ℕ → List NodeTable → ℕ → List ℕ
-table_text g order tables worst = order_line g order ++ worst_line worst ++ flat_map (item_text g tables) (numbers_below (item_count g))
+table_text g order tables worst =
+    order_line g order ++ worst_line worst ++ flat_map (item_text g tables) (numbers_below (item_count g))
 
 -- ---- by rows
 
 -- the lines of an item with the columns of its row
 abbrev pub lines_of_row : Graph → List Row → ℕ → List ℕ
-lines_of_row g rows x = if is_shown g x then head_line g x ++ columns_text (labels_of g) (row_for rows x).columns else []
+lines_of_row g rows x = if is_shown g x
+    then head_line g x ++ columns_text (labels_of g) (row_for rows x).columns else []
 
 -- the text of tables that have these rows, one for each item by number
 abbrev pub text_of_rows : Graph → List ℕ → List Row → ℕ → List ℕ
-text_of_rows g order rows worst = order_line g order ++ worst_line worst ++ flat_map (lines_of_row g rows) (numbers_below (item_count g))
+text_of_rows g order rows worst =
+    order_line g order ++ worst_line worst ++ flat_map (lines_of_row g rows) (numbers_below (item_count g))

@@ -1,5 +1,6 @@
 -- What the nodes did, as events, and the order of these in a trace.
-use Rattle.std.specs.Prelude.{ℕ, ◌≡◌, ◌≤◌, ◌<◌, false, List, [], ◌∷◌, ◌++◌, map, get_or, length, IsPermutation, AllPairs}
+use Rattle.std.specs.Prelude.{ℕ, ◌≡◌, ◌≤◌, ◌<◌, false, List, [], ◌∷◌, ◌++◌, map, get_or, length, IsPermutation}
+use Rattle.std.specs.Prelude.{AllPairs}
 use Rattle.std.specs.List.{flat_map}
 use Rattle.cpg_base.specs.Numbers.{numbers_below, is_below}
 use Rattle.cpg_base.specs.Graph.{Graph, item_at, item_count, process_count}
@@ -34,7 +35,8 @@ event_of_end node e = record { time = e.0; node = node; kind = End e.1.process e
 
 -- what one node did, out of the acts and the ends of all nodes
 abbrev pub node_events : Graph → List (List Act) → List (List (ℕ × Ended)) → ℕ → List TraceEvent
-node_events g acts ends node = map (event_of_act g node) (get_or acts node []) ++ map (event_of_end node) (get_or ends node [])
+node_events g acts ends node =
+    map (event_of_act g node) (get_or acts node []) ++ map (event_of_end node) (get_or ends node [])
 
 -- what all nodes did
 abbrev pub all_events : Graph → List (List Act) → List (List (ℕ × Ended)) → List TraceEvent
@@ -51,7 +53,8 @@ abbrev pub event_key : TraceEvent → List ℕ
 event_key e = e.time ∷ e.node ∷ kind_key e.kind
 
 -- all events, in order; if no two of them have the same key, there is just one such list
-pub record AreToldInOrder (g : Graph) (acts : List (List Act)) (ends : List (List (ℕ × Ended))) (events : List TraceEvent) : Type 0 where
+pub record AreToldInOrder (g : Graph) (acts : List (List Act)) (ends : List (List (ℕ × Ended)))
+    (events : List TraceEvent) : Type 0 where
   pub all : IsPermutation (all_events g acts ends) events
   pub in_order : AllPairs (λ a b. is_below (event_key b) (event_key a) ≡ false) events
 

@@ -16,7 +16,8 @@ use Rattle.cpg_label.specs.ItemText.{done_text}
 
 -- the value of a process's condition, or nothing if it has none
 abbrev pub outcome_text : Graph → ℕ → Bool → List ℕ
-outcome_text g process value = if is_some (condition_of g process) then codes " value " ++ value_text (number_of_value value) else []
+outcome_text g process value = if is_some (condition_of g process)
+    then codes " value " ++ value_text (number_of_value value) else []
 
 -- how long an execution ran, if that is less than its full duration
 abbrev pub ran_text : ℕ → ℕ → List ℕ
@@ -24,7 +25,8 @@ ran_text length full = if nat_lt length full then codes " ran " ++ decimal lengt
 
 -- the end of an execution
 abbrev pub end_text : Graph → List ℕ → ℕ → ℕ → Bool → List ℕ
-end_text g lengths process faults value = codes "end " ++ process_name (labels_of g) process ++ codes " faults " ++ decimal faults
+end_text g lengths process faults value =
+    codes "end " ++ process_name (labels_of g) process ++ codes " faults " ++ decimal faults
     ++ outcome_text g process value ++ ran_text (get_or lengths process 0) (duration g process faults)
 
 -- what a node did
@@ -35,7 +37,8 @@ kind_text g lengths (Start process) = done_text (labels_of g) (StartItem process
 
 -- the line of an event: its time, its node, and what it was
 abbrev pub event_line : Graph → List ℕ → TraceEvent → List ℕ
-event_line g lengths e = decimal e.time ++ codes " " ++ get_or g.nodes e.node [] ++ codes " " ++ kind_text g lengths e.kind ++ codes "\n"
+event_line g lengths e =
+    decimal e.time ++ codes " " ++ get_or g.nodes e.node [] ++ codes " " ++ kind_text g lengths e.kind ++ codes "\n"
 
 -- when executions of a node ended
 abbrev pub end_times : List (List (ℕ × Ended)) → ℕ → List ℕ

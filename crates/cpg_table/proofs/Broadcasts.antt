@@ -1,5 +1,6 @@
 -- The broadcasts of a node, process by process.
-use Rattle.std.proofs.Common.{◌≡◌, ℕ, ◌+◌, ◌<◌, ◌≤◌, Bool, true, false, cond, ◌&&◌, List, [], ◌∷◌, ◌++◌, length, get_or, drop, filter, refl, sym, ap, ap₂, ◌∙◌, append_assoc, append-nil, arith}
+use Rattle.std.proofs.Common.{◌≡◌, ℕ, ◌+◌, ◌<◌, ◌≤◌, Bool, true, false, cond, ◌&&◌, List, [], ◌∷◌, ◌++◌, length, get_or}
+use Rattle.std.proofs.Common.{drop, filter, refl, sym, ap, ap₂, ◌∙◌, append_assoc, append-nil, arith}
 use Rattle.std.proofs.Common.{add-one, drop-cons}
 use Rattle.cpg_head.specs.declared.head_parts.HeadProcess.{HeadProcess}
 use Rattle.cpg_table.specs.Items.{numbers_where}
@@ -11,7 +12,9 @@ pub few_on : (c : Bool) (i n k : ℕ) → i ≤ n + k → cond c (i + 1) i ≤ n
 few_on true i n k h = omega arith
 few_on false i n k h = omega arith
 
-either : (c b : Bool) (i : ℕ) (front : List ℕ) (more : ℕ → List ℕ) → (front ++ cond (c && b) (i ∷ []) []) ++ more (cond c (i + 1) i) ≡ front ++ cond c (cond b (i ∷ more (i + 1)) (more (i + 1)))
+either : (c b : Bool) (i : ℕ) (front : List ℕ) (more : ℕ → List ℕ) →
+    (front ++ cond (c && b) (i ∷ []) []) ++ more (cond c (i + 1) i) ≡ front
+    ++ cond c (cond b (i ∷ more (i + 1)) (more (i + 1)))
     (more i)
 either true true i front more = append_assoc front (i ∷ []) (more (i + 1))
 either true false i front more = ap (λ (t : List ℕ). t ++ more (i + 1)) (append-nil front)
@@ -21,20 +24,26 @@ module _ (test : HeadProcess → Bool) where
   abbrev numbers : ℕ → List HeadProcess → List ℕ
   numbers i ps = numbers_where test i (filter has_condition ps)
 
-  opened : (i : ℕ) (x : HeadProcess) (rest : List HeadProcess) (c : Bool) → numbers_where test i (cond c (x ∷ filter has_condition rest) (filter has_condition rest)) ≡ cond c
+  opened : (i : ℕ) (x : HeadProcess) (rest : List HeadProcess) (c : Bool) →
+      numbers_where test i (cond c (x ∷ filter has_condition rest) (filter has_condition rest)) ≡ cond c
       (cond (test x) (i ∷ numbers (i + 1) rest) (numbers (i + 1) rest)) (numbers i rest)
   opened i x rest true = refl
   opened i x rest false = refl
 
-  drop_is : (ps : List HeadProcess) (k : ℕ) (x : HeadProcess) → k < length ps → drop k ps ≡ get_or ps k x ∷ drop (k + 1) ps
+  drop_is : (ps : List HeadProcess) (k : ℕ) (x : HeadProcess) → k < length ps →
+      drop k ps ≡ get_or ps k x ∷ drop (k + 1) ps
   drop_is ps k x h = rw (add-one, drop-cons ps k x) refl
 
-  pub broadcasts_on : (ps : List HeadProcess) (k i j : ℕ) (x : HeadProcess) (w : Bool) (front after total : List ℕ) → x ≡ get_or ps k x → k < length ps → w ≡ (x.condition && test x) →
+  pub broadcasts_on : (ps : List HeadProcess) (k i j : ℕ) (x : HeadProcess) (w : Bool) (front after total : List ℕ) →
+      x ≡ get_or ps k x → k < length ps →
+      w ≡ (x.condition && test x) →
       after ≡ front ++ cond w (i ∷ []) [] → j ≡ cond x.condition (i + 1) i
       → front ++ numbers i (drop k ps) ≡ total → after ++ numbers j (drop (k + 1) ps) ≡ total
   broadcasts_on ps k i j x w front after total is lt ew ea ej so_far =
-      let d : drop k ps ≡ x ∷ drop (k + 1) ps = drop_is ps k x lt ∙ ap (λ (y : HeadProcess). y ∷ drop (k + 1) ps) (sym is) in
-      ap₂ (λ (t : List ℕ) (m : ℕ). t ++ numbers m (drop (k + 1) ps)) (ea ∙ ap (λ (v : Bool). front ++ cond v (i ∷ []) []) ew) ej
+      let d : drop k ps ≡ x ∷ drop (k + 1) ps =
+      drop_is ps k x lt ∙ ap (λ (y : HeadProcess). y ∷ drop (k + 1) ps) (sym is) in
+      ap₂ (λ (t : List ℕ) (m : ℕ). t ++ numbers m (drop (k + 1) ps))
+      (ea ∙ ap (λ (v : Bool). front ++ cond v (i ∷ []) []) ew) ej
       ∙ either x.condition (test x) i front (λ m. numbers m (drop (k + 1) ps))
       ∙ sym (ap (λ (t : List ℕ). front ++ t) (opened i x (drop (k + 1) ps) x.condition))
       ∙ sym (ap (λ (qs : List HeadProcess). front ++ numbers i qs) d)

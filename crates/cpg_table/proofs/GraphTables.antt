@@ -1,12 +1,14 @@
 -- Lawful tables for a graph have the shape that the laws on tables ask for, and each node knows its own processes.
-use Rattle.std.proofs.Common.{◌≡◌, ◌<◌, ◌+◌, ◌-◌, ◌==◌, ℕ, zero, suc, Bool, true, false, cond, List, [], ◌∷◌, ◌++◌, Option, Some, None, is_some, All, length, map, filter, get_or, refl, sym, ap, ap₂}
+use Rattle.std.proofs.Common.{◌≡◌, ◌<◌, ◌+◌, ◌-◌, ◌==◌, ℕ, zero, suc, Bool, true, false, cond, List, [], ◌∷◌, ◌++◌}
+use Rattle.std.proofs.Common.{Option, Some, None, is_some, All, length, map, filter, get_or, refl, sym, ap, ap₂}
 use Rattle.std.proofs.Common.{◌∙◌, subst, arith, inl, inr, true≢false, length-append, append_assoc}
 use Rattle.std.specs.List.{range_with_len}
 use Rattle.std.proofs.Math.Seq.{get_or-append_seam}
 use Rattle.std.proofs.lemmas.List.FromFn.{length-map-range_with_len}
 use Rattle.std.proofs.lemmas.List.Elements.{All-weaker, filter-append}
 use Rattle.cpg_base.specs.Numbers.{numbers_below}
-use Rattle.cpg_base.specs.Graph.{Graph, process_count, condition_count, node_of, condition_of, process_of, is_disjunction, disjunctions, IsVariable}
+use Rattle.cpg_base.specs.Graph.{Graph, process_count, condition_count, node_of, condition_of, process_of}
+use Rattle.cpg_base.specs.Graph.{is_disjunction, disjunctions, IsVariable}
 use Rattle.cpg_base.specs.Limits.{IsWithinLimits}
 use Rattle.cpg_base.proofs.Lists.{filter_below_push}
 use Rattle.cpg_cube.specs.declared.literal.Literal.{Literal}
@@ -25,13 +27,17 @@ use Rattle.cpg_table.proofs.TableRows.{All-left}
 
 module _ (g : Graph) (w : IsWithinLimits g) where
   variable_there : (l : Literal) → IsLawfulLiteral (space_of (head_of g)) l → IsVariable g l.variable
-  variable_there l (inl c) = inl (omega (arith, c.known, length-map-range_with_len (head_process g) 0 (process_count g)))
+  variable_there l (inl c) =
+      inl (omega (arith, c.known, length-map-range_with_len (head_process g) 0 (process_count g)))
   variable_there l (inr c) = inr (c.value, omega (arith, c.known, conditions_counted g))
 
   pub speak_of : (rows : List Row) → All (IsLawfulRow (space_of (head_of g))) rows → SpeakOf g rows
-  speak_of rows h = All-weaker (IsLawfulRow (space_of (head_of g))) (λ (row : Row). All (λ (c : Column). All (λ (l : Literal). IsVariable g l.variable) c.cube) row.columns)
-      (λ row r. All-weaker (IsLawfulColumn (space_of (head_of g))) (λ (c : Column). All (λ (l : Literal). IsVariable g l.variable) c.cube)
-      (λ c k. All-weaker (IsLawfulLiteral (space_of (head_of g))) (λ (l : Literal). IsVariable g l.variable) variable_there c.cube k.literals) row.columns r.columns) rows h
+  speak_of rows h = All-weaker (IsLawfulRow (space_of (head_of g)))
+      (λ (row : Row). All (λ (c : Column). All (λ (l : Literal). IsVariable g l.variable) c.cube) row.columns)
+      (λ row r. All-weaker (IsLawfulColumn (space_of (head_of g)))
+      (λ (c : Column). All (λ (l : Literal). IsVariable g l.variable) c.cube)
+      (λ c k. All-weaker (IsLawfulLiteral (space_of (head_of g)))
+      (λ (l : Literal). IsVariable g l.variable) variable_there c.cube k.literals) row.columns r.columns) rows h
 
   pub has_shape : (tables : List NodeTable) → AreTablesOf (head_of g) tables → HasShape g tables
   has_shape tables t = record {
@@ -40,22 +46,28 @@ module _ (g : Graph) (w : IsWithinLimits g) where
     sends = λ node l. (t.each node l).sends ∙ sends_are g w node;
     variables = λ node l. let at : NodeTable = table_at tables node in
         speak_of (at.starts ++ at.sends) (All-left (IsLawfulRow (space_of (head_of g))) (at.starts ++ at.sends) at.hears
-        (subst (All (IsLawfulRow (space_of (head_of g)))) (sym (append_assoc at.starts at.sends at.hears)) (t.each node l).lawful));
+        (subst (All (IsLawfulRow (space_of (head_of g)))) (sym (append_assoc at.starts at.sends at.hears))
+        (t.each node l).lawful));
   }
 
   -- a process that has a condition, by the number of those before it
-  condition_is : (p : ℕ) → p < process_count g → is_disjunction g p ≡ true → condition_of g p ≡ Some (length (filter (is_disjunction g) (numbers_below p)))
+  condition_is : (p : ℕ) → p < process_count g → is_disjunction g p ≡ true →
+      condition_of g p ≡ Some (length (filter (is_disjunction g) (numbers_below p)))
   condition_is p l t =
       let c : ℕ = length (filter (is_disjunction g) (numbers_below p)) in
       let rest : List ℕ = filter (is_disjunction g) (range_with_len (p + 1) (process_count g - p - 1)) in
       let all : disjunctions g ≡ filter (is_disjunction g) (numbers_below p) ++ p ∷ rest =
-      ap (λ n. filter (is_disjunction g) (numbers_below n)) (let e : process_count g ≡ p + suc (process_count g - p - 1) = omega arith in e)
+      ap (λ n. filter (is_disjunction g) (numbers_below n))
+      (let e : process_count g ≡ p + suc (process_count g - p - 1) = omega arith in e)
       ∙ ap (filter (is_disjunction g)) (range-append 0 p (suc (process_count g - p - 1)))
       ∙ filter-append (is_disjunction g) (numbers_below p) (range_with_len (0 + p) (suc (process_count g - p - 1)))
-      ∙ ap (λ a. filter (is_disjunction g) (numbers_below p) ++ filter (is_disjunction g) (range_with_len a (suc (process_count g - p - 1)))) (let e : 0 + p ≡ p = omega arith in e)
+      ∙ ap (λ a. filter (is_disjunction g) (numbers_below p) ++ filter (is_disjunction g)
+      (range_with_len a (suc (process_count g - p - 1)))) (let e : 0 + p ≡ p = omega arith in e)
       ∙ ap (λ b. filter (is_disjunction g) (numbers_below p) ++ cond b (p ∷ rest) rest) t in
-      let here : process_of g c ≡ p = ap (λ ds. get_or ds c 0) all ∙ get_or-append_seam (filter (is_disjunction g) (numbers_below p)) p rest 0 in
-      let within : c < condition_count g = omega (arith, ap length all, length-append (filter (is_disjunction g) (numbers_below p)) (p ∷ rest)) in
+      let here : process_of g c ≡ p =
+      ap (λ ds. get_or ds c 0) all ∙ get_or-append_seam (filter (is_disjunction g) (numbers_below p)) p rest 0 in
+      let within : c < condition_count g =
+      omega (arith, ap length all, length-append (filter (is_disjunction g) (numbers_below p)) (p ∷ rest)) in
       ap (condition_of g) (sym here) ∙ condition_of_process_of g c within
 
   condition_none : (p : ℕ) → p < process_count g → is_disjunction g p ≡ false → condition_of g p ≡ None
@@ -66,46 +78,60 @@ module _ (g : Graph) (w : IsWithinLimits g) where
       none_of (Some c) e = absurd (true≢false e)
 
   -- the number of the next condition
-  count_next : (p : ℕ) → cond (is_disjunction g p) (length (filter (is_disjunction g) (numbers_below p)) + 1) (length (filter (is_disjunction g) (numbers_below p))) ≡ length
+  count_next : (p : ℕ) →
+      cond (is_disjunction g p) (length (filter (is_disjunction g) (numbers_below p)) + 1)
+      (length (filter (is_disjunction g) (numbers_below p))) ≡ length
       (filter (is_disjunction g) (numbers_below (p + 1)))
   count_next p = step (is_disjunction g p) ∙ sym (ap length (filter_below_push (is_disjunction g) p))
     where
-      step : (b : Bool) → cond b (length (filter (is_disjunction g) (numbers_below p)) + 1) (length (filter (is_disjunction g) (numbers_below p))) ≡ length
+      step : (b : Bool) →
+          cond b (length (filter (is_disjunction g) (numbers_below p)) + 1)
+          (length (filter (is_disjunction g) (numbers_below p))) ≡ length
           (filter (is_disjunction g) (numbers_below p) ++ cond b (p ∷ []) [])
       step true = sym (length-append (filter (is_disjunction g) (numbers_below p)) (p ∷ []))
       step false = sym (length-append (filter (is_disjunction g) (numbers_below p)) [] ∙ omega arith)
 
   -- what a node needs to know of a process
-  flag_if : (p : ℕ) → p < process_count g → (c : ℕ) → c ≡ length (filter (is_disjunction g) (numbers_below p)) → (b : Bool) → is_disjunction g p ≡ b → cond b (Some c) None ≡ condition_of g p
+  flag_if : (p : ℕ) → p < process_count g → (c : ℕ) → c ≡ length (filter (is_disjunction g) (numbers_below p)) →
+      (b : Bool) → is_disjunction g p ≡ b →
+      cond b (Some c) None ≡ condition_of g p
   flag_if p l c e true t = ap Some e ∙ sym (condition_is p l t)
   flag_if p l c e false t = sym (condition_none p l t)
 
   own_are_from : (node p n c : ℕ) → p + n ≡ process_count g → c ≡ length (filter (is_disjunction g) (numbers_below p))
-      → own_from node p c (map (head_process g) (range_with_len p n)) ≡ map (own_process g) (filter (λ q. node_of g q == node) (range_with_len p n))
+      → own_from node p c (map (head_process g) (range_with_len p n))
+      ≡ map (own_process g) (filter (λ q. node_of g q == node) (range_with_len p n))
   own_are_from node p zero c s e = refl
   own_are_from node p (suc n) c s e =
       let l : p < process_count g = omega (arith, s) in
       let flag : (head_process g p).condition ≡ is_disjunction g p = has_condition g p l in
-      let next : cond (head_process g p).condition (c + 1) c ≡ length (filter (is_disjunction g) (numbers_below (p + 1))) =
+      let next : cond (head_process g p).condition (c + 1) c
+      ≡ length (filter (is_disjunction g) (numbers_below (p + 1))) =
       ap₂ (λ b k. cond b (k + 1) k) flag e ∙ count_next p in
       let is : cond (head_process g p).condition (Some c) None ≡ condition_of g p =
       ap (λ b. cond b (Some c) None) flag ∙ flag_if p l c e (is_disjunction g p) refl in
       let rest = own_are_from node (p + 1) n (cond (head_process g p).condition (c + 1) c) (omega (arith, s)) next in
-      ap₂ (λ o os. cond (node_of g p == node) (record { process = p; condition = o; times = (head_process g p).times } ∷ []) [] ++ os) is rest
+      ap₂ (λ o os. cond (node_of g p == node)
+      (record { process = p; condition = o; times = (head_process g p).times } ∷ []) [] ++ os) is rest
       ∙ step (node_of g p == node)
     where
-      step : (b : Bool) → cond b (own_process g p ∷ []) [] ++ map (own_process g) (filter (λ q. node_of g q == node) (range_with_len (p + 1) n))
-          ≡ map (own_process g) (cond b (p ∷ filter (λ q. node_of g q == node) (range_with_len (p + 1) n)) (filter (λ q. node_of g q == node) (range_with_len (p + 1) n)))
+      step : (b : Bool) →
+          cond b (own_process g p ∷ []) []
+          ++ map (own_process g) (filter (λ q. node_of g q == node) (range_with_len (p + 1) n))
+          ≡ map (own_process g) (cond b (p ∷ filter (λ q. node_of g q == node) (range_with_len (p + 1) n))
+          (filter (λ q. node_of g q == node) (range_with_len (p + 1) n)))
       step true = refl
       step false = refl
 
   pub own_are : (node : ℕ) → own_of (head_of g) node ≡ map (own_process g) (processes_on g node)
   own_are node = own_are_from node 0 (process_count g) 0 (omega arith) refl
 
-  pub suits_graph : (tables : List NodeTable) → AreTablesOf (head_of g) tables → (node : ℕ) → node < length g.nodes → SuitsGraph g node (table_at tables node)
+  pub suits_graph : (tables : List NodeTable) → AreTablesOf (head_of g) tables → (node : ℕ) → node < length g.nodes →
+      SuitsGraph g node (table_at tables node)
   suits_graph tables t node l = let at = t.each node l in record {
     faults = at.faults;
-    first_broadcast = at.first_broadcast ∙ ap₂ ◌+◌ (length-map-range_with_len (head_process g) 0 (process_count g)) (length-map {B = ℕ × ℕ} g.edges (λ e. (e.from, e.to)));
+    first_broadcast = at.first_broadcast ∙ ap₂ ◌+◌ (length-map-range_with_len (head_process g) 0 (process_count g))
+        (length-map {B = ℕ × ℕ} g.edges (λ e. (e.from, e.to)));
     own = at.own ∙ own_are node;
     hears = at.hears ∙ hears_are g w node l;
   }

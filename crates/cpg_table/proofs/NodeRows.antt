@@ -1,11 +1,13 @@
 -- The rows of a node are those that its table may have.
-use Rattle.std.proofs.Common.{◌≡◌, ℕ, ◌^◌, ◌<◌, ◌≤◌, Bool, false, ◌==◌, ◌&&◌, List, [], ◌∷◌, ◌++◌, length, get_or, map, filter, All, Contains, refl, sym, ap, ap₂, ◌∙◌, subst, arith, inl, inr, eq-eqb}
+use Rattle.std.proofs.Common.{◌≡◌, ℕ, ◌^◌, ◌<◌, ◌≤◌, Bool, false, ◌==◌, ◌&&◌, List, [], ◌∷◌, ◌++◌, length, get_or, map}
+use Rattle.std.proofs.Common.{filter, All, Contains, refl, sym, ap, ap₂, ◌∙◌, subst, arith, inl, inr, eq-eqb}
 use Rattle.std.proofs.lemmas.Bool.{cases_eq, cases_lt, and_from, both_ways}
 use Rattle.std.proofs.lemmas.List.{length-map, get_or-map, map-append}
 use Rattle.std.proofs.lemmas.List.Elements.{All-contains_itself, All-weaker, All-append, All-map}
 use Rattle.std.proofs.lemmas.List.FromFn.{length-map-range_with_len, length-range_with_len, get_or-range_with_len}
 use Rattle.cpg_base.specs.Numbers.{numbers_below}
-use Rattle.cpg_base.specs.Graph.{Graph, process_count, item_count, item_at, node_of, home, is_sent, is_heard_by, IsVariable}
+use Rattle.cpg_base.specs.Graph.{Graph, process_count, item_count, item_at, node_of, home, is_sent, is_heard_by}
+use Rattle.cpg_base.specs.Graph.{IsVariable}
 use Rattle.cpg_base.specs.Bus.{slot_length}
 use Rattle.cpg_base.specs.Limits.{IsWithinLimits}
 use Rattle.cpg_base.specs.declared.limits.TheConstants.{MOST_COLUMNS}
@@ -36,7 +38,8 @@ module _ (g : Graph) (rows : List Row) (w : AreWritable g rows) where
   long = sym (length-map rows (λ (row : Row). row.item)) ∙ ap length w.items ∙ length-range_with_len 0 (item_count g)
 
   pub item_is : (x : ℕ) → x < item_count g → (row_for rows x).item ≡ x
-  item_is x l = sym (get_or-map (λ (row : Row). row.item) rows x no_row 0 (omega (arith, l, long))) ∙ ap (λ xs. get_or xs x 0) w.items ∙ get_or-range_with_len 0 (item_count g) x 0 l ∙ omega arith
+  item_is x l = sym (get_or-map (λ (row : Row). row.item) rows x no_row 0 (omega (arith, l, long)))
+      ∙ ap (λ xs. get_or xs x 0) w.items ∙ get_or-range_with_len 0 (item_count g) x 0 l ∙ omega arith
 
   pub writable : (x : ℕ) → x < item_count g → All (IsWritable g) (row_for rows x).columns
   writable x l = w.lawful x no_row (omega (arith, l, long))
@@ -46,20 +49,27 @@ module _ (g : Graph) (rows : List Row) (w : AreWritable g rows) where
 
 -- numbers of items
 
-filter_below : (g : Graph) (p : ℕ → Bool) (x : ℕ) → Contains (filter p (numbers_below (item_count g))) x → x < item_count g
+filter_below : (g : Graph) (p : ℕ → Bool) (x : ℕ) → Contains (filter p (numbers_below (item_count g))) x →
+    x < item_count g
 filter_below g p x c = numbers-Contains (item_count g) x (Contains-filter_parts p (numbers_below (item_count g)) x c).0
 
 module _ (g : Graph) (within : IsWithinLimits g) (node : ℕ) where
   pub start_below : (x : ℕ) → Contains (starts_of (head_of g) node) x → x < item_count g
   start_below x c =
       let there = subst (λ xs. Contains xs x) (starts_are g within node) c in
-      omega (arith, numbers-Contains (process_count g) x (Contains-filter_parts (λ p. node_of g p == node) (numbers_below (process_count g)) x there).0)
+      omega (
+        arith,
+        numbers-Contains (process_count g) x
+            (Contains-filter_parts (λ p. node_of g p == node) (numbers_below (process_count g)) x there).0,
+      )
 
   pub send_below : (x : ℕ) → Contains (sends_of (head_of g) node) x → x < item_count g
-  send_below x c = filter_below g (λ y. is_sent g y && (home g y == node)) x (subst (λ xs. Contains xs x) (sends_are g within node) c)
+  send_below x c = filter_below g (λ y. is_sent g y && (home g y == node)) x
+      (subst (λ xs. Contains xs x) (sends_are g within node) c)
 
   pub hear_below : node < length g.nodes → (x : ℕ) → Contains (hears_of (head_of g) node) x → x < item_count g
-  hear_below l x c = filter_below g (λ y. is_heard_by g node (item_at g y)) x (subst (λ xs. Contains xs x) (hears_are g within node l) c)
+  hear_below l x c = filter_below g (λ y. is_heard_by g node (item_at g y)) x
+      (subst (λ xs. Contains xs x) (hears_are g within node l) c)
 
 -- a list of such numbers
 pub all_below : (n m : ℕ) (xs ys : List ℕ) → n ≡ m → xs ≡ ys → ((x : ℕ) → Contains ys x → x < m) → All (λ x. x < n) xs
@@ -68,21 +78,29 @@ all_below n m xs ys e is each = rw (e, is) (All-weaker (Contains ys) (λ x. x < 
 -- ---- columns
 
 module _ (g : Graph) (within : IsWithinLimits g) where
-  part_of_count : (l : Literal) → l.variable < process_count g → is_whole g.faults l ≡ false → l.high ≡ g.faults → 0 < l.low
+  part_of_count : (l : Literal) → l.variable < process_count g → is_whole g.faults l ≡ false → l.high ≡ g.faults →
+      0 < l.low
   part_of_count l v part e = elim (cases_lt 0 l.low) [
     | inl some ↦ some
-    | inr none ↦ absurd (both_ways (is_whole g.faults l) part (and_from (l.low == 0) (l.high == top g.faults l.variable) (eq-eqb l.low 0 (omega arith))
-        (eq-eqb l.high (top g.faults l.variable) (e ∙ sym (top_of_count g.faults l.variable (omega (arith, v, within.few_processes)))))))
+    | inr none ↦ absurd (both_ways (is_whole g.faults l) part
+        (and_from (l.low == 0) (l.high == top g.faults l.variable) (eq-eqb l.low 0 (omega arith))
+        (eq-eqb l.high (top g.faults l.variable)
+        (e ∙ sym (top_of_count g.faults l.variable (omega (arith, v, within.few_processes)))))))
   ]
 
-  one_value : (l : Literal) → 128 ≤ l.variable → l.low ≤ l.high → l.high ≤ 1 → is_whole g.faults l ≡ false → l.low ≡ l.high
+  one_value : (l : Literal) → 128 ≤ l.variable → l.low ≤ l.high → l.high ≤ 1 → is_whole g.faults l ≡ false →
+      l.low ≡ l.high
   one_value l v some high part = elim (cases_eq l.low l.high) [
     | inl same ↦ same
-    | inr apart ↦ absurd (both_ways (is_whole g.faults l) part (and_from (l.low == 0) (l.high == top g.faults l.variable) (eq-eqb l.low 0 (omega (arith, apart, some, high)))
-        (eq-eqb l.high (top g.faults l.variable) (let e : l.high ≡ 1 = omega (arith, apart, some, high) in e ∙ sym (top_of_value g.faults l.variable v)))))
+    | inr apart ↦ absurd (both_ways (is_whole g.faults l) part
+        (and_from (l.low == 0) (l.high == top g.faults l.variable) (eq-eqb l.low 0 (omega (arith, apart, some, high)))
+        (eq-eqb l.high (top g.faults l.variable) (let e : l.high ≡ 1 = omega (arith, apart, some, high) in
+        e ∙ sym (top_of_value g.faults l.variable v)))))
   ]
 
-  lawful_literal : (l : Literal) → IsVariable g l.variable → l.low ≤ l.high → l.high ≤ top g.faults l.variable → is_whole g.faults l ≡ false → IsLawfulLiteral (space_of (head_of g)) l
+  lawful_literal : (l : Literal) → IsVariable g l.variable → l.low ≤ l.high → l.high ≤ top g.faults l.variable →
+      is_whole g.faults l ≡ false →
+      IsLawfulLiteral (space_of (head_of g)) l
   lawful_literal l (inl v) some high part = inl (record {
     known = omega (arith, v, length-map-range_with_len (head_process g) 0 (process_count g));
     some = some;
@@ -94,13 +112,16 @@ module _ (g : Graph) (within : IsWithinLimits g) where
       inr (record { value = v.0; known = omega (arith, v.1, conditions_counted g); one = one_value l v.0 some most part; within = most })
 
   lawful_literals : (c : Column) → IsWritable g c → All (IsLawfulLiteral (space_of (head_of g))) c.cube
-  lawful_literals c w = λ i d h. lawful_literal (get_or c.cube i d) (w.cube.known i d h) (w.some i d h) (w.within i d h) (w.not_whole i d h)
+  lawful_literals c w = λ i d h.
+      lawful_literal (get_or c.cube i d) (w.cube.known i d h) (w.some i d h) (w.within i d h) (w.not_whole i d h)
 
   lawful_column : (c : Column) → IsWritable g c → IsLawfulColumn (space_of (head_of g)) c
   lawful_column c w = record { time = omega (arith, w.time); literals = lawful_literals c w; rising = w.cube.rising }
 
-  later_column : (delay : ℕ) → delay < 2 ^ 59 → (c : Column) → IsWritable g c → IsLawfulColumn (space_of (head_of g)) (later_by delay c)
-  later_column delay short c w = record { time = omega (arith, w.time, short); literals = lawful_literals c w; rising = w.cube.rising }
+  later_column : (delay : ℕ) → delay < 2 ^ 59 → (c : Column) → IsWritable g c →
+      IsLawfulColumn (space_of (head_of g)) (later_by delay c)
+  later_column delay short c w =
+      record { time = omega (arith, w.time, short); literals = lawful_literals c w; rising = w.cube.rising }
 
   pub slot_short : (node : ℕ) → slot_length g node < 2 ^ 59
   slot_short node = omega (arith, slot_length-le g node, round-le g within)
@@ -119,17 +140,23 @@ module _ (g : Graph) (within : IsWithinLimits g) where
         record {
           few = omega (arith, few_columns g rows w x l, length-map (row_for rows x).columns (later_by delay));
           columns = All-map (IsLawfulColumn (space_of (head_of g))) (later_by delay) (row_for rows x).columns
-              (All-weaker (IsWritable g) (λ c. IsLawfulColumn (space_of (head_of g)) (later_by delay c)) (later_column delay (slot_short (home g x))) (row_for rows x).columns (writable g rows w x l));
+              (All-weaker (IsWritable g) (λ c. IsLawfulColumn (space_of (head_of g)) (later_by delay c))
+              (later_column delay (slot_short (home g x))) (row_for rows x).columns (writable g rows w x l));
         }
 
-    all_rows : (row : ℕ → Row) → ((x : ℕ) → x < item_count g → IsLawfulRow (space_of (head_of g)) (row x)) → (xs : List ℕ) → ((x : ℕ) → Contains xs x → x < item_count g) →
+    all_rows : (row : ℕ → Row) → ((x : ℕ) → x < item_count g → IsLawfulRow (space_of (head_of g)) (row x)) →
+        (xs : List ℕ) →
+        ((x : ℕ) → Contains xs x → x < item_count g) →
         All (IsLawfulRow (space_of (head_of g))) (map row xs)
     all_rows row each xs below = All-map (IsLawfulRow (space_of (head_of g))) row xs
-        (All-weaker (Contains xs) (λ x. IsLawfulRow (space_of (head_of g)) (row x)) (λ x c. each x (below x c)) xs (All-contains_itself xs))
+        (All-weaker (Contains xs) (λ x. IsLawfulRow (space_of (head_of g)) (row x)) (λ x c. each x (below x c)) xs
+        (All-contains_itself xs))
 
-    items_are : (row : ℕ → Row) → (xs : List ℕ) → ((x : ℕ) → Contains xs x → (row x).item ≡ x) → items_of (map row xs) ≡ xs
+    items_are : (row : ℕ → Row) → (xs : List ℕ) → ((x : ℕ) → Contains xs x → (row x).item ≡ x) →
+        items_of (map row xs) ≡ xs
     items_are row [] each = refl
-    items_are row (x ∷ xs) each = ap₂ (λ y ys. y ∷ ys) (each x (Contains-first x xs)) (items_are row xs (λ y c. each y (Contains-rest x xs y c)))
+    items_are row (x ∷ xs) each =
+        ap₂ (λ y ys. y ∷ ys) (each x (Contains-first x xs)) (items_are row xs (λ y c. each y (Contains-rest x xs y c)))
 
     module _ (node : ℕ) (l : node < length g.nodes) where
       abbrev started : List ℕ
@@ -143,16 +170,22 @@ module _ (g : Graph) (within : IsWithinLimits g) where
 
       node_items : items_of (rows_of_items g rows (lists_of (head_of g) node)) ≡ started ++ (sent ++ heard)
       node_items =
-          map-append (λ (row : Row). row.item) (map (row_for rows) started) (map (row_for rows) sent ++ map (heard_row g rows) heard)
-          ∙ ap₂ (λ xs ys. xs ++ ys) (items_are (row_for rows) started (λ x c. item_is g rows w x (start_below g within node x c)))
+          map-append (λ (row : Row). row.item) (map (row_for rows) started)
+          (map (row_for rows) sent ++ map (heard_row g rows) heard)
+          ∙ ap₂ (λ xs ys. xs ++ ys)
+          (items_are (row_for rows) started (λ x c. item_is g rows w x (start_below g within node x c)))
           (map-append (λ (row : Row). row.item) (map (row_for rows) sent) (map (heard_row g rows) heard)
-          ∙ ap₂ (λ xs ys. xs ++ ys) (items_are (row_for rows) sent (λ x c. item_is g rows w x (send_below g within node x c))) (items_are (heard_row g rows) heard (λ x c. refl)))
+          ∙ ap₂ (λ xs ys. xs ++ ys)
+          (items_are (row_for rows) sent (λ x c. item_is g rows w x (send_below g within node x c)))
+          (items_are (heard_row g rows) heard (λ x c. refl)))
 
       pub are_rows : AreRowsOf (head_of g) node (rows_of_items g rows (lists_of (head_of g) node))
       are_rows = record {
         items = node_items;
-        lawful = All-append (IsLawfulRow (space_of (head_of g))) (map (row_for rows) started) (map (row_for rows) sent ++ map (heard_row g rows) heard)
+        lawful = All-append (IsLawfulRow (space_of (head_of g))) (map (row_for rows) started)
+            (map (row_for rows) sent ++ map (heard_row g rows) heard)
             (all_rows (row_for rows) lawful_row started (start_below g within node))
             (All-append (IsLawfulRow (space_of (head_of g))) (map (row_for rows) sent) (map (heard_row g rows) heard)
-            (all_rows (row_for rows) lawful_row sent (send_below g within node)) (all_rows (heard_row g rows) lawful_heard heard (hear_below g within node l)));
+            (all_rows (row_for rows) lawful_row sent (send_below g within node))
+            (all_rows (heard_row g rows) lawful_heard heard (hear_below g within node l)));
       }

@@ -1,5 +1,6 @@
 -- Rows parted by node: those of what a node starts and sends stand as in its table.
-use Rattle.std.proofs.Common.{◌≡◌, ◌≢◌, ℕ, ◌+◌, ◌<◌, ◌≤◌, Bool, true, false, not, cond, ◌==◌, ◌&&◌, ◌||◌, List, [], ◌∷◌, ◌++◌, length, get_or, map, filter, drop, All, refl, sym, ap, ap₂, ◌∙◌, subst}
+use Rattle.std.proofs.Common.{◌≡◌, ◌≢◌, ℕ, ◌+◌, ◌<◌, ◌≤◌, Bool, true, false, not, cond, ◌==◌, ◌&&◌, ◌||◌, List, [], ◌∷◌}
+use Rattle.std.proofs.Common.{◌++◌, length, get_or, map, filter, drop, All, refl, sym, ap, ap₂, ◌∙◌, subst}
 use Rattle.std.proofs.Common.{arith, inl, inr, ltb, lt-ltb, le-ltb, ne_eqb, true≢false, append_assoc}
 use Rattle.std.specs.List.{range_with_len}
 use Rattle.std.proofs.lemmas.Bool.{cases_Bool, cases_eq}
@@ -7,7 +8,8 @@ use Rattle.std.proofs.lemmas.List.Elements.{All-filter}
 use Rattle.std.proofs.lemmas.List.{map-append, length-map, get_or_default}
 use Rattle.std.proofs.lemmas.List.FromFn.{length-map-range_with_len}
 use Rattle.cpg_base.specs.Numbers.{numbers_below}
-use Rattle.cpg_base.specs.Graph.{Graph, process_count, edge_count, condition_count, item_count, node_of, producer_of_item, home, is_sent}
+use Rattle.cpg_base.specs.Graph.{Graph, process_count, edge_count, condition_count, item_count, node_of}
+use Rattle.cpg_base.specs.Graph.{producer_of_item, home, is_sent}
 use Rattle.cpg_base.specs.Limits.{IsWithinLimits}
 use Rattle.cpg_base.proofs.Items.{item_at-start}
 use Rattle.cpg_base.proofs.Lists.{same_filter, from_range, numbers-Contains}
@@ -45,18 +47,23 @@ module _ {X : Type 0} (p q : X → Bool) (none : (x : X) → q x ≡ false → p
   passes_both : (xs : List X) → filter p (filter q xs) ≡ filter p xs
   passes_both [] = refl
   passes_both (x ∷ xs) = elim (cases_Bool (q x)) [
-    | inl on ↦ ap (λ b. filter p (cond b (x ∷ filter q xs) (filter q xs))) on ∙ ap (λ ys. cond (p x) (x ∷ ys) ys) (passes_both xs)
-    | inr off ↦ ap (λ b. filter p (cond b (x ∷ filter q xs) (filter q xs))) off ∙ passes_both xs ∙ sym (ap (λ b. cond b (x ∷ filter p xs) (filter p xs)) (none x off))
+    | inl on ↦ ap (λ b. filter p (cond b (x ∷ filter q xs) (filter q xs))) on
+        ∙ ap (λ ys. cond (p x) (x ∷ ys) ys) (passes_both xs)
+    | inr off ↦ ap (λ b. filter p (cond b (x ∷ filter q xs) (filter q xs))) off ∙ passes_both xs
+        ∙ sym (ap (λ b. cond b (x ∷ filter p xs) (filter p xs)) (none x off))
   ]
 
 -- an element moved from what is left of a list to those that passed, or left out
-module _ {X : Type 0} (p : X → Bool) (all out left rest : List X) (x : X) (is : left ≡ x ∷ rest) (e : filter p all ≡ out ++ filter p left) where
+module _ {X : Type 0} (p : X → Bool) (all out left rest : List X) (x : X) (is : left ≡ x ∷ rest)
+    (e : filter p all ≡ out ++ filter p left) where
   pub filter_moved : p x ≡ true → (more : List X) → more ≡ out ++ x ∷ [] → filter p all ≡ more ++ filter p rest
-  filter_moved on more m = e ∙ ap (λ ls. out ++ filter p ls) is ∙ ap (λ b. out ++ cond b (x ∷ filter p rest) (filter p rest)) on
+  filter_moved on more m =
+      e ∙ ap (λ ls. out ++ filter p ls) is ∙ ap (λ b. out ++ cond b (x ∷ filter p rest) (filter p rest)) on
       ∙ sym (ap (λ ms. ms ++ filter p rest) m ∙ append_assoc out (x ∷ []) (filter p rest))
 
   pub filter_left : p x ≡ false → filter p all ≡ out ++ filter p rest
-  filter_left off = e ∙ ap (λ ls. out ++ filter p ls) is ∙ ap (λ b. out ++ cond b (x ∷ filter p rest) (filter p rest)) off
+  filter_left off =
+      e ∙ ap (λ ls. out ++ filter p ls) is ∙ ap (λ b. out ++ cond b (x ∷ filter p rest) (filter p rest)) off
 
 -- lists seen as what a function makes
 module _ {X Y : Type 0} (view : X → Y) (f : ℕ → Y) where
@@ -64,34 +71,45 @@ module _ {X Y : Type 0} (view : X → Y) (f : ℕ → Y) where
   view_count n xs e = sym (length-map xs view) ∙ ap length e ∙ length-map-range_with_len f 0 n
 
   -- one more at the end
-  pub view_more : (n : ℕ) (xs more : List X) (x : X) → map view xs ≡ map f (numbers_below n) → view x ≡ f n → more ≡ xs ++ x ∷ [] → map view more ≡ map f (numbers_below (n + 1))
+  pub view_more : (n : ℕ) (xs more : List X) (x : X) → map view xs ≡ map f (numbers_below n) → view x ≡ f n →
+      more ≡ xs ++ x ∷ [] →
+      map view more ≡ map f (numbers_below (n + 1))
   view_more n xs more x e new is =
-      let next : numbers_below (n + 1) ≡ numbers_below n ++ n ∷ [] = range-append 0 n 1 ∙ ap (λ k. numbers_below n ++ k ∷ []) (let z : 0 + n ≡ n = omega arith in z) in
+      let next : numbers_below (n + 1) ≡ numbers_below n ++ n ∷ [] =
+      range-append 0 n 1 ∙ ap (λ k. numbers_below n ++ k ∷ []) (let z : 0 + n ≡ n = omega arith in z) in
       ap (map view) is ∙ map-append view xs (x ∷ []) ∙ ap₂ (λ ys zs. ys ++ zs) e (ap (λ y. y ∷ []) new)
       ∙ sym (ap (map f) next ∙ map-append f (numbers_below n) (n ∷ []))
 
   -- the first one taken
-  pub view_first : (n : ℕ) (left rest : List X) (x : X) → left ≡ x ∷ rest → map view left ≡ map f (range_with_len n (length left)) → (view x ≡ f n) ×
+  pub view_first : (n : ℕ) (left rest : List X) (x : X) → left ≡ x ∷ rest →
+      map view left ≡ map f (range_with_len n (length left)) →
+      (view x ≡ f n) ×
       (map view rest ≡ map f (range_with_len (n + 1) (length rest)))
   view_first n left rest x is e =
-      let here : view x ∷ map view rest ≡ f n ∷ map f (range_with_len (n + 1) (length rest)) = subst (λ ls. map view ls ≡ map f (range_with_len n (length ls))) is e in
+      let here : view x ∷ map view rest ≡ f n ∷ map f (range_with_len (n + 1) (length rest)) =
+      subst (λ ls. map view ls ≡ map f (range_with_len n (length ls))) is e in
       (ap (λ ys. get_or ys 0 (f n)) here, ap (drop 1) here)
 
 -- ---- the rows of a node
 
 -- the rows of another node aren't gone
-pub still_there : (g : Graph) (m n : ℕ) (rows : List Row) → m ≢ n → own_rows g m (other_rows g n rows) ≡ own_rows g m rows
-still_there g m n rows apart = passes_both (λ (row : Row). has_own g m row.item) (λ (row : Row). not (has_own g n row.item))
+pub still_there : (g : Graph) (m n : ℕ) (rows : List Row) → m ≢ n →
+    own_rows g m (other_rows g n rows) ≡ own_rows g m rows
+still_there g m n rows apart =
+    passes_both (λ (row : Row). has_own g m row.item) (λ (row : Row). not (has_own g n row.item))
     (λ row e. one_home (home g row.item) m n (ltb row.item (process_count g) || is_sent g row.item) apart e) rows
 
 pub all_known : (g : Graph) (rows : List Row) → AreWritable g rows → All (λ row. row.item < item_count g) rows
 all_known g rows w k d l =
     let m : k < item_count g = omega (arith, l, long g rows w) in
-    subst (λ (row : Row). row.item < item_count g) (get_or_default rows k no_row d l) (subst (λ n. n < item_count g) (sym (item_is g rows w k m)) m)
+    subst (λ (row : Row). row.item < item_count g) (get_or_default rows k no_row d l)
+    (subst (λ n. n < item_count g) (sym (item_is g rows w k m)) m)
 
 -- the rows of other nodes are of items that exist, too
-pub still_known : (g : Graph) (node : ℕ) (rows : List Row) → All (λ row. row.item < item_count g) rows → All (λ row. row.item < item_count g) (other_rows g node rows)
-still_known g node rows h = All-filter (λ (row : Row). not (has_own g node row.item)) (λ (row : Row). row.item < item_count g) rows h
+pub still_known : (g : Graph) (node : ℕ) (rows : List Row) → All (λ row. row.item < item_count g) rows →
+    All (λ row. row.item < item_count g) (other_rows g node rows)
+still_known g node rows h =
+    All-filter (λ (row : Row). not (has_own g node row.item)) (λ (row : Row). row.item < item_count g) rows h
 
 module _ (g : Graph) (within : IsWithinLimits g) (node : ℕ) where
   abbrev is_sent_here : ℕ → Bool
@@ -104,16 +122,20 @@ module _ (g : Graph) (within : IsWithinLimits g) (node : ℕ) where
   own_later : (x : ℕ) → process_count g ≤ x → has_own g node x ≡ is_sent_here x
   own_later x l = later_kind (home g x == node) (ltb x (process_count g)) (is_sent g x) (le-ltb x (process_count g) l)
 
-  own_items : filter (has_own g node) (numbers_below (item_count g)) ≡ starts_of (head_of g) node ++ sends_of (head_of g) node
+  own_items : filter (has_own g node) (numbers_below (item_count g)) ≡ starts_of (head_of g) node
+      ++ sends_of (head_of g) node
   own_items =
       let messages : List ℕ = range_with_len (process_count g) (edge_count g) in
       let broadcasts : List ℕ = range_with_len (process_count g + edge_count g) (condition_count g) in
       parts_are g within node (has_own g node)
       ∙ ap₂ (λ xs ys. xs ++ ys)
-      (same_filter (has_own g node) (λ p. node_of g p == node) (numbers_below (process_count g)) (λ x c. own_start x (numbers-Contains (process_count g) x c)) ∙ sym (starts_are g within node))
+      (same_filter (has_own g node) (λ p. node_of g p == node) (numbers_below (process_count g))
+      (λ x c. own_start x (numbers-Contains (process_count g) x c)) ∙ sym (starts_are g within node))
       (ap₂ (λ xs ys. xs ++ ys)
-      (same_filter (has_own g node) is_sent_here messages (λ x c. own_later x (from_range (process_count g) (edge_count g) x c).0))
-      (same_filter (has_own g node) is_sent_here broadcasts (λ x c. own_later x (let r = from_range (process_count g + edge_count g) (condition_count g) x c in omega (arith, r.0))))
+      (same_filter (has_own g node) is_sent_here messages
+      (λ x c. own_later x (from_range (process_count g) (edge_count g) x c).0))
+      (same_filter (has_own g node) is_sent_here broadcasts (λ x c. own_later x
+      (let r = from_range (process_count g + edge_count g) (condition_count g) x c in omega (arith, r.0))))
       ∙ sym (ap₂ (λ xs ys. xs ++ ys) (sent_messages g within node) (sent_broadcasts g within node)))
 
   module _ (rows : List Row) (w : AreWritable g rows) where
@@ -124,7 +146,8 @@ module _ (g : Graph) (within : IsWithinLimits g) (node : ℕ) where
     own_are =
         ap (own_rows g node) by_item
         ∙ filter-map (λ (row : Row). has_own g node row.item) (row_for rows) (numbers_below (item_count g))
-        ∙ ap (map (row_for rows)) (same_filter (λ x. has_own g node (row_for rows x).item) (has_own g node) (numbers_below (item_count g))
+        ∙ ap (map (row_for rows))
+        (same_filter (λ x. has_own g node (row_for rows x).item) (has_own g node) (numbers_below (item_count g))
         (λ x c. ap (has_own g node) (item_is g rows w x (numbers-Contains (item_count g) x c))) ∙ own_items)
 
     -- with what it hears they are all of its table
@@ -132,5 +155,6 @@ module _ (g : Graph) (within : IsWithinLimits g) (node : ℕ) where
     node_rows =
         let starts : List Row = map (row_for rows) (starts_of (head_of g) node) in
         let sends : List Row = map (row_for rows) (sends_of (head_of g) node) in
-        ap (λ xs. xs ++ hears_at g rows node) (own_are ∙ map-append (row_for rows) (starts_of (head_of g) node) (sends_of (head_of g) node))
+        ap (λ xs. xs ++ hears_at g rows node)
+        (own_are ∙ map-append (row_for rows) (starts_of (head_of g) node) (sends_of (head_of g) node))
         ∙ append_assoc starts sends (hears_at g rows node)

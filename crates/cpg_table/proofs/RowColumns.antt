@@ -1,5 +1,6 @@
 -- The columns of an item by the first row of it, table by table; and how many they are.
-use Rattle.std.proofs.Common.{ℕ, ◌+◌, ◌<◌, ◌≤◌, ◌≡◌, ◌==◌, Bool, true, false, cond, List, [], ◌∷◌, ◌++◌, length, drop, Some, None, arith, refl, sym, ap, ◌∙◌, subst, append_assoc}
+use Rattle.std.proofs.Common.{ℕ, ◌+◌, ◌<◌, ◌≤◌, ◌≡◌, ◌==◌, Bool, true, false, cond, List, [], ◌∷◌, ◌++◌, length, drop}
+use Rattle.std.proofs.Common.{Some, None, arith, refl, sym, ap, ◌∙◌, subst, append_assoc}
 use Rattle.std.specs.Prelude.{sum_by, unwrap_or}
 use Rattle.std.specs.List.{flat_map}
 use Rattle.std.proofs.lemmas.List.{drop_more}
@@ -17,23 +18,27 @@ module _ (x : ℕ) where
   columns_in_row [] = refl
   columns_in_row (r ∷ rs) = go (r.item == x) (columns_in_row rs)
     where
-      go : (b : Bool) → columns_in rs x ≡ unwrap_or (row_columns rs x) [] → cond b r.columns (columns_in rs x) ≡ unwrap_or (cond b (Some r.columns) (row_columns rs x)) []
+      go : (b : Bool) → columns_in rs x ≡ unwrap_or (row_columns rs x) [] →
+          cond b r.columns (columns_in rs x) ≡ unwrap_or (cond b (Some r.columns) (row_columns rs x)) []
       go true ih = refl
       go false ih = ih
 
   -- the row is among the first of two lists, or else among the second
-  columns_in-append : (rows more : List Row) → columns_in (rows ++ more) x ≡ unwrap_or (row_columns rows x) (columns_in more x)
+  columns_in-append : (rows more : List Row) →
+      columns_in (rows ++ more) x ≡ unwrap_or (row_columns rows x) (columns_in more x)
   columns_in-append [] more = refl
   columns_in-append (r ∷ rs) more = go (r.item == x) (columns_in-append rs more)
     where
       go : (b : Bool) → columns_in (rs ++ more) x ≡ unwrap_or (row_columns rs x) (columns_in more x) →
-          cond b r.columns (columns_in (rs ++ more) x) ≡ unwrap_or (cond b (Some r.columns) (row_columns rs x)) (columns_in more x)
+          cond b r.columns (columns_in (rs ++ more) x)
+          ≡ unwrap_or (cond b (Some r.columns) (row_columns rs x)) (columns_in more x)
       go true ih = refl
       go false ih = ih
 
   -- one table on
   columns_step : (tables : List NodeTable) (node : ℕ) → node < length tables → columns_of (drop node tables) x
-      ≡ unwrap_or (row_columns (table_at tables node).starts x) (unwrap_or (row_columns (table_at tables node).sends x) (columns_of (drop (node + 1) tables) x))
+      ≡ unwrap_or (row_columns (table_at tables node).starts x)
+      (unwrap_or (row_columns (table_at tables node).sends x) (columns_of (drop (node + 1) tables) x))
   columns_step tables node h =
       let t : NodeTable = table_at tables node in
       let more : List Row = flat_map (λ (t : NodeTable). t.starts ++ t.sends) (drop (node + 1) tables) in
@@ -42,33 +47,46 @@ module _ (x : ℕ) where
       ∙ columns_in-append t.starts (t.sends ++ more)
       ∙ ap (unwrap_or (row_columns t.starts x)) (columns_in-append t.sends more)
 
-  module _ (tables : List NodeTable) (node : ℕ) (h : node < length tables) (so_far : columns_of tables x ≡ columns_of (drop node tables) x) where
-    pub found_start : (cs : List Column) → row_columns (table_at tables node).starts x ≡ Some cs → cs ≡ columns_of tables x
-    found_start cs e = sym (so_far ∙ columns_step tables node h ∙ ap (λ o. unwrap_or o (unwrap_or (row_columns (table_at tables node).sends x) (columns_of (drop (node + 1) tables) x))) e)
+  module _ (tables : List NodeTable) (node : ℕ) (h : node < length tables)
+      (so_far : columns_of tables x ≡ columns_of (drop node tables) x) where
+    pub found_start : (cs : List Column) → row_columns (table_at tables node).starts x ≡ Some cs →
+        cs ≡ columns_of tables x
+    found_start cs e = sym (so_far ∙ columns_step tables node h ∙ ap (λ o.
+        unwrap_or o (unwrap_or (row_columns (table_at tables node).sends x) (columns_of (drop (node + 1) tables) x))) e)
 
-    pub found_none : row_columns (table_at tables node).starts x ≡ None → row_columns (table_at tables node).sends x ≡ None → columns_of tables x ≡ columns_of (drop (node + 1) tables) x
+    pub found_none : row_columns (table_at tables node).starts x ≡ None →
+        row_columns (table_at tables node).sends x ≡ None →
+        columns_of tables x ≡ columns_of (drop (node + 1) tables) x
     found_none e f = so_far ∙ columns_step tables node h
-        ∙ ap (λ o. unwrap_or o (unwrap_or (row_columns (table_at tables node).sends x) (columns_of (drop (node + 1) tables) x))) e
+        ∙ ap (λ o. unwrap_or o
+        (unwrap_or (row_columns (table_at tables node).sends x) (columns_of (drop (node + 1) tables) x))) e
         ∙ ap (λ o. unwrap_or o (columns_of (drop (node + 1) tables) x)) f
 
-    pub found_send : (cs : List Column) → row_columns (table_at tables node).starts x ≡ None → row_columns (table_at tables node).sends x ≡ Some cs → cs ≡ columns_of tables x
+    pub found_send : (cs : List Column) → row_columns (table_at tables node).starts x ≡ None →
+        row_columns (table_at tables node).sends x ≡ Some cs →
+        cs ≡ columns_of tables x
     found_send cs e f = sym (so_far ∙ columns_step tables node h
-        ∙ ap (λ o. unwrap_or o (unwrap_or (row_columns (table_at tables node).sends x) (columns_of (drop (node + 1) tables) x))) e
+        ∙ ap (λ o. unwrap_or o
+        (unwrap_or (row_columns (table_at tables node).sends x) (columns_of (drop (node + 1) tables) x))) e
         ∙ ap (λ o. unwrap_or o (columns_of (drop (node + 1) tables) x)) f)
 
   -- not more than there are in all rows
   columns_within : (rows : List Row) → length (columns_in rows x) ≤ column_count rows
   columns_within [] = omega arith
-  columns_within (r ∷ rs) = subst (λ n. length (cond (r.item == x) r.columns (columns_in rs x)) ≤ n) (sym (sum_by-cons (λ (row : Row). length row.columns) r rs)) (go (r.item == x) (columns_within rs))
+  columns_within (r ∷ rs) = subst (λ n. length (cond (r.item == x) r.columns (columns_in rs x)) ≤ n)
+      (sym (sum_by-cons (λ (row : Row). length row.columns) r rs)) (go (r.item == x) (columns_within rs))
     where
-      go : (b : Bool) → length (columns_in rs x) ≤ column_count rs → length (cond b r.columns (columns_in rs x)) ≤ length r.columns + column_count rs
+      go : (b : Bool) → length (columns_in rs x) ≤ column_count rs →
+          length (cond b r.columns (columns_in rs x)) ≤ length r.columns + column_count rs
       go true h = omega arith
       go false h = omega arith
 
 column_count-append : (rows more : List Row) → column_count (rows ++ more) ≡ column_count rows + column_count more
 column_count-append rows more = sum_by-append (λ (row : Row). length row.columns) rows more
 
-rows_within : (tables : List NodeTable) → column_count (flat_map (λ (t : NodeTable). t.starts ++ t.sends) tables) ≤ sum_by (λ t. column_count (rows_of t)) tables
+rows_within : (tables : List NodeTable) →
+    column_count (flat_map (λ (t : NodeTable). t.starts ++ t.sends) tables)
+    ≤ sum_by (λ t. column_count (rows_of t)) tables
 rows_within [] = omega arith
 rows_within (t ∷ ts) =
     let all = column_count-append (t.starts ++ t.sends) (flat_map (λ (t : NodeTable). t.starts ++ t.sends) ts) in
@@ -80,7 +98,8 @@ rows_within (t ∷ ts) =
     omega (arith, all, here, there, hears, more, ih)
 
 -- an item has not more columns than tables may have
-pub columns_few : (h : Head) (tables : List NodeTable) → AreTablesOf h tables → (x : ℕ) → length (columns_of tables x) ≤ MOST_LOAD
+pub columns_few : (h : Head) (tables : List NodeTable) → AreTablesOf h tables → (x : ℕ) →
+    length (columns_of tables x) ≤ MOST_LOAD
 columns_few h tables are x =
     let a = columns_within x (flat_map (λ (t : NodeTable). t.starts ++ t.sends) tables) in
     let b = rows_within tables in

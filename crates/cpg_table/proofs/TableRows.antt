@@ -1,39 +1,56 @@
 -- What holds of all rows of a table, and how rows are cut into those of a table.
-use Rattle.std.proofs.Common.{◌≡◌, ◌↔◌, ℕ, Bool, false, List, ◌++◌, IsTrue, All, Contains, length, take, drop, sym, ap, ◌∙◌, true≢false}
+use Rattle.std.proofs.Common.{◌≡◌, ◌↔◌, ℕ, Bool, false, List, ◌++◌, IsTrue, All, Contains, length, take, drop, sym, ap}
+use Rattle.std.proofs.Common.{◌∙◌, true≢false}
 use Rattle.std.proofs.Math.Seq.{take-append_seam, drop-append_seam}
 use Rattle.std.proofs.lemmas.List.{take-map, drop-map}
-use Rattle.std.proofs.lemmas.List.Elements.{All-append, All-weaker, All-contains, All-contains_itself, Contains-append_left, Contains-append_right}
+use Rattle.std.proofs.lemmas.List.Elements.{All-append, All-weaker, All-contains, All-contains_itself}
+use Rattle.std.proofs.lemmas.List.Elements.{Contains-append_left, Contains-append_right}
 use Rattle.cpg_table.specs.Table.{Row}
 use Rattle.cpg_table.specs.Shape.{items_of}
 
 module _ {X : Type 0} (P : X → Type 0) where
   pub All-left : (xs ys : List X) → All P (xs ++ ys) → All P xs
-  All-left xs ys h = All-weaker (Contains xs) P (λ x c. All-contains P (xs ++ ys) x h (Contains-append_left xs ys x c)) xs (All-contains_itself xs)
+  All-left xs ys h = All-weaker (Contains xs) P
+      (λ x c. All-contains P (xs ++ ys) x h (Contains-append_left xs ys x c)) xs (All-contains_itself xs)
 
   pub All-right : (xs ys : List X) → All P (xs ++ ys) → All P ys
-  All-right xs ys h = All-weaker (Contains ys) P (λ x c. All-contains P (xs ++ ys) x h (Contains-append_right xs ys x c)) ys (All-contains_itself ys)
+  All-right xs ys h = All-weaker (Contains ys) P
+      (λ x c. All-contains P (xs ++ ys) x h (Contains-append_right xs ys x c)) ys (All-contains_itself ys)
 
   -- tests of three lists, one after another
   module _ (xs ys zs : List X) where
     pub not_first : (r : Bool) → (IsTrue r ↔ All P xs) → r ≡ false → IsTrue false ↔ All P (xs ++ (ys ++ zs))
-    not_first r t e = (λ k. absurd (true≢false (sym k)), λ h. absurd (true≢false (sym (t.1 (All-left xs (ys ++ zs) h)) ∙ e)))
+    not_first r t e =
+        (λ k. absurd (true≢false (sym k)), λ h. absurd (true≢false (sym (t.1 (All-left xs (ys ++ zs) h)) ∙ e)))
 
     pub not_second : (r : Bool) → (IsTrue r ↔ All P ys) → r ≡ false → IsTrue false ↔ All P (xs ++ (ys ++ zs))
-    not_second r t e = (λ k. absurd (true≢false (sym k)), λ h. absurd (true≢false (sym (t.1 (All-left ys zs (All-right xs (ys ++ zs) h))) ∙ e)))
+    not_second r t e = (
+      λ k. absurd (true≢false (sym k)),
+      λ h. absurd (true≢false (sym (t.1 (All-left ys zs (All-right xs (ys ++ zs) h))) ∙ e)),
+    )
 
     pub if_third : All P xs → All P ys → (r : Bool) → (IsTrue r ↔ All P zs) → IsTrue r ↔ All P (xs ++ (ys ++ zs))
-    if_third a b r t = (λ k. All-append P xs (ys ++ zs) a (All-append P ys zs b (t.0 k)), λ h. t.1 (All-right ys zs (All-right xs (ys ++ zs) h)))
+    if_third a b r t = (
+      λ k. All-append P xs (ys ++ zs) a (All-append P ys zs b (t.0 k)),
+      λ h. t.1 (All-right ys zs (All-right xs (ys ++ zs) h)),
+    )
 
 -- rows of three lists of items, cut by the lengths of the first two
 module _ (rows : List Row) (xs ys zs : List ℕ) (is : items_of rows ≡ xs ++ (ys ++ zs)) where
   pub first_items : (n : ℕ) → n ≡ length xs → items_of (take n rows) ≡ xs
-  first_items n e = ap (λ k. items_of (take k rows)) e ∙ sym (take-map (λ (r : Row). r.item) (length xs) rows) ∙ ap (take (length xs)) is ∙ take-append_seam xs (ys ++ zs)
+  first_items n e = ap (λ k. items_of (take k rows)) e ∙ sym (take-map (λ (r : Row). r.item) (length xs) rows)
+      ∙ ap (take (length xs)) is ∙ take-append_seam xs (ys ++ zs)
 
   rest_items : (n : ℕ) → n ≡ length xs → items_of (drop n rows) ≡ ys ++ zs
-  rest_items n e = ap (λ k. items_of (drop k rows)) e ∙ sym (drop-map (λ (r : Row). r.item) (length xs) rows) ∙ ap (drop (length xs)) is ∙ drop-append_seam xs (ys ++ zs)
+  rest_items n e = ap (λ k. items_of (drop k rows)) e ∙ sym (drop-map (λ (r : Row). r.item) (length xs) rows)
+      ∙ ap (drop (length xs)) is ∙ drop-append_seam xs (ys ++ zs)
 
   pub second_items : (n m : ℕ) → n ≡ length xs → m ≡ length ys → items_of (take m (drop n rows)) ≡ ys
-  second_items n m e f = ap (λ k. items_of (take k (drop n rows))) f ∙ sym (take-map (λ (r : Row). r.item) (length ys) (drop n rows)) ∙ ap (take (length ys)) (rest_items n e) ∙ take-append_seam ys zs
+  second_items n m e f =
+      ap (λ k. items_of (take k (drop n rows))) f ∙ sym (take-map (λ (r : Row). r.item) (length ys) (drop n rows))
+      ∙ ap (take (length ys)) (rest_items n e) ∙ take-append_seam ys zs
 
   pub third_items : (n m : ℕ) → n ≡ length xs → m ≡ length ys → items_of (drop m (drop n rows)) ≡ zs
-  third_items n m e f = ap (λ k. items_of (drop k (drop n rows))) f ∙ sym (drop-map (λ (r : Row). r.item) (length ys) (drop n rows)) ∙ ap (drop (length ys)) (rest_items n e) ∙ drop-append_seam ys zs
+  third_items n m e f =
+      ap (λ k. items_of (drop k (drop n rows))) f ∙ sym (drop-map (λ (r : Row). r.item) (length ys) (drop n rows))
+      ∙ ap (drop (length ys)) (rest_items n e) ∙ drop-append_seam ys zs

@@ -1,5 +1,6 @@
 -- The tables of all nodes with given rows.
-use Rattle.std.proofs.Common.{◌≡◌, ℕ, ◌+◌, ◌<◌, ◌≤◌, true, false, List, [], ◌∷◌, ◌++◌, Some, length, take, drop, map, slice_get, Contains, refl, sym, ap, ap₂, ◌∙◌, subst, arith, inl, inr, ◌⊎◌}
+use Rattle.std.proofs.Common.{◌≡◌, ℕ, ◌+◌, ◌<◌, ◌≤◌, true, false, List, [], ◌∷◌, ◌++◌, Some, length, take, drop, map}
+use Rattle.std.proofs.Common.{slice_get, Contains, refl, sym, ap, ap₂, ◌∙◌, subst, arith, inl, inr, ◌⊎◌}
 use Rattle.std.proofs.Common.{true≢false, length-append}
 use Rattle.std.proofs.Math.Seq.{take-append_seam, drop-append_seam, get_or-append_seam}
 use Rattle.std.proofs.lemmas.Bool.{cases_lt, cases_Bool}
@@ -44,9 +45,11 @@ nothing : (cs : List Column) → ((c : Column) → Contains cs c → ⊥) → cs
 nothing [] h = refl
 nothing (c ∷ cs) h = absurd (h c (Contains-first c cs))
 
-module _ (g : Graph) (within : IsWithinLimits g) (formed : WellFormed g) (rows : List Row) (w : AreWritable g rows) (tables : List NodeTable) (are : AreNodeTables g rows (length g.nodes) tables) where
+module _ (g : Graph) (within : IsWithinLimits g) (formed : WellFormed g) (rows : List Row) (w : AreWritable g rows)
+    (tables : List NodeTable) (are : AreNodeTables g rows (length g.nodes) tables) where
   pub lawful : AreTablesOf (head_of g) tables
-  lawful = record { count = are.long; each = λ node l. (are.each node l).table; few = tables_le g within rows tables are w }
+  lawful =
+      record { count = are.long; each = λ node l. (are.each node l).table; few = tables_le g within rows tables are w }
 
   shape : HasShape g tables
   shape = has_shape g within tables lawful
@@ -59,25 +62,32 @@ module _ (g : Graph) (within : IsWithinLimits g) (formed : WellFormed g) (rows :
     count_by_items row rs xs e = sym (length-map rs (λ (r : Row). r.item)) ∙ ap length e ∙ sym (length-map xs row)
 
     start_count : length (table_at tables node).starts ≡ length (map (row_for rows) (items node).starts)
-    start_count = count_by_items (row_for rows) (table_at tables node).starts (items node).starts (are.each node l).table.starts
+    start_count =
+        count_by_items (row_for rows) (table_at tables node).starts (items node).starts (are.each node l).table.starts
 
     send_count : length (table_at tables node).sends ≡ length (map (row_for rows) (items node).sends)
-    send_count = count_by_items (row_for rows) (table_at tables node).sends (items node).sends (are.each node l).table.sends
+    send_count =
+        count_by_items (row_for rows) (table_at tables node).sends (items node).sends (are.each node l).table.sends
 
     pub starts : (table_at tables node).starts ≡ map (row_for rows) (items node).starts
-    starts = first_of (table_at tables node).starts (table_at tables node).sends (table_at tables node).hears (map (row_for rows) (items node).starts) (map (row_for rows) (items node).sends)
+    starts = first_of (table_at tables node).starts (table_at tables node).sends (table_at tables node).hears
+        (map (row_for rows) (items node).starts) (map (row_for rows) (items node).sends)
         (map (heard_row g rows) (items node).hears) (are.each node l).stands start_count
 
     pub sends : (table_at tables node).sends ≡ map (row_for rows) (items node).sends
-    sends = second_of (table_at tables node).starts (table_at tables node).sends (table_at tables node).hears (map (row_for rows) (items node).starts) (map (row_for rows) (items node).sends)
+    sends = second_of (table_at tables node).starts (table_at tables node).sends (table_at tables node).hears
+        (map (row_for rows) (items node).starts) (map (row_for rows) (items node).sends)
         (map (heard_row g rows) (items node).hears) (are.each node l).stands start_count send_count
 
     pub hears : (table_at tables node).hears ≡ map (heard_row g rows) (items node).hears
-    hears = third_of (table_at tables node).starts (table_at tables node).sends (table_at tables node).hears (map (row_for rows) (items node).starts) (map (row_for rows) (items node).sends)
+    hears = third_of (table_at tables node).starts (table_at tables node).sends (table_at tables node).hears
+        (map (row_for rows) (items node).starts) (map (row_for rows) (items node).sends)
         (map (heard_row g rows) (items node).hears) (are.each node l).stands start_count send_count
 
     -- a row of the table is that of its item
-    from_rows : (xs : List ℕ) → ((x : ℕ) → Contains xs x → x < item_count g) → (rs : List Row) (row : Row) → rs ≡ map (row_for rows) xs → Contains rs row →
+    from_rows : (xs : List ℕ) → ((x : ℕ) → Contains xs x → x < item_count g) → (rs : List Row) (row : Row) →
+        rs ≡ map (row_for rows) xs →
+        Contains rs row →
         row.columns ≡ (row_for rows row.item).columns
     from_rows xs below rs row e k =
         let m = Contains-map_parts (row_for rows) xs row (subst (λ qs. Contains qs row) e k) in
@@ -98,21 +108,24 @@ module _ (g : Graph) (within : IsWithinLimits g) (formed : WellFormed g) (rows :
   stands x has =
       let l : home g x < length g.nodes = home_within formed shape x has.within in
       let r = row_of formed shape (home g x) x l has in
-      subst (λ y. columns_of tables y ≡ (row_for rows y).columns) r.2 (row_columns formed shape (home g x) l r.0 r.1 ∙ row_is (home g x) l r.0 r.1)
+      subst (λ y. columns_of tables y ≡ (row_for rows y).columns) r.2
+      (row_columns formed shape (home g x) l r.0 r.1 ∙ row_is (home g x) l r.0 r.1)
 
   within_count : (x : ℕ) → x < item_count g → columns_of tables x ≡ (row_for rows x).columns
   within_count x l = elim (cases_lt x (process_count g)) [
     | inl start ↦ stands x (record { within = l; home = refl; kind = inl start })
     | inr later ↦ elim (cases_Bool (is_sent g x)) [
       | inl sent ↦ stands x (record { within = l; home = refl; kind = inr sent })
-      | inr unsent ↦ nothing (columns_of tables x) (λ c k. neither x later unsent (has_row formed shape x c k).kind) ∙ sym (w.unsent x later l unsent)
+      | inr unsent ↦ nothing (columns_of tables x) (λ c k. neither x later unsent (has_row formed shape x c k).kind)
+          ∙ sym (w.unsent x later l unsent)
     ]
   ]
 
   pub columns : (x : ℕ) → columns_of tables x ≡ (row_for rows x).columns
   columns x = elim (cases_lt x (item_count g)) [
     | inl l ↦ within_count x l
-    | inr past ↦ nothing (columns_of tables x) (λ c k. let l = (has_row formed shape x c k).within in absurd (omega arith))
+    | inr past ↦ nothing (columns_of tables x) (λ c k. let l = (has_row formed shape x c k).within in
+        absurd (omega arith))
         ∙ sym (ap (λ (row : Row). row.columns) (get_or_past rows x no_row (omega (arith, past, long g rows w))))
   ]
 
@@ -124,7 +137,8 @@ module _ (g : Graph) (within : IsWithinLimits g) (formed : WellFormed g) (rows :
       ∙ same_map (heard_row g rows) (hear_row g tables) (heard_by g node)
       (λ x c. same_row x _ _ (ap (map (later_by (slot_length g (home g x)))) (sym (columns x))))
     where
-      same_row : (x : ℕ) (a b : List Column) → a ≡ b → (let row : Row = record { item = x; columns = a } in row) ≡ record { item = x; columns = b }
+      same_row : (x : ℕ) (a b : List Column) → a ≡ b →
+          (let row : Row = record { item = x; columns = a } in row) ≡ record { item = x; columns = b }
       same_row x a b e = cc
 
   pub tables_with : (t : Tables) → t.head ≡ head_of g → t.nodes ≡ tables → AreTablesWith g rows t
@@ -132,19 +146,24 @@ module _ (g : Graph) (within : IsWithinLimits g) (formed : WellFormed g) (rows :
     head = head;
     lawful = subst (AreTablesOf (head_of g)) (sym is) lawful;
     columns = subst (λ ts. (x : ℕ) → columns_of ts x ≡ (row_for rows x).columns) (sym is) columns;
-    hears = subst (λ ts. (node : ℕ) (u : NodeTable) → slice_get ts node ≡ Some u → u.hears ≡ hear_rows g ts node) (sym is) heard_rows;
+    hears = subst (λ ts. (node : ℕ) (u : NodeTable) → slice_get ts node ≡ Some u → u.hears ≡ hear_rows g ts node)
+        (sym is) heard_rows;
   }
 
 -- one table more
-pub table_pushed : (g : Graph) (rows : List Row) (n : ℕ) (tables more : List NodeTable) (t : NodeTable) → AreNodeTables g rows n tables → IsTableWith g rows n t → more ≡ tables ++ t ∷ [] →
+pub table_pushed : (g : Graph) (rows : List Row) (n : ℕ) (tables more : List NodeTable) (t : NodeTable) →
+    AreNodeTables g rows n tables → IsTableWith g rows n t →
+    more ≡ tables ++ t ∷ [] →
     AreNodeTables g rows (n + 1) more
 table_pushed g rows n tables more t were new is = record {
   long = omega (arith, ap length is, length-append tables (t ∷ []), were.long);
   each = λ node l. elim (cases_lt node n) [
-    | inl h ↦ subst (IsTableWith g rows node) (sym (ap (λ ts. table_at ts node) is ∙ get_or_append_left tables (t ∷ []) empty_table node (omega (arith, h, were.long)))) (were.each node h)
+    | inl h ↦ subst (IsTableWith g rows node) (sym (ap (λ ts. table_at ts node) is
+        ∙ get_or_append_left tables (t ∷ []) empty_table node (omega (arith, h, were.long)))) (were.each node h)
     | inr h ↦
         let at : node ≡ length tables = omega (arith, l, h, were.long) in
         let here : table_at more node ≡ t = ap₂ table_at is at ∙ get_or-append_seam tables t [] empty_table in
-        subst (IsTableWith g rows node) (sym here) (subst (λ j. IsTableWith g rows j t) (let e : n ≡ node = omega (arith, l, h) in e) new)
+        subst (IsTableWith g rows node) (sym here)
+        (subst (λ j. IsTableWith g rows j t) (let e : n ≡ node = omega (arith, l, h) in e) new)
   ];
 }

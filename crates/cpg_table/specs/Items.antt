@@ -1,5 +1,6 @@
 -- Which items a node starts, sends and hears, given a head, and what it needs to know of its own processes.
-use Rattle.std.specs.Prelude.{ℕ, ◌+◌, Bool, false, not, ◌&&◌, ◌==◌, nat_lt, if◌then◌else◌, List, [], ◌∷◌, ◌++◌, Option, Some, None, length, filter, get_or, map}
+use Rattle.std.specs.Prelude.{ℕ, ◌+◌, Bool, false, not, ◌&&◌, ◌==◌, nat_lt, if◌then◌else◌, List, [], ◌∷◌, ◌++◌, Option}
+use Rattle.std.specs.Prelude.{Some, None, length, filter, get_or, map}
 use Rattle.cpg_head.specs.Head.{Head}
 use Rattle.cpg_head.specs.declared.head_parts.HeadProcess.{HeadProcess}
 use Rattle.cpg_table.specs.Table.{Row}
@@ -44,7 +45,8 @@ starts_of h node = numbers_where (λ p. p.node == node) 0 h.processes
 -- a node sends the messages to other nodes and, if there are some, the broadcasts of its own conditions
 abbrev pub sends_of : Head → ℕ → List ℕ
 sends_of h node = numbers_where (leaves h node) (first_message h) h.edges
-    ++ (if nat_lt 1 (length h.nodes) then numbers_where (λ p. p.node == node) (first_broadcast h) (conditioned h) else [])
+    ++ (if nat_lt 1 (length h.nodes)
+    then numbers_where (λ p. p.node == node) (first_broadcast h) (conditioned h) else [])
 
 -- a node hears the messages and broadcasts of the others
 abbrev pub hears_of : Head → ℕ → List ℕ
@@ -63,7 +65,8 @@ lists_of h node = record { starts = starts_of h node; sends = sends_of h node; h
 
 -- a process with the number of its condition, if it is on the node
 abbrev pub own_front : ℕ → ℕ → ℕ → HeadProcess → List Own
-own_front node p c q = if q.node == node then record { process = p; condition = if q.condition then Some c else None; times = q.times } ∷ [] else []
+own_front node p c q = if q.node == node
+    then record { process = p; condition = if q.condition then Some c else None; times = q.times } ∷ [] else []
 
 -- the processes of a node, from process p and condition c on
 abbrev pub own_from : ℕ → ℕ → ℕ → List HeadProcess → List Own
@@ -82,4 +85,5 @@ after_items (x ∷ xs) (row ∷ rows) = if row.item == x then after_items xs row
 
 -- what a node needs to know of a process of its own
 abbrev pub own_process : Graph → ℕ → Own
-own_process g p = record { process = p; condition = condition_of g p; times = map (duration g p) (numbers_below (g.faults + 1)) }
+own_process g p =
+    record { process = p; condition = condition_of g p; times = map (duration g p) (numbers_below (g.faults + 1)) }

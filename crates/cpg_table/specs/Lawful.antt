@@ -12,7 +12,8 @@ use Rattle.cpg_table.specs.declared.space.VariableSpace.{VariableSpace}
 
 -- the variables that exist under a head
 abbrev pub space_of : Head → VariableSpace
-space_of h = record { faults = h.faults; processes = length h.processes; conditions = count_by (λ p. p.condition) h.processes }
+space_of h =
+    record { faults = h.faults; processes = length h.processes; conditions = count_by (λ p. p.condition) h.processes }
 
 -- a part of the fault counts of a process, and not all of them
 pub record IsCountLiteral (s : VariableSpace) (l : Literal) : Type 0 where

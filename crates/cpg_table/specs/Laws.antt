@@ -10,7 +10,8 @@ use Rattle.cpg_table.specs.Lawful.{AreTablesOf}
 
 -- a row for each item that a node starts or sends, on variables that there are
 abbrev pub TablesHaveShape : Type 0
-TablesHaveShape = (g : Graph) (tables : List NodeTable) → IsWithinLimits g → AreTablesOf (head_of g) tables → HasShape g tables
+TablesHaveShape =
+    (g : Graph) (tables : List NodeTable) → IsWithinLimits g → AreTablesOf (head_of g) tables → HasShape g tables
 
 -- what a node's table says of the graph, and a row for each item that it hears
 pub record SuitsGraph (g : Graph) (node : ℕ) (t : NodeTable) : Type 0 where
@@ -20,5 +21,6 @@ pub record SuitsGraph (g : Graph) (node : ℕ) (t : NodeTable) : Type 0 where
   pub hears : items_of t.hears ≡ heard_by g node
 
 abbrev pub TablesSuitGraph : Type 0
-TablesSuitGraph = (g : Graph) (tables : List NodeTable) → IsWithinLimits g → AreTablesOf (head_of g) tables → (node : ℕ) →
+TablesSuitGraph =
+    (g : Graph) (tables : List NodeTable) → IsWithinLimits g → AreTablesOf (head_of g) tables → (node : ℕ) →
     node < length g.nodes → SuitsGraph g node (table_at tables node)

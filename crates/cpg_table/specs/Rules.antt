@@ -1,7 +1,8 @@
 -- The numbers that name the rules of valid tables.
 use Rattle.std.specs.Prelude.{ℕ}
 use Rattle.cpg_table.specs.declared.rule.Rule.{Rule}
-use Rattle.cpg_table.specs.declared.rule.Rule.TheVariants.{Activity, Single, Present, Heard, Inputs, Processor, Slot, Frozen, Due, Hears}
+use Rattle.cpg_table.specs.declared.rule.Rule.TheVariants.{Activity, Single, Present, Heard, Inputs, Processor, Slot}
+use Rattle.cpg_table.specs.declared.rule.Rule.TheVariants.{Frozen, Due, Hears}
 
 -- V1 to V10
 abbrev pub number_of_rule : Rule → ℕ

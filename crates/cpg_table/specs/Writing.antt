@@ -1,5 +1,6 @@
 -- Rows of all items, and tables that are written from them.
-use Rattle.std.specs.Prelude.{ℕ, ◌*◌, ◌^◌, ◌≡◌, ◌≤◌, ◌<◌, Bool, false, not, ◌&&◌, ◌||◌, ◌==◌, nat_lt, List, [], ◌++◌, Some, length, map, filter, get_or, sum_by, slice_get, All}
+use Rattle.std.specs.Prelude.{ℕ, ◌*◌, ◌^◌, ◌≡◌, ◌≤◌, ◌<◌, Bool, false, not, ◌&&◌, ◌||◌, ◌==◌, nat_lt, List, [], ◌++◌}
+use Rattle.std.specs.Prelude.{Some, length, map, filter, get_or, sum_by, slice_get, All}
 use Rattle.cpg_base.specs.Numbers.{numbers_below}
 use Rattle.cpg_base.specs.declared.limits.TheConstants.{MOST_COLUMNS, MOST_LOAD}
 use Rattle.cpg_base.specs.Graph.{Graph, process_count, item_count, item_at, home, is_sent}
@@ -48,18 +49,20 @@ pub record IsWritable (g : Graph) (c : Column) : Type 0 where
   pub within : All (λ l. l.high ≤ top g.faults l.variable) c.cube
   pub not_whole : All (λ l. is_whole g.faults l ≡ false) c.cube
 
--- a row for each item by number, with columns that tables may have: not too many in a row, nor in all rows of all nodes,
--- and none if nothing is started or sent
+-- a row for each item by number, with columns that tables may have: not too many in a row, nor in all rows of all
+-- nodes, and none if nothing is started or sent
 pub record AreWritable (g : Graph) (rows : List Row) : Type 0 where
   pub items : items_of rows ≡ numbers_below (item_count g)
   pub lawful : All (λ row. All (IsWritable g) row.columns) rows
   pub few : All (λ row. length row.columns ≤ MOST_COLUMNS) rows
-  pub loads : sum_by (λ x. length (row_for rows x).columns * rows_of_item g (item_at g x)) (numbers_below (item_count g)) ≤ MOST_LOAD
+  pub loads : sum_by (λ x. length (row_for rows x).columns * rows_of_item g (item_at g x))
+      (numbers_below (item_count g)) ≤ MOST_LOAD
   pub unsent : (x : ℕ) → process_count g ≤ x → x < item_count g → is_sent g x ≡ false → (row_for rows x).columns ≡ []
 
 -- the rows of a node's items, as they stand in its table
 abbrev pub rows_of_items : Graph → List Row → ItemLists → List Row
-rows_of_items g rows items = map (row_for rows) items.starts ++ (map (row_for rows) items.sends ++ map (heard_row g rows) items.hears)
+rows_of_items g rows items =
+    map (row_for rows) items.starts ++ (map (row_for rows) items.sends ++ map (heard_row g rows) items.hears)
 
 -- the table of a node with its rows of these
 pub record IsTableWith (g : Graph) (rows : List Row) (node : ℕ) (t : NodeTable) : Type 0 where
@@ -71,7 +74,8 @@ pub record AreNodeTables (g : Graph) (rows : List Row) (count : ℕ) (tables : L
   pub long : length tables ≡ count
   pub each : (node : ℕ) → node < count → IsTableWith g rows node (table_at tables node)
 
--- tables under the graph's head in which each item has the columns of its row, and each node hears what others send to it
+-- tables under the graph's head in which each item has the columns of its row, and each node hears what others send to
+-- it
 pub record AreTablesWith (g : Graph) (rows : List Row) (t : Tables) : Type 0 where
   pub head : t.head ≡ head_of g
   pub lawful : AreTablesOf (head_of g) t.nodes

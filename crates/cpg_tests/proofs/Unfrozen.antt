@@ -1,5 +1,6 @@
 -- What a caller has at hand: no frozen times, the urgency order, and scenarios made from the one without faults.
-use Rattle.std.proofs.Common.{◌≡◌, ◌∙◌, ℕ, Bool, false, List, length, get_or, set, sum, replicate, Option, None, arith, sym, ap, inl, inr, subst, length-set}
+use Rattle.std.proofs.Common.{◌≡◌, ◌∙◌, ℕ, Bool, false, List, length, get_or, set, sum, replicate, Option, None, arith}
+use Rattle.std.proofs.Common.{sym, ap, inl, inr, subst, length-set}
 use Rattle.std.proofs.Math.ListN.{get_or-eq_default}
 use Rattle.std.proofs.lemmas.Bool.{cases_lt}
 use Rattle.std.proofs.lemmas.List.{get_or-replicate, length-replicate}
@@ -23,7 +24,8 @@ module _ (g h : Graph) (frozen : List (Option ℕ)) (is : frozen ≡ nothing_fro
       none : get_or frozen x None ≡ None
       none = ap (λ f. get_or f x None) is ∙ elim (cases_lt x (item_count h)) [
         | inl l ↦ get_or-replicate (item_count h) x None None l
-        | inr l ↦ get_or-eq_default (nothing_frozen h) None (omega (arith, length-replicate {A = Option ℕ} (item_count h) None))
+        | inr l ↦ get_or-eq_default (nothing_frozen h) None
+            (omega (arith, length-replicate {A = Option ℕ} (item_count h) None))
       ]
 
 sum_of_zeros : (n : ℕ) → sum (replicate n 0) ≡ 0
@@ -37,7 +39,9 @@ zero_lawful g = record {
 }
 
 -- with another value
-pub valued_lawful : (g h : Graph) (s new : Scenario) (c : ℕ) (value : Bool) → s ≡ zero_scenario h → h ≡ g → new ≡ record s { values = set s.values c value } → IsScenario g new
+pub valued_lawful : (g h : Graph) (s new : Scenario) (c : ℕ) (value : Bool) → s ≡ zero_scenario h → h ≡ g →
+    new ≡ record s { values = set s.values c value } →
+    IsScenario g new
 valued_lawful g h s new c value is same then =
     let lawful : IsScenario g s = subst (IsScenario g) (sym (is ∙ ap zero_scenario same)) (zero_lawful g) in
     record {
@@ -46,5 +50,7 @@ valued_lawful g h s new c value is same then =
       budget = omega (arith, ap (λ (n : Scenario). sum n.faults) then, lawful.budget);
     }
 
-pub urgent_topological : (g : Graph) (order urgency : List ℕ) (guards : Guards) → order ≡ urgency → IsAdmitted g urgency guards → IsTopological g order
+pub urgent_topological : (g : Graph) (order urgency : List ℕ) (guards : Guards) → order ≡ urgency →
+    IsAdmitted g urgency guards →
+    IsTopological g order
 urgent_topological g order urgency guards is a = subst (IsTopological g) (sym is) a.topological

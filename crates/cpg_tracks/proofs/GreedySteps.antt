@@ -1,9 +1,12 @@
 -- Steps of the loops that place the processes of a track.
-use Rattle.std.proofs.Common.{All, ◌≡◌, ◌≢◌, ℕ, suc, ◌+◌, ◌*◌, ◌^◌, ◌<◌, ◌≤◌, Bool, true, false, cond, List, [], ◌∷◌, ◌++◌, length, get_or, set}
+use Rattle.std.proofs.Common.{All, ◌≡◌, ◌≢◌, ℕ, suc, ◌+◌, ◌*◌, ◌^◌, ◌<◌, ◌≤◌, Bool, true, false, cond, List, [], ◌∷◌}
+use Rattle.std.proofs.Common.{◌++◌, length, get_or, set}
 use Rattle.std.proofs.Common.{replicate, map, filter, take, max, Contains, Option, Some}
-use Rattle.std.proofs.Common.{None, is_some, unwrap_or, IfSome, IfNone, refl, sym, ap, ap₂, ◌∙◌, subst, arith, inl, inr, true≢false}
+use Rattle.std.proofs.Common.{None, is_some, unwrap_or, IfSome, IfNone, refl, sym, ap, ap₂, ◌∙◌, subst, arith, inl, inr}
+use Rattle.std.proofs.Common.{true≢false}
 use Rattle.std.specs.Option.{option_map}
-use Rattle.std.proofs.lemmas.List.{take_more, map-append, get_or_default, get_or-set_same, get_or-set_other, length-set, length-replicate, get_or-replicate, ext_get_or}
+use Rattle.std.proofs.lemmas.List.{take_more, map-append, get_or_default, get_or-set_same, get_or-set_other, length-set}
+use Rattle.std.proofs.lemmas.List.{length-replicate, get_or-replicate, ext_get_or}
 use Rattle.std.proofs.lemmas.List.FromFn.{length-map-range_with_len}
 use Rattle.std.proofs.lemmas.List.Elements.{filter-append, Contains-append_cases, Contains-get_or}
 use Rattle.std.proofs.lemmas.Bool.{cases_eq}
@@ -15,7 +18,8 @@ use Rattle.cpg_base.specs.Activity.{active, live}
 use Rattle.cpg_base.specs.Duration.{duration}
 use Rattle.cpg_base.specs.Bus.{round}
 use Rattle.cpg_base.proofs.Bounds.{round-le, duration-le}
-use Rattle.cpg_base.proofs.Lists.{Contains-cases, Contains-nil, Contains-map_parts, Contains-filter, Contains-filter_parts, numbers-Contains, get_or-map-below, greatest_push}
+use Rattle.cpg_base.proofs.Lists.{Contains-cases, Contains-nil, Contains-map_parts, Contains-filter}
+use Rattle.cpg_base.proofs.Lists.{Contains-filter_parts, numbers-Contains, get_or-map-below, greatest_push}
 use Rattle.cpg_base.proofs.Lists.{greatest-le}
 use Rattle.cpg_order.specs.Urgency.{IsUrgencyOrder, IsTopological}
 use Rattle.cpg_order.proofs.Urgent.{urgent_total}
@@ -26,17 +30,20 @@ use Rattle.cpg_tracks.specs.Track.{Track, IsTrackOf, AreBy}
 use Rattle.cpg_tracks.specs.declared.timing.Timing.{Timing}
 use Rattle.cpg_tracks.specs.declared.schedule.Candidate.{Candidate}
 use Rattle.cpg_tracks.specs.declared.schedule.FedProcess.{FedProcess}
-use Rattle.cpg_tracks.specs.Timing.{outcome_of, IsTiming, IsOnTheWay, AreFree, IsFedAt, AreFed, IsCandidate, IsBestOf, ComesFirst, IsBetterOf, IsChosen}
+use Rattle.cpg_tracks.specs.Timing.{outcome_of, IsTiming, IsOnTheWay, AreFree, IsFedAt, AreFed, IsCandidate, IsBestOf}
+use Rattle.cpg_tracks.specs.Timing.{ComesFirst, IsBetterOf, IsChosen}
 use Rattle.cpg_tracks.proofs.GreedyUnique.{live_source}
 use Rattle.cpg_tracks.proofs.Feeding.{processes_of, processes_push}
 use Rattle.cpg_tracks.proofs.Placing.{free_cases, free_here, free_elsewhere, place_next}
-use Rattle.cpg_tracks.proofs.GreedyExists.{unplaced_count, fewer, none_left, at_first, nothing_there, none_placed, place_none, sooner_chain, greedy_from_placing}
+use Rattle.cpg_tracks.proofs.GreedyExists.{unplaced_count, fewer, none_left, at_first, nothing_there, none_placed}
+use Rattle.cpg_tracks.proofs.GreedyExists.{place_none, sooner_chain, greedy_from_placing}
 
 -- ---- what is found once
 
 module _ (g : Graph) (t : Timing) (is : IsTiming g t) where
   pub duration_at : (p d : ℕ) → p < process_count g → get_or t.durations.items p d ≡ duration g p g.faults
-  duration_at p d l = ap (λ xs. get_or xs p d) is.durations ∙ get_or-map-below (λ p. duration g p g.faults) (process_count g) p d l
+  duration_at p d l =
+      ap (λ xs. get_or xs p d) is.durations ∙ get_or-map-below (λ p. duration g p g.faults) (process_count g) p d l
 
   pub live_at : (e : ℕ) (d : Bool) → e < edge_count g → get_or t.live.items e d ≡ live g (outcome_of t) e
   live_at e d l = ap (λ xs. get_or xs e d) is.live ∙ get_or-map-below (live g (outcome_of t)) (edge_count g) e d l
@@ -45,7 +52,8 @@ module _ (g : Graph) (t : Timing) (is : IsTiming g t) where
   durations_long = ap length is.durations ∙ length-map-range_with_len (λ p. duration g p g.faults) 0 (process_count g)
 
   pub active_is : (p : ℕ) (d : Bool) → p < process_count g → get_or t.active.items p d ≡ active g (outcome_of t) p
-  active_is p d l = ap (λ xs. get_or xs p d) is.active ∙ get_or-map-below (active g (outcome_of t)) (process_count g) p d l
+  active_is p d l =
+      ap (λ xs. get_or xs p d) is.active ∙ get_or-map-below (active g (outcome_of t)) (process_count g) p d l
 
   pub active_long : length t.active.items ≡ process_count g
   active_long = ap length is.active ∙ length-map-range_with_len (active g (outcome_of t)) 0 (process_count g)
@@ -63,23 +71,29 @@ none_at P o h e = subst (λ z. IfNone z P) e h
 
 -- ---- when an input is there
 
-pub start_there : (starts : List (Option ℕ)) (p s : ℕ) (d : Option ℕ) → p < length starts → get_or starts p d ≡ Some s → get_or starts p None ≡ Some s
+pub start_there : (starts : List (Option ℕ)) (p s : ℕ) (d : Option ℕ) → p < length starts → get_or starts p d ≡ Some s →
+    get_or starts p None ≡ Some s
 start_there starts p s d l e = get_or_default starts p None d l ∙ e
 
 pub start_early : (starts : List (Option ℕ)) (p s b : ℕ) → AreBy b starts → get_or starts p None ≡ Some s → s ≤ b
 start_early starts p s b h e = omega (arith, h p, ap (λ o. unwrap_or o 0) e)
 
-pub input_there : (g : Graph) (starts : List (Option ℕ)) (e s : ℕ) (b : Bool) → get_or starts (source g e) None ≡ Some s → is_message g e ≡ b →
-    Some (s + duration g (source g e) g.faults + cond b (round g) 0) ≡ option_map (λ _. input_ready g starts e) (get_or starts (source g e) None)
+pub input_there : (g : Graph) (starts : List (Option ℕ)) (e s : ℕ) (b : Bool) →
+    get_or starts (source g e) None ≡ Some s →
+    is_message g e ≡ b →
+    Some (s + duration g (source g e) g.faults + cond b (round g) 0)
+    ≡ option_map (λ _. input_ready g starts e) (get_or starts (source g e) None)
 input_there g starts e s b there is =
-    ap Some (ap (λ c. s + duration g (source g e) g.faults + cond c (round g) 0) (sym is) ∙ ap (λ o. unwrap_or o 0 + duration g (source g e) g.faults + cond (is_message g e) (round g) 0) (sym there))
+    ap Some (ap (λ c. s + duration g (source g e) g.faults + cond c (round g) 0) (sym is)
+    ∙ ap (λ o. unwrap_or o 0 + duration g (source g e) g.faults + cond (is_message g e) (round g) 0) (sym there))
     ∙ ap (option_map (λ _. input_ready g starts e)) (sym there)
 
 pub input_missing : {X Y : Type 0} (f : X → Y) (o : Option X) → option_map f o ≡ None → is_some o ≡ false
 input_missing f None h = refl
 input_missing f (Some x) h = absurd (true≢false (ap is_some h))
 
-pub input_given : {X Y : Type 0} (y : Y) (o : Option X) (r : Y) → option_map (λ _. y) o ≡ Some r → (is_some o ≡ true) × (r ≡ y)
+pub input_given : {X Y : Type 0} (y : Y) (o : Option X) (r : Y) → option_map (λ _. y) o ≡ Some r →
+    (is_some o ≡ true) × (r ≡ y)
 input_given y None r h = absurd (true≢false (sym (ap is_some h)))
 input_given y (Some x) r h = (refl, sym (ap (λ o. unwrap_or o y) h))
 
@@ -90,8 +104,10 @@ module _ (g : Graph) (o : List Bool) (starts : List (Option ℕ)) (p : ℕ) wher
   abbrev live_of : ℕ → List ℕ
   live_of i = filter (live g o) (take i (inputs g p))
 
-  next_live : (i d : ℕ) → i < length (inputs g p) → live_of (i + 1) ≡ live_of i ++ filter (live g o) (get_or (inputs g p) i d ∷ [])
-  next_live i d l = ap (filter (live g o)) (take_more (inputs g p) i d l) ∙ filter-append (live g o) (take i (inputs g p)) (get_or (inputs g p) i d ∷ [])
+  next_live : (i d : ℕ) → i < length (inputs g p) →
+      live_of (i + 1) ≡ live_of i ++ filter (live g o) (get_or (inputs g p) i d ∷ [])
+  next_live i d l = ap (filter (live g o)) (take_more (inputs g p) i d l)
+      ∙ filter-append (live g o) (take i (inputs g p)) (get_or (inputs g p) i d ∷ [])
 
   -- when the first inputs are there
   abbrev ready_by : ℕ → ℕ
@@ -103,19 +119,27 @@ module _ (g : Graph) (o : List Bool) (starts : List (Option ℕ)) (p : ℕ) wher
 
   module _ (i e d : ℕ) (l : i < length (inputs g p)) (at : get_or (inputs g p) i d ≡ e) where
     more_by : (b : Bool) → live g o e ≡ b → live_of (i + 1) ≡ live_of i ++ cond b (e ∷ []) []
-    more_by b is = next_live i d l ∙ ap (λ x. live_of i ++ filter (live g o) (x ∷ [])) at ∙ ap (λ c. live_of i ++ cond c (e ∷ []) []) is
+    more_by b is = next_live i d l ∙ ap (λ x. live_of i ++ filter (live g o) (x ∷ [])) at
+        ∙ ap (λ c. live_of i ++ cond c (e ∷ []) []) is
 
-    pub ready_takes : live g o e ≡ true → (ready : ℕ) → ready ≡ ready_by i → max ready (input_ready g starts e) ≡ ready_by (i + 1)
+    pub ready_takes : live g o e ≡ true → (ready : ℕ) → ready ≡ ready_by i →
+        max ready (input_ready g starts e) ≡ ready_by (i + 1)
     ready_takes is ready h = ap (λ n. max n (input_ready g starts e)) h
-        ∙ sym (greatest_push ((process_at g p).release ∷ map (input_ready g starts) (live_of i)) (input_ready g starts e))
-        ∙ ap (λ xs. greatest ((process_at g p).release ∷ xs)) (sym (map-append (input_ready g starts) (live_of i) (e ∷ [])))
+        ∙ sym
+        (greatest_push ((process_at g p).release ∷ map (input_ready g starts) (live_of i)) (input_ready g starts e))
+        ∙ ap (λ xs. greatest ((process_at g p).release ∷ xs))
+        (sym (map-append (input_ready g starts) (live_of i) (e ∷ [])))
         ∙ ap (λ xs. greatest ((process_at g p).release ∷ map (input_ready g starts) xs)) (sym (more_by true is))
 
     pub fed_takes : live g o e ≡ true → has_start starts (source g e) ≡ true → FedBy i → FedBy (i + 1)
-    fed_takes is there h f k = elim (Contains-append_cases (live_of i) (e ∷ []) f (subst (λ xs. Contains xs f) (more_by true is) k)) [
-      | inl m ↦ h f m
-      | inr m ↦ elim (Contains-cases e [] f m) [ inl same ↦ ap (λ x. has_start starts (source g x)) (sym same) ∙ there | inr none ↦ absurd (Contains-nil f none) ]
-    ]
+    fed_takes is there h f k =
+        elim (Contains-append_cases (live_of i) (e ∷ []) f (subst (λ xs. Contains xs f) (more_by true is) k)) [
+          | inl m ↦ h f m
+          | inr m ↦ elim (Contains-cases e [] f m) [
+            | inl same ↦ ap (λ x. has_start starts (source g x)) (sym same) ∙ there
+            | inr none ↦ absurd (Contains-nil f none)
+          ]
+        ]
 
     skipped : live g o e ≡ false → live_of (i + 1) ≡ live_of i
     skipped is = more_by false is ∙ append_none (live_of i)
@@ -125,20 +149,23 @@ module _ (g : Graph) (o : List Bool) (starts : List (Option ℕ)) (p : ℕ) wher
         append_none (x ∷ xs) = ap (λ ys. x ∷ ys) (append_none xs)
 
     pub ready_skips : live g o e ≡ false → (ready : ℕ) → ready ≡ ready_by i → ready ≡ ready_by (i + 1)
-    ready_skips is ready h = h ∙ ap (λ xs. greatest ((process_at g p).release ∷ map (input_ready g starts) xs)) (sym (skipped is))
+    ready_skips is ready h =
+        h ∙ ap (λ xs. greatest ((process_at g p).release ∷ map (input_ready g starts) xs)) (sym (skipped is))
 
     pub fed_skips : live g o e ≡ false → FedBy i → FedBy (i + 1)
     fed_skips is h f k = h f (subst (λ xs. Contains xs f) (skipped is) k)
 
     pub not_fed : live g o e ≡ true → has_start starts (source g e) ≡ false → IsFed g o starts p → ⊥
-    not_fed is there h = true≢false (sym (h.inputs e (Contains-filter (live g o) (inputs g p) e is (subst (Contains (inputs g p)) at (contains_at (inputs g p) i d l)))) ∙ there)
+    not_fed is there h = true≢false (sym (h.inputs e (Contains-filter (live g o) (inputs g p) e is
+        (subst (Contains (inputs g p)) at (contains_at (inputs g p) i d l)))) ∙ there)
       where
         contains_at : (xs : List ℕ) (i d : ℕ) → i < length xs → Contains xs (get_or xs i d)
         contains_at xs i d l = Contains-get_or xs i d l
 
 -- ---- no start is late
 
-module _ (g : Graph) (within : IsWithinLimits g) (w : WellFormed g) (o : List Bool) (starts : List (Option ℕ)) (b : ℕ) (early : AreBy b starts) (some : 1000000000 ≤ b) where
+module _ (g : Graph) (within : IsWithinLimits g) (w : WellFormed g) (o : List Bool) (starts : List (Option ℕ)) (b : ℕ)
+    (early : AreBy b starts) (some : 1000000000 ≤ b) where
   end_by : (p : ℕ) → p < process_count g → longest_end g starts p ≤ b + 600000000000
   end_by p l = omega (arith, early p, duration-le g p g.faults within l within.faults)
 
@@ -151,23 +178,29 @@ module _ (g : Graph) (within : IsWithinLimits g) (w : WellFormed g) (o : List Bo
 
   ready_at_by : (p : ℕ) → p < process_count g → ready_at g o starts p ≤ b + 616000000000
   ready_at_by p l = let at : IsProcessWithin (length g.nodes) (process_at g p) = within.processes p _ l in
-      greatest-le ((process_at g p).release ∷ map (input_ready g starts) (filter (live g o) (inputs g p))) (b + 616000000000) (λ x k.
+      greatest-le ((process_at g p).release ∷ map (input_ready g starts) (filter (live g o) (inputs g p)))
+      (b + 616000000000) (λ x k.
       elim (Contains-cases (process_at g p).release (map (input_ready g starts) (filter (live g o) (inputs g p))) x k) [
         | inl is ↦ omega (arith, at.release)
-        | inr m ↦ let r = Contains-map_parts (input_ready g starts) (filter (live g o) (inputs g p)) x m in omega (arith, input_by p r.0 r.1, r.2)
+        | inr m ↦ let r = Contains-map_parts (input_ready g starts) (filter (live g o) (inputs g p)) x m in
+            omega (arith, input_by p r.0 r.1, r.2)
       ])
 
   free_by : (node : ℕ) → free_at g starts node ≤ b + 600000000000
-  free_by node = elim (free_cases g starts node) [ inl e ↦ omega (arith, e) | inr r ↦ omega (arith, r.3, end_by r.0 (r.1).within) ]
+  free_by node =
+      elim (free_cases g starts node) [ inl e ↦ omega (arith, e) | inr r ↦ omega (arith, r.3, end_by r.0 (r.1).within) ]
 
   pub would_start_by : (p : ℕ) → p < process_count g → would_start g o starts p ≤ b + 616000000000
   would_start_by p l = omega (arith, ready_at_by p l, free_by (node_of g p))
 
 -- ---- the best candidate
 
-module _ (g : Graph) (o : List Bool) (starts : List (Option ℕ)) (order : List ℕ) (urgency : IsUrgencyOrder g order) where
+module _ (g : Graph) (o : List Bool) (starts : List (Option ℕ)) (order : List ℕ)
+    (urgency : IsUrgencyOrder g order) where
   -- what comes first is sooner
-  sooner_of : (a b : Candidate) → IsCandidate g o starts a → IsCandidate g o starts b → ComesFirst order a b → a.process ≢ b.process → IsSooner g o starts a.process b.process
+  sooner_of : (a b : Candidate) → IsCandidate g o starts a → IsCandidate g o starts b → ComesFirst order a b →
+      a.process ≢ b.process →
+      IsSooner g o starts a.process b.process
   sooner_of a b h k c ne = elim c [
     | inl l ↦ inl (omega (arith, h.start, k.start))
     | inr r ↦ elim (urgent_total g a.process b.process ne) [
@@ -178,13 +211,15 @@ module _ (g : Graph) (o : List Bool) (starts : List (Option ℕ)) (order : List 
     ]
   ]
 
-  pub best_more : (qs : List ℕ) (best : Option Candidate) (other better : Candidate) → IsBestOf g o starts qs best → IsBetterOf order best other better →
+  pub best_more : (qs : List ℕ) (best : Option Candidate) (other better : Candidate) → IsBestOf g o starts qs best →
+      IsBetterOf order best other better →
       IsCandidate g o starts other → IsBestOf g o starts (qs ++ other.process ∷ []) (Some better)
   best_more qs None c better h r is = subst (λ x. IsBestOf g o starts (qs ++ c.process ∷ []) (Some x)) (sym r) (record {
     candidate = is;
     best = λ q k f ne. elim (Contains-append_cases qs (c.process ∷ []) q k) [
       | inl m ↦ absurd (h q m f)
-      | inr m ↦ elim (Contains-cases c.process [] q m) [ inl same ↦ absurd (ne same) | inr n ↦ absurd (Contains-nil q n) ]
+      | inr m ↦
+          elim (Contains-cases c.process [] q m) [ inl same ↦ absurd (ne same) | inr n ↦ absurd (Contains-nil q n) ]
     ];
   })
   best_more qs (Some b) c better h r is = elim r [
@@ -193,7 +228,8 @@ module _ (g : Graph) (o : List Bool) (starts : List (Option ℕ)) (order : List 
       best = λ q k f ne. elim (Contains-append_cases qs (c.process ∷ []) q k) [
         | inl m ↦ h.best q m f ne
         | inr m ↦ elim (Contains-cases c.process [] q m) [
-          | inl same ↦ subst (IsSooner g o starts b.process) same (sooner_of b c h.candidate is x.1 (λ e. ne (e ∙ same)))
+          | inl same ↦
+              subst (IsSooner g o starts b.process) same (sooner_of b c h.candidate is x.1 (λ e. ne (e ∙ same)))
           | inr n ↦ absurd (Contains-nil q n)
         ]
       ];
@@ -201,12 +237,15 @@ module _ (g : Graph) (o : List Bool) (starts : List (Option ℕ)) (order : List 
     | inr x ↦ subst (λ x. IsBestOf g o starts (qs ++ c.process ∷ []) (Some x)) (sym x.0) (record {
       candidate = is;
       best = λ q k f ne. elim (Contains-append_cases qs (c.process ∷ []) q k) [
-        | inr m ↦ elim (Contains-cases c.process [] q m) [ inl same ↦ absurd (ne same) | inr n ↦ absurd (Contains-nil q n) ]
+        | inr m ↦
+            elim (Contains-cases c.process [] q m) [ inl same ↦ absurd (ne same) | inr n ↦ absurd (Contains-nil q n) ]
         | inl m ↦ elim (cases_eq b.process q) [
-          | inl same ↦ subst (IsSooner g o starts c.process) same (sooner_of c b is h.candidate x.1 (λ e. ne (e ∙ same)))
+          | inl same ↦
+              subst (IsSooner g o starts c.process) same (sooner_of c b is h.candidate x.1 (λ e. ne (e ∙ same)))
           | inr other ↦ elim (cases_eq c.process b.process) [
             | inl e ↦ subst (λ z. IsSooner g o starts z q) (sym e) (h.best q m f other)
-            | inr differ ↦ sooner_chain g o starts c.process b.process q (sooner_of c b is h.candidate x.1 differ) (h.best q m f other)
+            | inr differ ↦ sooner_chain g o starts c.process b.process q (sooner_of c b is h.candidate x.1 differ)
+                (h.best q m f other)
           ]
         ]
       ];
@@ -214,7 +253,9 @@ module _ (g : Graph) (o : List Bool) (starts : List (Option ℕ)) (order : List 
   ]
 
 -- the better of two processes of the graph is one
-pub either_within : (n : ℕ) (order : List ℕ) (best : Option Candidate) (other better : Candidate) → IsBetterOf order best other better → IfSome best (λ c. c.process < n) →
+pub either_within : (n : ℕ) (order : List ℕ) (best : Option Candidate) (other better : Candidate) →
+    IsBetterOf order best other better →
+    IfSome best (λ c. c.process < n) →
     other.process < n → better.process < n
 either_within n order None other better r h k = subst (λ (c : Candidate). c.process < n) (sym r) k
 either_within n order (Some b) other better r h k = elim r [
@@ -223,59 +264,86 @@ either_within n order (Some b) other better r h k = elim r [
 ]
 
 -- one of what can be placed is a candidate
-is_candidate : (g : Graph) (o : List Bool) (starts : List (Option ℕ)) (free : List ℕ) (f : FedProcess) (c : Candidate) → AreFree g starts free → IsFedAt g o starts f →
-    node_of g f.process < length g.nodes → c.process ≡ f.process → c.start ≡ max f.ready (get_or free (node_of g f.process) 0) → IsCandidate g o starts c
+is_candidate : (g : Graph) (o : List Bool) (starts : List (Option ℕ)) (free : List ℕ) (f : FedProcess) (c : Candidate) →
+    AreFree g starts free →
+    IsFedAt g o starts f →
+    node_of g f.process < length g.nodes → c.process ≡ f.process →
+    c.start ≡ max f.ready (get_or free (node_of g f.process) 0) → IsCandidate g o starts c
 is_candidate g o starts free f c are is node process start = record {
   fed = subst (IsFed g o starts) (sym process) is.fed;
-  start = start ∙ ap₂ max is.ready (ap (λ xs. get_or xs (node_of g f.process) 0) are ∙ get_or-map-below (free_at g starts) (length g.nodes) (node_of g f.process) 0 node)
+  start = start ∙ ap₂ max is.ready (ap (λ xs. get_or xs (node_of g f.process) 0) are
+      ∙ get_or-map-below (free_at g starts) (length g.nodes) (node_of g f.process) 0 node)
       ∙ ap (would_start g o starts) (sym process);
 }
 
 -- the best after one more of what can be placed
-pub best_after : (g : Graph) (o : List Bool) (starts : List (Option ℕ)) (order : List ℕ) → IsUrgencyOrder g order → (free : List ℕ) (fed : List FedProcess) → AreFree g starts free →
-    AreFed g o starts fed → (i : ℕ) (d : FedProcess) → i < length fed → (best : Option Candidate) (other better : Candidate) → IsBestOf g o starts (processes_of (take i fed)) best →
-    IsBetterOf order best other better → node_of g (get_or fed i d).process < length g.nodes → other.process ≡ (get_or fed i d).process →
-    other.start ≡ max (get_or fed i d).ready (get_or free (node_of g (get_or fed i d).process) 0) → IsBestOf g o starts (processes_of (take (i + 1) fed)) (Some better)
+pub best_after : (g : Graph) (o : List Bool) (starts : List (Option ℕ)) (order : List ℕ) → IsUrgencyOrder g order →
+    (free : List ℕ) (fed : List FedProcess) →
+    AreFree g starts free →
+    AreFed g o starts fed → (i : ℕ) (d : FedProcess) → i < length fed →
+    (best : Option Candidate) (other better : Candidate) → IsBestOf g o starts (processes_of (take i fed)) best →
+    IsBetterOf order best other better → node_of g (get_or fed i d).process < length g.nodes →
+    other.process ≡ (get_or fed i d).process →
+    other.start ≡ max (get_or fed i d).ready (get_or free (node_of g (get_or fed i d).process) 0) →
+    IsBestOf g o starts (processes_of (take (i + 1) fed)) (Some better)
 best_after g o starts order urgency free fed are_free are i d l best other better h r node process start =
     let one = get_or fed i d in
     let more : processes_of (take i fed) ++ other.process ∷ [] ≡ processes_of (take (i + 1) fed) =
-    ap (λ p. processes_of (take i fed) ++ p ∷ []) process ∙ sym (processes_push (take i fed) one) ∙ ap processes_of (sym (take_more fed i d l)) in
-    subst (λ qs. IsBestOf g o starts qs (Some better)) more (best_more g o starts order urgency (processes_of (take i fed)) best other better h r
+    ap (λ p. processes_of (take i fed) ++ p ∷ []) process ∙ sym (processes_push (take i fed) one)
+    ∙ ap processes_of (sym (take_more fed i d l)) in
+    subst (λ qs. IsBestOf g o starts qs (Some better)) more
+    (best_more g o starts order urgency (processes_of (take i fed)) best other better h r
     (is_candidate g o starts free one other are_free (are.each one (Contains-get_or fed i d l)) node process start))
 
-pub active_at : (g : Graph) (t : Track) → IsTrackOf g t → (i d : ℕ) → i < length t.active → (get_or t.active i d < process_count g) × (active g t.outcome (get_or t.active i d) ≡ true)
+pub active_at : (g : Graph) (t : Track) → IsTrackOf g t → (i d : ℕ) → i < length t.active →
+    (get_or t.active i d < process_count g) × (active g t.outcome (get_or t.active i d) ≡ true)
 active_at g t track i d l =
     let r = Contains-filter_parts (active g t.outcome) (numbers_below (process_count g)) (get_or t.active i d)
     (subst (λ xs. Contains xs (get_or t.active i d)) track.active (Contains-get_or t.active i d l)) in
     (numbers-Contains (process_count g) (get_or t.active i d) r.0, r.1)
 
 -- the best of all that can be placed is the next
-pub chosen : (g : Graph) (o : List Bool) (starts : List (Option ℕ)) (fed : List FedProcess) → AreFed g o starts fed → (best : Option Candidate) →
+pub chosen : (g : Graph) (o : List Bool) (starts : List (Option ℕ)) (fed : List FedProcess) → AreFed g o starts fed →
+    (best : Option Candidate) →
     IsBestOf g o starts (map (λ f. f.process) fed) best → IsChosen g o starts best
 chosen g o starts fed are None h = λ q f. h q (are.all q f) f
-chosen g o starts fed are (Some c) h = (record { fed = h.candidate.fed; best = λ q f ne. h.best q (are.all q f) f ne }, h.candidate.start)
+chosen g o starts fed are (Some c) h =
+    (record { fed = h.candidate.fed; best = λ q f ne. h.best q (are.all q f) f ne }, h.candidate.start)
 
 -- what is chosen, if the lists are these
-pub chosen_of : (g : Graph) (o : List Bool) (starts : List (Option ℕ)) (free frees : List ℕ) (fed feds : List FedProcess) (result answer : Option Candidate) → frees ≡ free → feds ≡ fed →
-    AreFree g starts free → AreFed g o starts fed → ((o : List Bool) (starts : List (Option ℕ)) → AreFree g starts frees → AreFed g o starts feds → IsChosen g o starts result) →
+pub chosen_of : (g : Graph) (o : List Bool) (starts : List (Option ℕ)) (free frees : List ℕ)
+    (fed feds : List FedProcess) (result answer : Option Candidate) → frees ≡ free → feds ≡ fed →
+    AreFree g starts free → AreFed g o starts fed → ((o : List Bool) (starts : List (Option ℕ)) →
+    AreFree g starts frees → AreFed g o starts feds → IsChosen g o starts result) →
     result ≡ answer → IsChosen g o starts answer
 chosen_of g o starts free frees fed feds result answer same_free same_fed are_free are_fed says is =
-    subst (IsChosen g o starts) is (says o starts (same_free ∙ are_free) (subst (AreFed g o starts) (sym same_fed) are_fed))
+    subst (IsChosen g o starts) is
+    (says o starts (same_free ∙ are_free) (subst (AreFed g o starts) (sym same_fed) are_fed))
 
-pub fed_within : (g : Graph) (o : List Bool) (starts : List (Option ℕ)) (fed : List FedProcess) → AreFed g o starts fed → All (λ f. f.process < process_count g) fed
+pub fed_within : (g : Graph) (o : List Bool) (starts : List (Option ℕ)) (fed : List FedProcess) →
+    AreFed g o starts fed →
+    All (λ f. f.process < process_count g) fed
 fed_within g o starts fed are i d l = (are.each (get_or fed i d) (Contains-get_or fed i d l)).fed.within
 
 -- ---- one process is placed
 
-module _ (g : Graph) (within : IsWithinLimits g) (w : WellFormed g) (o : List Bool) (s : List (Option ℕ)) (h : IsPlacing g o s) (p : ℕ) (n : IsNext g o s p) where
-  pub free_more : (free : List ℕ) → AreFree g s free → AreFree g (set s p (Some (would_start g o s p))) (set free (node_of g p) (would_start g o s p + duration g p g.faults))
+module _ (g : Graph) (within : IsWithinLimits g) (w : WellFormed g) (o : List Bool) (s : List (Option ℕ))
+    (h : IsPlacing g o s) (p : ℕ) (n : IsNext g o s p) where
+  pub free_more : (free : List ℕ) → AreFree g s free →
+      AreFree g (set s p (Some (would_start g o s p)))
+      (set free (node_of g p) (would_start g o s p + duration g p g.faults))
   free_more free k = ext_get_or 0 (set free (node_of g p) end) (map (free_at g next) (numbers_below (length g.nodes)))
       (length-set free (node_of g p) end ∙ long ∙ sym (length-map-range_with_len (free_at g next) 0 (length g.nodes)))
-      (λ node l. let m : node < length g.nodes = omega (arith, length-set free (node_of g p) end, long) in elim (cases_eq node (node_of g p)) [
-        | inl e ↦ ap (λ x. get_or (set free (node_of g p) end) x 0) e ∙ get_or-set_same free (node_of g p) end 0 (omega (arith, long, w.nodes p n.fed.within))
-            ∙ sym (free_here g w o s h p n) ∙ ap (free_at g next) (sym e) ∙ sym (get_or-map-below (free_at g next) (length g.nodes) node 0 m)
-        | inr ne ↦ get_or-set_other free (node_of g p) node end 0 ne ∙ ap (λ xs. get_or xs node 0) k ∙ get_or-map-below (free_at g s) (length g.nodes) node 0 m
-            ∙ sym (free_elsewhere g w o s h p n node ne) ∙ sym (get_or-map-below (free_at g next) (length g.nodes) node 0 m)
+      (λ node l. let m : node < length g.nodes = omega (arith, length-set free (node_of g p) end, long) in
+      elim (cases_eq node (node_of g p)) [
+        | inl e ↦ ap (λ x. get_or (set free (node_of g p) end) x 0) e
+            ∙ get_or-set_same free (node_of g p) end 0 (omega (arith, long, w.nodes p n.fed.within))
+            ∙ sym (free_here g w o s h p n) ∙ ap (free_at g next) (sym e)
+            ∙ sym (get_or-map-below (free_at g next) (length g.nodes) node 0 m)
+        | inr ne ↦ get_or-set_other free (node_of g p) node end 0 ne ∙ ap (λ xs. get_or xs node 0) k
+            ∙ get_or-map-below (free_at g s) (length g.nodes) node 0 m
+            ∙ sym (free_elsewhere g w o s h p n node ne)
+            ∙ sym (get_or-map-below (free_at g next) (length g.nodes) node 0 m)
       ])
     where
       next : List (Option ℕ)
@@ -287,15 +355,18 @@ module _ (g : Graph) (within : IsWithinLimits g) (w : WellFormed g) (o : List Bo
       long : length free ≡ length g.nodes
       long = ap length k ∙ length-map-range_with_len (free_at g s) 0 (length g.nodes)
 
-  pub early_more : (b : ℕ) → 1000000000 ≤ b → AreBy b s → AreBy (b + 616000000000) (set s p (Some (would_start g o s p)))
+  pub early_more : (b : ℕ) → 1000000000 ≤ b → AreBy b s →
+      AreBy (b + 616000000000) (set s p (Some (would_start g o s p)))
   early_more b some early q = elim (cases_eq q p) [
     | inl e ↦ omega (
       arith,
       ap (λ x. start_in (set s p (Some (would_start g o s p))) x) e,
-      ap (λ x. unwrap_or x 0) (get_or-set_same s p (Some (would_start g o s p)) None (omega (arith, h.count, n.fed.within))),
+      ap (λ x. unwrap_or x 0)
+          (get_or-set_same s p (Some (would_start g o s p)) None (omega (arith, h.count, n.fed.within))),
       would_start_by g within w o s b early some p n.fed.within,
     )
-    | inr ne ↦ omega (arith, ap (λ x. unwrap_or x 0) (get_or-set_other s p q (Some (would_start g o s p)) None ne), early q)
+    | inr ne ↦
+        omega (arith, ap (λ x. unwrap_or x 0) (get_or-set_other s p q (Some (would_start g o s p)) None ne), early q)
   ]
 
   pub fewer_left : suc (unplaced_count (set s p (Some (would_start g o s p)))) ≡ unplaced_count s
@@ -304,13 +375,19 @@ module _ (g : Graph) (within : IsWithinLimits g) (w : WellFormed g) (o : List Bo
 -- nothing is placed at first
 module _ (g : Graph) (o : List Bool) where
   pub free_first : AreFree g (replicate (process_count g) None) (replicate (length g.nodes) 0)
-  free_first = ext_get_or 0 (replicate (length g.nodes) 0) (map (free_at g (replicate (process_count g) None)) (numbers_below (length g.nodes)))
-      (length-replicate {A = ℕ} (length g.nodes) 0 ∙ sym (length-map-range_with_len (free_at g (replicate (process_count g) None)) 0 (length g.nodes)))
+  free_first = ext_get_or 0 (replicate (length g.nodes) 0)
+      (map (free_at g (replicate (process_count g) None)) (numbers_below (length g.nodes)))
+      (length-replicate {A = ℕ} (length g.nodes) 0
+      ∙ sym (length-map-range_with_len (free_at g (replicate (process_count g) None)) 0 (length g.nodes)))
       (λ node l. let m : node < length g.nodes = omega (arith, length-replicate {A = ℕ} (length g.nodes) 0) in
-      get_or-replicate (length g.nodes) node 0 0 m ∙ sym (get_or-map-below (free_at g (replicate (process_count g) None)) (length g.nodes) node 0 m ∙ none node))
+      get_or-replicate (length g.nodes) node 0 0 m
+      ∙ sym (get_or-map-below (free_at g (replicate (process_count g) None)) (length g.nodes) node 0 m ∙ none node))
     where
       none : (node : ℕ) → free_at g (replicate (process_count g) None) node ≡ 0
-      none node = elim (free_cases g (replicate (process_count g) None) node) [ inl e ↦ e | inr r ↦ absurd (none_placed g o r.0 r.1) ]
+      none node = elim (free_cases g (replicate (process_count g) None) node) [
+        | inl e ↦ e
+        | inr r ↦ absurd (none_placed g o r.0 r.1)
+      ]
 
   pub early_first : (b : ℕ) → AreBy b (replicate (process_count g) None)
   early_first b p = omega (arith, ap (λ x. unwrap_or x 0) (nothing_there g o p))
@@ -330,10 +407,17 @@ pub record HavePlaced (g : Graph) (o : List Bool) (starts : List (Option ℕ)) (
   pub free : AreFree g starts times
   pub early : AreBy (1000000000 + n * 616000000000) starts
 
-pub placed_first : (g : Graph) (o : List Bool) → HavePlaced g o (replicate (process_count g) None) (replicate (length g.nodes) 0) 0
-placed_first g o = record { placing = place_none g o; left = left_first g o; free = free_first g o; early = early_first g o (1000000000 + 0 * 616000000000) }
+pub placed_first : (g : Graph) (o : List Bool) →
+    HavePlaced g o (replicate (process_count g) None) (replicate (length g.nodes) 0) 0
+placed_first g o = record {
+  placing = place_none g o;
+  left = left_first g o;
+  free = free_first g o;
+  early = early_first g o (1000000000 + 0 * 616000000000);
+}
 
-module _ (g : Graph) (within : IsWithinLimits g) (w : WellFormed g) (o : List Bool) (starts : List (Option ℕ)) (free : List ℕ) (n : ℕ) (h : HavePlaced g o starts free n) where
+module _ (g : Graph) (within : IsWithinLimits g) (w : WellFormed g) (o : List Bool) (starts : List (Option ℕ))
+    (free : List ℕ) (n : ℕ) (h : HavePlaced g o starts free n) where
   pub placed_early : n ≤ process_count g → AreBy (2 ^ 60) starts
   placed_early l p = omega (arith, h.early p, within.few_processes)
 
@@ -344,17 +428,29 @@ module _ (g : Graph) (within : IsWithinLimits g) (w : WellFormed g) (o : List Bo
   frees_long = ap length h.free ∙ length-map-range_with_len (free_at g starts) 0 (length g.nodes)
 
   pub placed_late : (p : ℕ) → n < process_count g → IsNext g o starts p → would_start g o starts p ≤ 2 ^ 60
-  placed_late p l next = omega (arith, would_start_by g within w o starts (1000000000 + n * 616000000000) h.early (omega arith) p next.fed.within, within.few_processes)
+  placed_late p l next = omega (
+    arith,
+    would_start_by g within w o starts (1000000000 + n * 616000000000) h.early (omega arith) p next.fed.within,
+    within.few_processes,
+  )
 
-  pub placed_more : (p start node time : ℕ) → IsNext g o starts p → start ≡ would_start g o starts p → node ≡ node_of g p → time ≡ duration g p g.faults →
+  pub placed_more : (p start node time : ℕ) → IsNext g o starts p → start ≡ would_start g o starts p →
+      node ≡ node_of g p →
+      time ≡ duration g p g.faults →
       HavePlaced g o (set starts p (Some start)) (set free node (start + time)) (n + 1)
-  placed_more p start node time next a b c = subst (λ t. HavePlaced g o (set starts p (Some start)) (set free node (start + t)) (n + 1)) (sym c)
-      (subst (λ m. HavePlaced g o (set starts p (Some start)) (set free m (start + duration g p g.faults)) (n + 1)) (sym b)
-      (subst (λ s. HavePlaced g o (set starts p (Some s)) (set free (node_of g p) (s + duration g p g.faults)) (n + 1)) (sym a) (record {
+  placed_more p start node time next a b c =
+      subst (λ t. HavePlaced g o (set starts p (Some start)) (set free node (start + t)) (n + 1)) (sym c)
+      (subst (λ m. HavePlaced g o (set starts p (Some start)) (set free m (start + duration g p g.faults)) (n + 1))
+      (sym b)
+      (subst (λ s. HavePlaced g o (set starts p (Some s)) (set free (node_of g p) (s + duration g p g.faults)) (n + 1))
+      (sym a) (record {
         placing = place_next g w o starts h.placing p next;
         left = omega (arith, fewer_left g within w o starts h.placing p next, h.left);
         free = free_more g within w o starts h.placing p next free h.free;
-        early = λ q. omega (arith, early_more g within w o starts h.placing p next (1000000000 + n * 616000000000) (omega arith) h.early q);
+        early = λ q. omega (
+          arith,
+          early_more g within w o starts h.placing p next (1000000000 + n * 616000000000) (omega arith) h.early q,
+        );
       })))
 
   pub placed_whole : process_count g ≤ n → IsDone g o starts

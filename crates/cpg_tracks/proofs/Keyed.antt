@@ -1,7 +1,9 @@
 -- Steps of the loops that find the schedules and the keys, and what they come to.
-use Rattle.std.proofs.Common.{◌≡◌, ℕ, ◌+◌, ◌<◌, ◌≤◌, Bool, List, [], ◌∷◌, ◌++◌, length, get_or, set, take, replicate, map, flat_map, All, Contains, IsPermutation, AllPairs, true, Option, Some, None}
+use Rattle.std.proofs.Common.{◌≡◌, ℕ, ◌+◌, ◌<◌, ◌≤◌, Bool, List, [], ◌∷◌, ◌++◌, length, get_or, set, take, replicate}
+use Rattle.std.proofs.Common.{map, flat_map, All, Contains, IsPermutation, AllPairs, true, Option, Some, None}
 use Rattle.std.proofs.Common.{option_to_list, unwrap_or, sym, ap, ◌∙◌, subst, subst₂, arith, inl, inr}
-use Rattle.std.proofs.lemmas.List.{take_more, map-append, length-map, length-append, get_or-replicate, get_or_past, length-replicate, get_or-set_same, get_or-set_other, get_or_append_left}
+use Rattle.std.proofs.lemmas.List.{take_more, map-append, length-map, length-append, get_or-replicate, get_or_past}
+use Rattle.std.proofs.lemmas.List.{length-replicate, get_or-set_same, get_or-set_other, get_or_append_left}
 use Rattle.std.proofs.lemmas.List.{get_or-append-add}
 use Rattle.std.proofs.lemmas.List.Elements.{Contains-append_cases, All-contains}
 use Rattle.std.proofs.lemmas.Bool.{cases_eq, cases_lt}
@@ -16,7 +18,8 @@ use Rattle.cpg_tracks.specs.Keys.{AreLow}
 
 -- ---- no key is high
 
-start_low : (b : ℕ) (schedules : List (List (Option ℕ))) → All (AreBy b) schedules → (p x : ℕ) → Contains (flat_map (λ starts. option_to_list (get_or starts p None)) schedules) x → x ≤ b
+start_low : (b : ℕ) (schedules : List (List (Option ℕ))) → All (AreBy b) schedules → (p x : ℕ) →
+    Contains (flat_map (λ starts. option_to_list (get_or starts p None)) schedules) x → x ≤ b
 start_low b schedules early p x k =
     let r = Contains-flat_map_parts (λ starts. option_to_list (get_or starts p None)) schedules x k in
     let is : get_or r.0 p None ≡ Some x = in_option (get_or r.0 p None) x r.2 in
@@ -25,15 +28,22 @@ start_low b schedules early p x k =
     go : (starts : List (Option ℕ)) → Contains schedules starts → get_or starts p None ≡ Some x → x ≤ b
     go starts m e = omega (arith, All-contains (AreBy b) schedules starts early m p, ap (λ o. unwrap_or o 0) e)
 
-pub key_low : (g : Graph) (schedules : List (List (Option ℕ))) (keys : List ℕ) (b c p : ℕ) → All (AreBy b) schedules → b ≤ c → AreLow c keys → key_by g schedules keys p ≤ c + 1
-key_low g schedules keys b c p early more low = greatest-le (flat_map (λ starts. option_to_list (get_or starts p None)) schedules ++ map (λ e. get_or keys (source g e) 0 + 1) (inputs g p)) (c + 1)
+pub key_low : (g : Graph) (schedules : List (List (Option ℕ))) (keys : List ℕ) (b c p : ℕ) → All (AreBy b) schedules →
+    b ≤ c → AreLow c keys →
+    key_by g schedules keys p ≤ c + 1
+key_low g schedules keys b c p early more low =
+    greatest-le (flat_map (λ starts. option_to_list (get_or starts p None)) schedules
+    ++ map (λ e. get_or keys (source g e) 0 + 1) (inputs g p)) (c + 1)
     (λ x k.
-    elim (Contains-append_cases (flat_map (λ starts. option_to_list (get_or starts p None)) schedules) (map (λ e. get_or keys (source g e) 0 + 1) (inputs g p)) x k) [
+    elim (Contains-append_cases (flat_map (λ starts. option_to_list (get_or starts p None)) schedules)
+    (map (λ e. get_or keys (source g e) 0 + 1) (inputs g p)) x k) [
       | inl m ↦ omega (arith, start_low b schedules early p x m)
-      | inr m ↦ let r = Contains-map_parts (λ e. get_or keys (source g e) 0 + 1) (inputs g p) x m in omega (arith, low (source g r.0), r.2)
+      | inr m ↦ let r = Contains-map_parts (λ e. get_or keys (source g e) 0 + 1) (inputs g p) x m in
+          omega (arith, low (source g r.0), r.2)
     ])
 
-pub low_more : (keys : List ℕ) (c p key : ℕ) → p < length keys → AreLow c keys → key ≤ c + 1 → AreLow (c + 1) (set keys p key)
+pub low_more : (keys : List ℕ) (c p key : ℕ) → p < length keys → AreLow c keys → key ≤ c + 1 →
+    AreLow (c + 1) (set keys p key)
 low_more keys c p key l low k q = elim (cases_eq q p) [
   | inl e ↦ omega (arith, ap (λ x. get_or (set keys p key) x 0) e, get_or-set_same keys p key 0 l)
   | inr ne ↦ omega (arith, get_or-set_other keys p q key 0 ne, low q)
@@ -47,34 +57,46 @@ low_first n b p = elim (cases_lt p n) [
 
 -- ---- the schedule of one more track
 
-pub schedules_more : (g : Graph) (tracks : List Track) (i : ℕ) (d : Track) (schedules more : List (List (Option ℕ))) (starts : List (Option ℕ)) → i < length tracks →
-    AreSchedules g (map (λ (t : Track). t.outcome) (take i tracks)) schedules → IsGreedy g (get_or tracks i d).outcome starts → more ≡ schedules ++ starts ∷ [] →
+pub schedules_more : (g : Graph) (tracks : List Track) (i : ℕ) (d : Track) (schedules more : List (List (Option ℕ)))
+    (starts : List (Option ℕ)) →
+    i < length tracks →
+    AreSchedules g (map (λ (t : Track). t.outcome) (take i tracks)) schedules →
+    IsGreedy g (get_or tracks i d).outcome starts → more ≡ schedules ++ starts ∷ [] →
     AreSchedules g (map (λ (t : Track). t.outcome) (take (i + 1) tracks)) more
 schedules_more g tracks i d schedules more starts l h greedy is =
-    subst (λ ts. AreSchedules g ts more) (sym (ap (map (λ (t : Track). t.outcome)) (take_more tracks i d l) ∙ map-append (λ (t : Track). t.outcome) (take i tracks) (get_or tracks i d ∷ [])))
-    (subst (AreSchedules g (map (λ (t : Track). t.outcome) (take i tracks) ++ (get_or tracks i d).outcome ∷ [])) (sym is)
+    subst (λ ts. AreSchedules g ts more) (sym (ap (map (λ (t : Track). t.outcome)) (take_more tracks i d l)
+    ∙ map-append (λ (t : Track). t.outcome) (take i tracks) (get_or tracks i d ∷ [])))
+    (subst (AreSchedules g (map (λ (t : Track). t.outcome) (take i tracks) ++ (get_or tracks i d).outcome ∷ []))
+    (sym is)
     (one_more (map (λ (t : Track). t.outcome) (take i tracks)) schedules (get_or tracks i d).outcome starts h greedy))
   where
-    one_more : (os : List (List Bool)) (ss : List (List (Option ℕ))) (o : List Bool) (s : List (Option ℕ)) → AreSchedules g os ss → IsGreedy g o s → AreSchedules g (os ++ o ∷ []) (ss ++ s ∷ [])
+    one_more : (os : List (List Bool)) (ss : List (List (Option ℕ))) (o : List Bool) (s : List (Option ℕ)) →
+        AreSchedules g os ss → IsGreedy g o s →
+        AreSchedules g (os ++ o ∷ []) (ss ++ s ∷ [])
     one_more os ss o s h k = record {
       count = length-append ss (s ∷ []) ∙ ap (λ n. n + 1) h.count ∙ sym (length-append os (o ∷ []));
       each = λ j m. elim (cases_lt j (length os)) [
-        | inl n ↦ subst₂ (IsGreedy g) (sym (get_or_append_left os (o ∷ []) [] j n)) (sym (get_or_append_left ss (s ∷ []) [] j (omega (arith, h.count)))) (h.each j n)
+        | inl n ↦ subst₂ (IsGreedy g) (sym (get_or_append_left os (o ∷ []) [] j n))
+            (sym (get_or_append_left ss (s ∷ []) [] j (omega (arith, h.count)))) (h.each j n)
         | inr n ↦
             let at : j ≡ length os + 0 = omega (arith, length-append os (o ∷ []), n) in
             subst₂ (IsGreedy g) (sym (ap (λ x. get_or (os ++ o ∷ []) x []) at ∙ get_or-append-add os (o ∷ []) 0 []))
-            (sym (ap (λ x. get_or (ss ++ s ∷ []) x []) (at ∙ ap (λ n. n + 0) (sym h.count)) ∙ get_or-append-add ss (s ∷ []) 0 [])) k
+            (sym (ap (λ x. get_or (ss ++ s ∷ []) x []) (at ∙ ap (λ n. n + 0) (sym h.count))
+            ∙ get_or-append-add ss (s ∷ []) 0 [])) k
       ];
     }
 
 -- ---- the order
 
-pub keys_long : (g : Graph) (schedules : List (List (Option ℕ))) (keys : List ℕ) → AreKeys g schedules keys → length keys ≡ process_count g
+pub keys_long : (g : Graph) (schedules : List (List (Option ℕ))) (keys : List ℕ) → AreKeys g schedules keys →
+    length keys ≡ process_count g
 keys_long g schedules keys by = ap length by ∙ length-map-range_with_len (key_by g schedules keys) 0 (process_count g)
 
-pub has_order : (g : Graph) (tracks : List Track) (schedules : List (List (Option ℕ))) (keys order : List ℕ) → AreAllTracks g tracks →
+pub has_order : (g : Graph) (tracks : List Track) (schedules : List (List (Option ℕ))) (keys order : List ℕ) →
+    AreAllTracks g tracks →
     AreSchedules g (map (λ (t : Track). t.outcome) tracks) schedules → AreKeys g schedules keys →
-    IsPermutation (numbers_below (length keys)) order → AllPairs (λ p q. is_ahead keys p q ≡ true) order → HasTrackOrder g order
+    IsPermutation (numbers_below (length keys)) order → AllPairs (λ p q. is_ahead keys p q ≡ true) order →
+    HasTrackOrder g order
 has_order g tracks schedules keys order all greedy by perm rising = record {
   tracks = map (λ (t : Track). t.outcome) tracks;
   all = all.outcomes;

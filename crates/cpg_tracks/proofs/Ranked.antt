@@ -1,5 +1,6 @@
 -- The order by rests is the order by keys.
-use Rattle.std.proofs.Common.{ℕ, ◌+◌, ◌-◌, ◌^◌, ◌≡◌, ◌<◌, ◌++◌, ◌∷◌, [], inl, inr, true, List, length, get_or, Contains, IsPermutation, arith, sym, ap, ◌∙◌, subst, ltb, ◌||◌, ◌&&◌, ◌==◌, ltb-true}
+use Rattle.std.proofs.Common.{ℕ, ◌+◌, ◌-◌, ◌^◌, ◌≡◌, ◌<◌, ◌++◌, ◌∷◌, [], inl, inr, true, List, length, get_or, Contains}
+use Rattle.std.proofs.Common.{IsPermutation, arith, sym, ap, ◌∙◌, subst, ltb, ◌||◌, ◌&&◌, ◌==◌, ltb-true}
 use Rattle.std.proofs.Common.{eqb-true}
 use Rattle.std.specs.List.{AllPairs}
 use Rattle.std.proofs.lemmas.Grind.{common_steps}
@@ -27,27 +28,44 @@ module _ (keys rests order : List ℕ) (are : AreRests keys rests) (ranked : Are
   all_ranked = subst (λ n. IsPermutation (numbers_below n) order) are.count ranked.all
 
   -- a lower key is farther from the greatest number
-  ahead : (p q : ℕ) → p < length keys → q < length keys → (ltb (get_or rests q 0) (get_or rests p 0) || ((get_or rests p 0 == get_or rests q 0) && ltb p q)) ≡ true → is_ahead keys p q ≡ true
-  ahead p q l m e = elim (or_cases (ltb (get_or rests q 0) (get_or rests p 0)) ((get_or rests p 0 == get_or rests q 0) && ltb p q) e) [
-    | inl far ↦ ahead_by_key keys p q (omega (arith, are.each p l, are.each q m, ltb-true (get_or rests q 0) (get_or rests p 0) far))
-    | inr r ↦
-        let s = and_parts (get_or rests p 0 == get_or rests q 0) (ltb p q) r in
-        ahead_by_number keys p q (omega (arith, are.each p l, are.each q m, eqb-true (get_or rests p 0) (get_or rests q 0) s.0)) (ltb-true p q s.1)
-  ]
+  ahead : (p q : ℕ) → p < length keys → q < length keys →
+      (ltb (get_or rests q 0) (get_or rests p 0) || ((get_or rests p 0 == get_or rests q 0) && ltb p q)) ≡ true →
+      is_ahead keys p q ≡ true
+  ahead p q l m e = elim (or_cases (ltb (get_or rests q 0) (get_or rests p 0))
+      ((get_or rests p 0 == get_or rests q 0) && ltb p q) e) [
+        | inl far ↦ ahead_by_key keys p q
+            (omega (arith, are.each p l, are.each q m, ltb-true (get_or rests q 0) (get_or rests p 0) far))
+        | inr r ↦
+            let s = and_parts (get_or rests p 0 == get_or rests q 0) (ltb p q) r in
+            ahead_by_number keys p q
+            (omega (arith, are.each p l, are.each q m, eqb-true (get_or rests p 0) (get_or rests q 0) s.0))
+            (ltb-true p q s.1)
+      ]
 
   pub rising_by_key : AllPairs (λ p q. is_ahead keys p q ≡ true) order
   rising_by_key i j d h l =
       let within : (p : ℕ) → Contains order p → p < length keys = from_order (length keys) order all_ranked in
-      ahead (get_or order i d) (get_or order j d) (within (get_or order i d) (Contains-get_or order i d (omega arith))) (within (get_or order j d) (Contains-get_or order j d l))
+      ahead (get_or order i d) (get_or order j d) (within (get_or order i d) (Contains-get_or order i d (omega arith)))
+      (within (get_or order j d) (Contains-get_or order j d l))
       (ranked.falling i j d h l)
 
 -- one more of the numbers
-pub rests_more : (keys rests next : List ℕ) (n rest : ℕ) → AreRestsUpTo keys n rests → rest + get_or keys n 0 ≡ 2 ^ 64 - 1 → next ≡ rests ++ rest ∷ [] → AreRestsUpTo keys (n + 1) next
+pub rests_more : (keys rests next : List ℕ) (n rest : ℕ) → AreRestsUpTo keys n rests →
+    rest + get_or keys n 0 ≡ 2 ^ 64 - 1 → next ≡ rests ++ rest ∷ [] →
+    AreRestsUpTo keys (n + 1) next
 rests_more keys rests next n rest are is to = record {
   count = omega (arith, ap length to, count_more rests rest, are.count);
   each = λ p l. elim (cases_order p n) [
-    | inl e ↦ omega (arith, ap (λ xs. get_or xs p 0) to, ap (λ k. get_or (rests ++ rest ∷ []) k 0) (e ∙ sym are.count), ap (λ k. get_or keys k 0) e, rest_last rests rest, is)
-    | inr (inl m) ↦ omega (arith, ap (λ xs. get_or xs p 0) to, rest_more rests p rest (omega (arith, are.count)), are.each p m)
+    | inl e ↦ omega (
+      arith,
+      ap (λ xs. get_or xs p 0) to,
+      ap (λ k. get_or (rests ++ rest ∷ []) k 0) (e ∙ sym are.count),
+      ap (λ k. get_or keys k 0) e,
+      rest_last rests rest,
+      is,
+    )
+    | inr (inl m) ↦
+        omega (arith, ap (λ xs. get_or xs p 0) to, rest_more rests p rest (omega (arith, are.count)), are.each p m)
     | inr (inr m) ↦ absurd (omega (arith, l, m))
   ];
 }

@@ -1,5 +1,6 @@
 -- Steps of the loops that list the tracks.
-use Rattle.std.proofs.Common.{◌≡◌, ℕ, ◌+◌, ◌<◌, List, [], ◌∷◌, ◌++◌, length, get_or, take, drop, map, flat_map, option_to_list, Option, Some, None, refl, sym, ap, ◌∙◌, arith}
+use Rattle.std.proofs.Common.{◌≡◌, ℕ, ◌+◌, ◌<◌, List, [], ◌∷◌, ◌++◌, length, get_or, take, drop, map, flat_map}
+use Rattle.std.proofs.Common.{option_to_list, Option, Some, None, refl, sym, ap, ◌∙◌, arith}
 use Rattle.std.proofs.lemmas.List.{take_more, append-nil, map-append, take-append-drop}
 use Rattle.std.proofs.lemmas.Grind.{flat_map-append}
 use Rattle.cpg_base.specs.Graph.{Graph, condition_of}
@@ -13,47 +14,63 @@ use Rattle.cpg_tracks.proofs.TracksFound.{walk_finds_tracks, never_fewer}
 use Rattle.cpg_tracks.proofs.TrackSteps.{over_append}
 
 -- what the first elements of a list give, and one more
-flat_map_next : {X Y : Type 0} (f : X → List Y) (xs : List X) (i : ℕ) (d : X) → i < length xs → flat_map f (take (i + 1) xs) ≡ flat_map f (take i xs) ++ f (get_or xs i d)
-flat_map_next f xs i d l = ap (flat_map f) (take_more xs i d l) ∙ flat_map-append f (take i xs) (get_or xs i d ∷ []) ∙ ap (λ ys. flat_map f (take i xs) ++ ys) (append-nil (f (get_or xs i d)))
+flat_map_next : {X Y : Type 0} (f : X → List Y) (xs : List X) (i : ℕ) (d : X) → i < length xs →
+    flat_map f (take (i + 1) xs) ≡ flat_map f (take i xs) ++ f (get_or xs i d)
+flat_map_next f xs i d l = ap (flat_map f) (take_more xs i d l) ∙ flat_map-append f (take i xs) (get_or xs i d ∷ [])
+    ∙ ap (λ ys. flat_map f (take i xs) ++ ys) (append-nil (f (get_or xs i d)))
 
-map_next : {X Y : Type 0} (f : X → Y) (xs : List X) (i : ℕ) (d : X) → i < length xs → map f (take (i + 1) xs) ≡ map f (take i xs) ++ f (get_or xs i d) ∷ []
+map_next : {X Y : Type 0} (f : X → Y) (xs : List X) (i : ℕ) (d : X) → i < length xs →
+    map f (take (i + 1) xs) ≡ map f (take i xs) ++ f (get_or xs i d) ∷ []
 map_next f xs i d l = ap (map f) (take_more xs i d l) ∙ map-append f (take i xs) (get_or xs i d ∷ [])
 
 -- ---- the ways of one more outcome
 
-pub ways_more : (g : Graph) (c : ℕ) (xs before after : List Scenario) (i : ℕ) (d : Scenario) → i < length xs → outcomes_of before ≡ flat_map (both_ways_at g c) (outcomes_of (take i xs)) →
-    outcomes_of after ≡ outcomes_of before ++ both_ways_at g c (get_or xs i d).values → outcomes_of after ≡ flat_map (both_ways_at g c) (outcomes_of (take (i + 1) xs))
+pub ways_more : (g : Graph) (c : ℕ) (xs before after : List Scenario) (i : ℕ) (d : Scenario) → i < length xs →
+    outcomes_of before ≡ flat_map (both_ways_at g c) (outcomes_of (take i xs)) →
+    outcomes_of after ≡ outcomes_of before ++ both_ways_at g c (get_or xs i d).values →
+    outcomes_of after ≡ flat_map (both_ways_at g c) (outcomes_of (take (i + 1) xs))
 ways_more g c xs before after i d l h e = e ∙ ap (λ ys. ys ++ both_ways_at g c (get_or xs i d).values) h
     ∙ sym (ap (flat_map (both_ways_at g c)) (map_next (λ (s : Scenario). s.values) xs i d l)
     ∙ flat_map-append (both_ways_at g c) (outcomes_of (take i xs)) ((get_or xs i d).values ∷ [])
-    ∙ ap (λ ys. flat_map (both_ways_at g c) (outcomes_of (take i xs)) ++ ys) (append-nil (both_ways_at g c (get_or xs i d).values)))
+    ∙ ap (λ ys. flat_map (both_ways_at g c) (outcomes_of (take i xs)) ++ ys)
+    (append-nil (both_ways_at g c (get_or xs i d).values)))
 
 -- ---- one more process of the order
 
-over_next : (g : Graph) (order : List ℕ) (i : ℕ) (o : Option ℕ) → i < length order → condition_of g (get_or order i 0) ≡ o →
-    tracks_over g (conditions_along g (take (i + 1) order)) (all_false g ∷ []) ≡ tracks_over g (option_to_list o) (tracks_over g (conditions_along g (take i order)) (all_false g ∷ []))
+over_next : (g : Graph) (order : List ℕ) (i : ℕ) (o : Option ℕ) → i < length order →
+    condition_of g (get_or order i 0) ≡ o →
+    tracks_over g (conditions_along g (take (i + 1) order)) (all_false g ∷ [])
+    ≡ tracks_over g (option_to_list o) (tracks_over g (conditions_along g (take i order)) (all_false g ∷ []))
 over_next g order i o l e = ap (λ cs. tracks_over g cs (all_false g ∷ []))
-    (flat_map_next (λ p. option_to_list (condition_of g p)) order i 0 l ∙ ap (λ r. conditions_along g (take i order) ++ option_to_list r) e)
+    (flat_map_next (λ p. option_to_list (condition_of g p)) order i 0 l
+    ∙ ap (λ r. conditions_along g (take i order) ++ option_to_list r) e)
     ∙ over_append g (conditions_along g (take i order)) (option_to_list o) (all_false g ∷ [])
 
-pub walk_takes : (g : Graph) (order : List ℕ) (i c : ℕ) (before after : List Scenario) → i < length order → condition_of g (get_or order i 0) ≡ Some c →
-    outcomes_of before ≡ tracks_over g (conditions_along g (take i order)) (all_false g ∷ []) → outcomes_of after ≡ flat_map (both_ways_at g c) (outcomes_of before) →
+pub walk_takes : (g : Graph) (order : List ℕ) (i c : ℕ) (before after : List Scenario) → i < length order →
+    condition_of g (get_or order i 0) ≡ Some c →
+    outcomes_of before ≡ tracks_over g (conditions_along g (take i order)) (all_false g ∷ []) →
+    outcomes_of after ≡ flat_map (both_ways_at g c) (outcomes_of before) →
     outcomes_of after ≡ tracks_over g (conditions_along g (take (i + 1) order)) (all_false g ∷ [])
-walk_takes g order i c before after l e h k = k ∙ ap (flat_map (both_ways_at g c)) h ∙ sym (over_next g order i (Some c) l e)
+walk_takes g order i c before after l e h k =
+    k ∙ ap (flat_map (both_ways_at g c)) h ∙ sym (over_next g order i (Some c) l e)
 
-pub walk_skips : (g : Graph) (order : List ℕ) (i : ℕ) (scenarios : List Scenario) → i < length order → condition_of g (get_or order i 0) ≡ None →
-    outcomes_of scenarios ≡ tracks_over g (conditions_along g (take i order)) (all_false g ∷ []) → outcomes_of scenarios ≡ tracks_over g (conditions_along g (take (i + 1) order)) (all_false g ∷ [])
+pub walk_skips : (g : Graph) (order : List ℕ) (i : ℕ) (scenarios : List Scenario) → i < length order →
+    condition_of g (get_or order i 0) ≡ None →
+    outcomes_of scenarios ≡ tracks_over g (conditions_along g (take i order)) (all_false g ∷ []) →
+    outcomes_of scenarios ≡ tracks_over g (conditions_along g (take (i + 1) order)) (all_false g ∷ [])
 walk_skips g order i scenarios l e h = h ∙ sym (over_next g order i None l e)
 
 -- a walk that has found too many may stop
 pub stopped_at : (g : Graph) (order : List ℕ) → IsUrgencyOrder g order → IsTopological g order → (i : ℕ) →
-    most_scheduled_tracks < length (tracks_over g (conditions_along g (take i order)) (all_false g ∷ [])) → HasManyTracks g
+    most_scheduled_tracks < length (tracks_over g (conditions_along g (take i order)) (all_false g ∷ [])) →
+    HasManyTracks g
 stopped_at g order urgency top i l =
     let front : List ℕ = conditions_along g (take i order) in
     let back : List ℕ = conditions_along g (drop i order) in
     let split : conditions_along g order ≡ front ++ back = ap (conditions_along g) (sym (take-append-drop i order)) ∙
     flat_map-append (λ p. option_to_list (condition_of g p)) (take i order) (drop i order) in
-    let all : tracks_over g (conditions_along g order) (all_false g ∷ []) ≡ tracks_over g back (tracks_over g front (all_false g ∷ [])) =
+    let all : tracks_over g (conditions_along g order) (all_false g ∷ [])
+    ≡ tracks_over g back (tracks_over g front (all_false g ∷ [])) =
     ap (λ cs. tracks_over g cs (all_false g ∷ [])) split ∙ over_append g front back (all_false g ∷ []) in
     record {
       tracks = tracks_over g (conditions_along g order) (all_false g ∷ []);
@@ -63,10 +80,15 @@ stopped_at g order urgency top i l =
 
 -- ---- the track of one more outcome
 
-pub outcomes_more : (xs : List Scenario) (before after : List Track) (t : Track) (i : ℕ) (d : Scenario) → i < length xs → map (λ (t : Track). t.outcome) before ≡ outcomes_of (take i xs) →
-    t.outcome ≡ (get_or xs i d).values → after ≡ before ++ t ∷ [] → map (λ (t : Track). t.outcome) after ≡ outcomes_of (take (i + 1) xs)
-outcomes_more xs before after t i d l h e k = ap (map (λ (t : Track). t.outcome)) k ∙ map-append (λ (t : Track). t.outcome) before (t ∷ [])
-    ∙ ap (λ ys. ys ++ t.outcome ∷ []) h ∙ ap (λ o. outcomes_of (take i xs) ++ o ∷ []) e ∙ sym (map_next (λ (s : Scenario). s.values) xs i d l)
+pub outcomes_more : (xs : List Scenario) (before after : List Track) (t : Track) (i : ℕ) (d : Scenario) →
+    i < length xs →
+    map (λ (t : Track). t.outcome) before ≡ outcomes_of (take i xs) →
+    t.outcome ≡ (get_or xs i d).values → after ≡ before ++ t ∷ [] →
+    map (λ (t : Track). t.outcome) after ≡ outcomes_of (take (i + 1) xs)
+outcomes_more xs before after t i d l h e k =
+    ap (map (λ (t : Track). t.outcome)) k ∙ map-append (λ (t : Track). t.outcome) before (t ∷ [])
+    ∙ ap (λ ys. ys ++ t.outcome ∷ []) h ∙ ap (λ o. outcomes_of (take i xs) ++ o ∷ []) e
+    ∙ sym (map_next (λ (s : Scenario). s.values) xs i d l)
 
 pub none_if : (o : Option ℕ) → ((x : ℕ) → o ≡ Some x → ⊥) → o ≡ None
 none_if None h = refl

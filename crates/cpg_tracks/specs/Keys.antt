@@ -10,7 +10,8 @@ latest schedules p = greatest (flat_map (λ starts. option_to_list (get_or start
 
 -- the key of a process by some of its inputs
 abbrev pub key_over : Graph → List (List (Option ℕ)) → List ℕ → ℕ → List ℕ → ℕ
-key_over g schedules keys p edges = greatest (flat_map (λ starts. option_to_list (get_or starts p None)) schedules ++ map (λ e.
+key_over g schedules keys p edges =
+    greatest (flat_map (λ starts. option_to_list (get_or starts p None)) schedules ++ map (λ e.
     get_or keys (source g e) 0 + 1) edges)
 
 -- no key is above a bound

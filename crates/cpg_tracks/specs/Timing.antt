@@ -1,5 +1,6 @@
 -- What placing the processes of a track rests on, and what it has come to.
-use Rattle.std.specs.Prelude.{ℕ, ◌≡◌, ◌≢◌, ◌<◌, ◌≤◌, ◌^◌, ◌⊎◌, Bool, true, List, Option, Some, None, map, length, Contains}
+use Rattle.std.specs.Prelude.{ℕ, ◌≡◌, ◌≢◌, ◌<◌, ◌≤◌, ◌^◌, ◌⊎◌, Bool, true, List, Option, Some, None, map, length}
+use Rattle.std.specs.Prelude.{Contains}
 use Rattle.cpg_base.specs.Numbers.{numbers_below}
 use Rattle.cpg_base.specs.Graph.{Graph, process_count, edge_count, outputs, target}
 use Rattle.cpg_base.specs.Limits.{IsWithinLimits}
@@ -20,7 +21,8 @@ use Rattle.cpg_tracks.specs.Track.{IsTrackOf, AreBy}
 abbrev pub outcome_of : Timing → List Bool
 outcome_of t = t.track.now.outcome
 
--- an admitted graph has these edges of each process, active processes, live edges, durations with all the faults, and length of a message
+-- an admitted graph has these edges of each process, active processes, live edges, durations with all the faults, and
+-- length of a message
 pub record IsTiming (g : Graph) (t : Timing) : Type 0 where
   pub limits : IsWithinLimits g
   pub well_formed : WellFormed g
@@ -51,13 +53,18 @@ pub record AreFed (g : Graph) (o : List Bool) (starts : List (Option ℕ)) (fed 
   pub all : (q : ℕ) → IsFed g o starts q → Contains (map (λ f. f.process) fed) q
 
 -- the same, but for the targets of p's live outputs, which may be missing
-pub record AreFedBut (g : Graph) (o : List Bool) (starts : List (Option ℕ)) (p : ℕ) (fed : List FedProcess) : Type 0 where
+pub record AreFedBut (g : Graph) (o : List Bool) (starts : List (Option ℕ)) (p : ℕ)
+    (fed : List FedProcess) : Type 0 where
   pub each : (f : FedProcess) → Contains fed f → IsFedAt g o starts f
-  pub all : (q : ℕ) → IsFed g o starts q → Contains (map (λ f. f.process) fed) q ⊎ ((e : ℕ) × Contains (outputs g p) e × (live g o e ≡ true) × (target g e ≡ q))
+  pub all : (q : ℕ) → IsFed g o starts q →
+      Contains (map (λ f. f.process) fed) q ⊎
+      ((e : ℕ) × Contains (outputs g p) e × (live g o e ≡ true) × (target g e ≡ q))
 
 -- p is added to them, if it can be placed
-pub record Feeds (g : Graph) (o : List Bool) (starts : List (Option ℕ)) (p : ℕ) (old new : List FedProcess) : Type 0 where
-  pub each : ((f : FedProcess) → Contains old f → IsFedAt g o starts f) → (f : FedProcess) → Contains new f → IsFedAt g o starts f
+pub record Feeds (g : Graph) (o : List Bool) (starts : List (Option ℕ)) (p : ℕ)
+    (old new : List FedProcess) : Type 0 where
+  pub each : ((f : FedProcess) → Contains old f → IsFedAt g o starts f) → (f : FedProcess) → Contains new f →
+      IsFedAt g o starts f
   pub kept : (q : ℕ) → Contains (map (λ f. f.process) old) q → Contains (map (λ f. f.process) new) q
   pub added : IsFed g o starts p → Contains (map (λ f. f.process) new) p
 
@@ -67,7 +74,8 @@ pub record IsCandidate (g : Graph) (o : List Bool) (starts : List (Option ℕ)) 
   pub start : c.start ≡ would_start g o starts c.process
 
 -- the best of some processes
-pub record IsBestCandidate (g : Graph) (o : List Bool) (starts : List (Option ℕ)) (qs : List ℕ) (c : Candidate) : Type 0 where
+pub record IsBestCandidate (g : Graph) (o : List Bool) (starts : List (Option ℕ)) (qs : List ℕ)
+    (c : Candidate) : Type 0 where
   pub candidate : IsCandidate g o starts c
   pub best : (q : ℕ) → Contains qs q → IsFed g o starts q → c.process ≢ q → IsSooner g o starts c.process q
 

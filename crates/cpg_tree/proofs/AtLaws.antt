@@ -1,5 +1,6 @@
 -- What a list tells of a scenario's value, and of how many leaves there are.
-use Rattle.std.proofs.Common.{ℕ, ◌+◌, ◌*◌, ◌-◌, ◌/◌, ◌<◌, ◌≤◌, ◌≡◌, List, [], ◌∷◌, ◌++◌, length, arith, refl, sym, ap, ◌∙◌}
+use Rattle.std.proofs.Common.{ℕ, ◌+◌, ◌*◌, ◌-◌, ◌/◌, ◌<◌, ◌≤◌, ◌≡◌, List, [], ◌∷◌, ◌++◌, length, arith, refl, sym, ap}
+use Rattle.std.proofs.Common.{◌∙◌}
 use Rattle.std.proofs.lemmas.List.{length-append}
 use Rattle.cpg_base.specs.Scenario.{Scenario, number_of}
 use Rattle.cpg_cube.specs.declared.literal.Literal.{Literal}
@@ -19,13 +20,16 @@ module _ {T : Type 0} (items : List (TreeItem T)) (n : TreeNode T) (are : items 
 
   module _ (v cut : ℕ) (x y : TreeNode T) (is : items ≡ flat (Fork v cut x y)) (z : T) where
     pub at_below : number_of s v ≤ cut → z ≡ value_at x s → z ≡ value_at n s
-    at_below h e = e ∙ sym (value_below v cut x y s h) ∙ ap (λ (m : TreeNode T). value_at m s) (flat-same (Fork v cut x y) n (sym is ∙ are))
+    at_below h e = e ∙ sym (value_below v cut x y s h)
+        ∙ ap (λ (m : TreeNode T). value_at m s) (flat-same (Fork v cut x y) n (sym is ∙ are))
 
     pub at_above : cut < number_of s v → z ≡ value_at y s → z ≡ value_at n s
-    at_above h e = e ∙ sym (value_above v cut x y s h) ∙ ap (λ (m : TreeNode T). value_at m s) (flat-same (Fork v cut x y) n (sym is ∙ are))
+    at_above h e = e ∙ sym (value_above v cut x y s h)
+        ∙ ap (λ (m : TreeNode T). value_at m s) (flat-same (Fork v cut x y) n (sym is ∙ are))
 
 -- a list has an item for each leaf, and one for each fork: one fewer
-pub length-flat : {T : Type 0} (n : TreeNode T) (k : ℕ) (cube : List Literal) → length (flat n) + 1 ≡ 2 * length (paths_from k cube n)
+pub length-flat : {T : Type 0} (n : TreeNode T) (k : ℕ) (cube : List Literal) →
+    length (flat n) + 1 ≡ 2 * length (paths_from k cube n)
 length-flat (Leaf x) k cube = refl
 length-flat {T} (Fork v cut x y) k cube =
     let last : List (TreeItem T) = Cut v cut (length (flat x)) ∷ [] in
@@ -33,7 +37,8 @@ length-flat {T} (Fork v cut x y) k cube =
       arith,
       length-append (flat x ++ flat y) last,
       length-append (flat x) (flat y),
-      length-append (paths_from k (narrowed_by (up_to v cut) cube) x) (paths_from k (narrowed_by (above k v cut) cube) y),
+      length-append (paths_from k (narrowed_by (up_to v cut) cube) x)
+          (paths_from k (narrowed_by (above k v cut) cube) y),
       length-flat x k (narrowed_by (up_to v cut) cube),
       length-flat y k (narrowed_by (above k v cut) cube),
     )
@@ -41,5 +46,8 @@ length-flat {T} (Fork v cut x y) k cube =
 half : (a b : ℕ) → a + 1 ≡ 2 * b → a - a / 2 ≡ b
 half a b e = omega arith
 
-pub leaves_are : {T : Type 0} (items : List (TreeItem T)) (n : TreeNode T) (k : ℕ) (cube : List Literal) → items ≡ flat n → length items - length items / 2 ≡ length (paths_from k cube n)
-leaves_are items n k cube are = half (length items) (length (paths_from k cube n)) (ap (λ m. m + 1) (ap length are) ∙ length-flat n k cube)
+pub leaves_are : {T : Type 0} (items : List (TreeItem T)) (n : TreeNode T) (k : ℕ) (cube : List Literal) →
+    items ≡ flat n →
+    length items - length items / 2 ≡ length (paths_from k cube n)
+leaves_are items n k cube are =
+    half (length items) (length (paths_from k cube n)) (ap (λ m. m + 1) (ap length are) ∙ length-flat n k cube)

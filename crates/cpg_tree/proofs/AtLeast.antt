@@ -23,15 +23,20 @@ module _ (least : ℕ) where
   abbrev pub IsFrom : Path (Option ℕ) → Type 0
   IsFrom p = p.1 ≡ Some (max (time_later 0 p.1) least)
 
-  pub at_least_paths : (k : ℕ) (node : TreeNode (Option ℕ)) (cube : List Literal) → AreAtLeast least node → All IsFrom (paths_from k cube node)
+  pub at_least_paths : (k : ℕ) (node : TreeNode (Option ℕ)) (cube : List Literal) → AreAtLeast least node →
+      All IsFrom (paths_from k cube node)
   at_least_paths k (Leaf x) cube h = All-cons IsFrom (cube, x) [] h (All-nil IsFrom)
   at_least_paths k (Fork v cut below upper) cube h =
-      All-append IsFrom (paths_from k (narrowed_by (up_to v cut) cube) below) (paths_from k (narrowed_by (above k v cut) cube) upper)
-      (at_least_paths k below (narrowed_by (up_to v cut) cube) h.0) (at_least_paths k upper (narrowed_by (above k v cut) cube) h.1)
+      All-append IsFrom (paths_from k (narrowed_by (up_to v cut) cube) below)
+      (paths_from k (narrowed_by (above k v cut) cube) upper)
+      (at_least_paths k below (narrowed_by (up_to v cut) cube) h.0)
+      (at_least_paths k upper (narrowed_by (above k v cut) cube) h.1)
 
   -- what a list tells of its tree
   pub at_least_listed : (n : TreeNode (Option ℕ)) → All (IsItemFrom least) (flat n) → AreAtLeast least n
   at_least_listed (Leaf x) h = All-head (IsItemFrom least) (Value x) [] h
   at_least_listed (Fork v cut x y) h =
-      let sides = all_front (IsItemFrom least) (flat x ++ flat y) (Cut v cut (length (flat x)) ∷ []) h in
-      (at_least_listed x (all_front (IsItemFrom least) (flat x) (flat y) sides), at_least_listed y (all_back (IsItemFrom least) (flat x) (flat y) sides))
+      let sides = all_front (IsItemFrom least) (flat x ++ flat y) (Cut v cut (length (flat x)) ∷ []) h in (
+        at_least_listed x (all_front (IsItemFrom least) (flat x) (flat y) sides),
+        at_least_listed y (all_back (IsItemFrom least) (flat x) (flat y) sides),
+      )

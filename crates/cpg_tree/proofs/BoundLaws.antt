@@ -1,5 +1,6 @@
 -- The bounds of the forks on the sides of a fork.
-use Rattle.std.proofs.Common.{ℕ, ◌<◌, ◌+◌, ◌*◌, ◌/◌, ◌≡◌, max, min, List, [], ◌∷◌, ◌++◌, length, take, drop, Bool, true, arith, refl, sym, ap, ap₂, ◌∙◌, append_assoc}
+use Rattle.std.proofs.Common.{ℕ, ◌<◌, ◌+◌, ◌*◌, ◌/◌, ◌≡◌, max, min, List, [], ◌∷◌, ◌++◌, length, take, drop, Bool, true}
+use Rattle.std.proofs.Common.{arith, refl, sym, ap, ap₂, ◌∙◌, append_assoc}
 use Rattle.std.specs.Prelude.{nat_le}
 use Rattle.std.specs.List.{IsLastAndRest}
 use Rattle.std.proofs.lemmas.Bool.{leb-true}
@@ -16,11 +17,13 @@ use Rattle.cpg_tree.proofs.Flats.{flat-same, last_same, rest_same}
 use Rattle.cpg_tree.proofs.Greatness.{least_under, most_over}
 
 -- a list without its last item is cut behind the first part
-pub sides_are : (bounds sides : List Span) (last : Span) (forks : ℕ) → IsLastAndRest bounds last sides → AreSpansOfSides bounds forks (take (min forks (length sides)) sides) (drop (min forks
+pub sides_are : (bounds sides : List Span) (last : Span) (forks : ℕ) → IsLastAndRest bounds last sides →
+    AreSpansOfSides bounds forks (take (min forks (length sides)) sides) (drop (min forks
     (length sides)) sides)
 sides_are bounds sides last forks cut front back fork are long =
     let same : sides ≡ front ++ back = rest_same sides (front ++ back) last fork (sym cut.0 ∙ are) in
-    let at : min forks (length sides) ≡ length front = omega (arith, long, ap length same, length-append front back) in (
+    let at : min forks (length sides) ≡ length front =
+    omega (arith, long, ap length same, length-append front back) in (
       ap (λ n. take n sides) at ∙ ap (take (length front)) same ∙ take-append_seam front back,
       ap (λ n. drop n sides) at ∙ ap (drop (length front)) same ∙ drop-append_seam front back,
     )
@@ -41,12 +44,15 @@ forks_in number (Fork v cut below above) = omega (
 half : (items forks : ℕ) → items ≡ 2 * forks + 1 → items / 2 ≡ forks
 half items forks e = omega (arith, e)
 
-pub forks_are : {T : Type 0} (number : T → ℕ) (n : TreeNode T) (items : List (TreeItem T)) → items ≡ flat n → length items / 2 ≡ length (bounds_in number n)
+pub forks_are : {T : Type 0} (number : T → ℕ) (n : TreeNode T) (items : List (TreeItem T)) → items ≡ flat n →
+    length items / 2 ≡ length (bounds_in number n)
 forks_are number n items are = half (length items) (length (bounds_in number n)) (ap length are ∙ forks_in number n)
 
 -- the span of a fork
-module _ {T : Type 0} (number : T → ℕ) (v cut : ℕ) (x y n : TreeNode T) (items : List (TreeItem T)) (is : items ≡ flat (Fork v cut x y)) (are : items ≡ flat n) (first second both : Span)
-    (low : first ≡ span_in number x) (high : second ≡ span_in number y) (made : both ≡ record { least = min first.least second.least; most = max first.most second.most }) where
+module _ {T : Type 0} (number : T → ℕ) (v cut : ℕ) (x y n : TreeNode T) (items : List (TreeItem T))
+    (is : items ≡ flat (Fork v cut x y)) (are : items ≡ flat n) (first second both : Span)
+    (low : first ≡ span_in number x) (high : second ≡ span_in number y)
+    (made : both ≡ record { least = min first.least second.least; most = max first.most second.most }) where
   fork_is : Fork v cut x y ≡ n
   fork_is = flat-same (Fork v cut x y) n (sym is ∙ are)
 
@@ -57,16 +63,20 @@ module _ {T : Type 0} (number : T → ℕ) (v cut : ℕ) (x y n : TreeNode T) (i
   span_fork = of_fork ∙ ap (span_in number) fork_is
 
   -- which is added behind those of its sides
-  pub bounds_fork : (old lower higher new : List Span) → lower ≡ old ++ bounds_in number x → higher ≡ lower ++ bounds_in number y → new ≡ higher ++ (both ∷ []) → new ≡ old ++ bounds_in number n
+  pub bounds_fork : (old lower higher new : List Span) → lower ≡ old ++ bounds_in number x →
+      higher ≡ lower ++ bounds_in number y → new ≡ higher ++ (both ∷ []) →
+      new ≡ old ++ bounds_in number n
   bounds_fork old lower higher new one two last =
       last
-      ∙ ap (λ (xs : List Span). xs ++ (both ∷ [])) (two ∙ ap (λ (xs : List Span). xs ++ bounds_in number y) one ∙ append_assoc old (bounds_in number x) (bounds_in number y))
+      ∙ ap (λ (xs : List Span). xs ++ (both ∷ [])) (two ∙ ap (λ (xs : List Span). xs ++ bounds_in number y) one
+      ∙ append_assoc old (bounds_in number x) (bounds_in number y))
       ∙ append_assoc old (bounds_in number x ++ bounds_in number y) (both ∷ [])
       ∙ ap (λ (s : Span). old ++ (bounds_in number x ++ bounds_in number y ++ (s ∷ []))) of_fork
       ∙ ap (λ (m : TreeNode T). old ++ bounds_in number m) fork_is
 
 -- the span of a value
-module _ {T : Type 0} (number : T → ℕ) (x : T) (n : TreeNode T) (items : List (TreeItem T)) (is : items ≡ flat (Leaf x)) (are : items ≡ flat n) where
+module _ {T : Type 0} (number : T → ℕ) (x : T) (n : TreeNode T) (items : List (TreeItem T)) (is : items ≡ flat (Leaf x))
+    (are : items ≡ flat n) where
   leaf_is : Leaf x ≡ n
   leaf_is = flat-same (Leaf x) n (sym is ∙ are)
 
@@ -78,33 +88,58 @@ module _ {T : Type 0} (number : T → ℕ) (x : T) (n : TreeNode T) (items : Lis
 
 -- the last span is that of the tree
 module _ {T : Type 0} (number : T → ℕ) where
-  last_span : (n : TreeNode T) (sides : List Span) (span : Span) → bounds_in number n ≡ sides ++ (span ∷ []) → span ≡ span_in number n
+  last_span : (n : TreeNode T) (sides : List Span) (span : Span) → bounds_in number n ≡ sides ++ (span ∷ []) →
+      span ≡ span_in number n
   last_span (Leaf x) sides span e = absurd (omega (arith, ap length e, length-append sides (span ∷ [])))
-  last_span (Fork v cut below above) sides span e = last_same sides (bounds_in number below ++ bounds_in number above) span (span_in number (Fork v cut below above)) (sym e)
+  last_span (Fork v cut below above) sides span e = last_same sides
+      (bounds_in number below ++ bounds_in number above) span (span_in number (Fork v cut below above)) (sym e)
 
-  pub span_last : (items : List (TreeItem T)) (bounds : List Span) → IsBounded number items bounds → (span : Span) (sides : List Span) → bounds ≡ sides ++ (span ∷ []) →
+  pub span_last : (items : List (TreeItem T)) (bounds : List Span) → IsBounded number items bounds →
+      (span : Span) (sides : List Span) →
+      bounds ≡ sides ++ (span ∷ []) →
       (n : TreeNode T) → items ≡ flat n →
       span ≡ span_in number n
-  span_last items bounds is span sides last n are = last_span is.0 sides span (sym is.2 ∙ last) ∙ ap (span_in number) (flat-same is.0 n (sym is.1 ∙ are))
+  span_last items bounds is span sides last n are =
+      last_span is.0 sides span (sym is.2 ∙ last) ∙ ap (span_in number) (flat-same is.0 n (sym is.1 ∙ are))
 
   -- and a fork has one
-  pub fork_bounded : (items : List (TreeItem T)) (bounds : List Span) → IsBounded number items bounds → (v cut : ℕ) (x y : TreeNode T) → items ≡ flat (Fork v cut x y) → 0 < length bounds
+  pub fork_bounded : (items : List (TreeItem T)) (bounds : List Span) → IsBounded number items bounds →
+      (v cut : ℕ) (x y : TreeNode T) → items ≡ flat (Fork v cut x y) →
+      0 < length bounds
   fork_bounded items bounds is v cut x y are =
-      let same : bounds ≡ bounds_in number (Fork v cut x y) = is.2 ∙ ap (bounds_in number) (flat-same is.0 (Fork v cut x y) (sym is.1 ∙ are)) in
-      omega (arith, ap length same, length-append (bounds_in number x ++ bounds_in number y) (span_in number (Fork v cut x y) ∷ []))
+      let same : bounds ≡ bounds_in number (Fork v cut x y) =
+      is.2 ∙ ap (bounds_in number) (flat-same is.0 (Fork v cut x y) (sym is.1 ∙ are)) in
+      omega (
+        arith,
+        ap length same,
+        length-append (bounds_in number x ++ bounds_in number y) (span_in number (Fork v cut x y) ∷ []),
+      )
 
 -- the bounds of two trees in one list
-module _ {T U : Type 0} (number : T → ℕ) (other_number : U → ℕ) (n : TreeNode T) (m : TreeNode U) (none first both : List Span) (forks : ℕ) (empty : none ≡ [])
-    (one : first ≡ none ++ bounds_in number n) (two : both ≡ first ++ bounds_in other_number m) (long : forks ≡ length first) where
+module _ {T U : Type 0} (number : T → ℕ) (other_number : U → ℕ) (n : TreeNode T) (m : TreeNode U)
+    (none first both : List Span) (forks : ℕ) (empty : none ≡ [])
+    (one : first ≡ none ++ bounds_in number n) (two : both ≡ first ++ bounds_in other_number m)
+    (long : forks ≡ length first) where
   pub first_bounds : take forks both ≡ bounds_in number n
   first_bounds =
-      ap (λ k. take k both) long ∙ ap (take (length first)) two ∙ take-append_seam first (bounds_in other_number m) ∙ one ∙ ap (λ (xs : List Span). xs ++ bounds_in number n) empty
+      ap (λ k. take k both) long ∙ ap (take (length first)) two ∙ take-append_seam first (bounds_in other_number m)
+      ∙ one ∙ ap (λ (xs : List Span). xs ++ bounds_in number n) empty
 
   pub second_bounds : drop forks both ≡ bounds_in other_number m
-  second_bounds = ap (λ k. drop k both) long ∙ ap (drop (length first)) two ∙ drop-append_seam first (bounds_in other_number m)
+  second_bounds =
+      ap (λ k. drop k both) long ∙ ap (drop (length first)) two ∙ drop-append_seam first (bounds_in other_number m)
 
 -- what the spans tell
-pub at_least_by : {T U : Type 0} (number : T → ℕ) (other_number : U → ℕ) (a : TreeNode T) (b : TreeNode U) (own others : Span) (is : Bool) →
-    own ≡ span_in number a → others ≡ span_in other_number b → is ≡ nat_le others.most own.least → is ≡ true → IsAtLeast number other_number a b
+pub at_least_by : {T U : Type 0} (number : T → ℕ) (other_number : U → ℕ) (a : TreeNode T) (b : TreeNode U)
+    (own others : Span) (is : Bool) →
+    own ≡ span_in number a → others ≡ span_in other_number b → is ≡ nat_le others.most own.least → is ≡ true →
+    IsAtLeast number other_number a b
 at_least_by number other_number a b own others is first second e h = λ s t.
-    omega (arith, most_over other_number b s, least_under number a t, leb-true others.most own.least (sym e ∙ h), ap (λ (x : Span). x.least) first, ap (λ (x : Span). x.most) second)
+    omega (
+      arith,
+      most_over other_number b s,
+      least_under number a t,
+      leb-true others.most own.least (sym e ∙ h),
+      ap (λ (x : Span). x.least) first,
+      ap (λ (x : Span). x.most) second,
+    )

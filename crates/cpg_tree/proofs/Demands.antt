@@ -1,5 +1,6 @@
 -- No more faults are asked for than a scenario has.
-use Rattle.std.proofs.Common.{arith, ℕ, ◌+◌, ◌-◌, ◌<◌, ◌≤◌, ◌≡◌, ◌≢◌, ◌==◌, true, cond, List, [], ◌∷◌, Contains, sum_by, drop, nat_lt, get_or, length, ◌∙◌, refl, sym, ap, subst, inl, inr, lt-ltb}
+use Rattle.std.proofs.Common.{arith, ℕ, ◌+◌, ◌-◌, ◌<◌, ◌≤◌, ◌≡◌, ◌≢◌, ◌==◌, true, cond, List, [], ◌∷◌, Contains, sum_by}
+use Rattle.std.proofs.Common.{drop, nat_lt, get_or, length, ◌∙◌, refl, sym, ap, subst, inl, inr, lt-ltb}
 use Rattle.std.proofs.Common.{le-ltb, eq-eqb, ne_eqb}
 use Rattle.std.proofs.lemmas.Bool.{cases_lt, cond-true, cond-false}
 use Rattle.std.proofs.lemmas.List.Sums.{sum_by-cons, sum_by-take-drop, sum_by-drop_more}
@@ -25,13 +26,15 @@ pub without_other : (v u : ℕ) (f : ℕ → ℕ) → u ≢ v → without v f u 
 without_other v u f n = cond-false (u == v) 0 (f u) (ne_eqb u v n)
 
 -- what each literal is given is at most a number of its variable, or nothing from a variable on
-pub weights_le : (g : Literal → ℕ) (n : ℕ) (f : ℕ → ℕ) (ls : List Literal) → IsRising ls → ((l : Literal) → Contains ls l → l.variable < n → g l ≤ f l.variable) →
+pub weights_le : (g : Literal → ℕ) (n : ℕ) (f : ℕ → ℕ) (ls : List Literal) → IsRising ls →
+    ((l : Literal) → Contains ls l → l.variable < n → g l ≤ f l.variable) →
     ((l : Literal) → n ≤ l.variable → g l ≤ 0) → sum_by g ls ≤ sum_by f (numbers_below n)
 weights_le g n f [] rising each none = omega arith
 weights_le g n f (l ∷ ls) rising each none = elim (cases_lt l.variable n) [
   | inl few ↦
       let rest = weights_le g n (without l.variable f) ls (rising_rest l ls rising) (λ m c h.
-      subst (λ x. g m ≤ x) (sym (without_other l.variable m.variable f (λ e. omega (arith, e, rising_first l m ls rising c)))) (each m (Contains-rest l ls m c) h)) none in
+      subst (λ x. g m ≤ x) (sym (without_other l.variable m.variable f
+      (λ e. omega (arith, e, rising_first l m ls rising c)))) (each m (Contains-rest l ls m c) h)) none in
       let changed = sum_changed (without l.variable f) f n l.variable few (λ u d. without_other l.variable u f d) in
       omega (arith, rest, changed, without_here l.variable f, each l (Contains-first l ls) few, sum_by-cons g l ls)
   | inr many ↦
@@ -40,21 +43,32 @@ weights_le g n f (l ∷ ls) rising each none = elim (cases_lt l.variable n) [
 ]
 
 module _ (space : Space) where
-  module _ (s : Scenario) (lies : IsInSpace space s) (ls : List Literal) (rising : IsRising ls) (all : matches ls s ≡ true) where
+  module _ (s : Scenario) (lies : IsInSpace space s) (ls : List Literal) (rising : IsRising ls)
+      (all : matches ls s ≡ true) where
     beyond_le : (l : Literal) → Contains ls l → l.variable < 128 → asked_beyond space l ≤ beyond space s l.variable
     beyond_le l c few =
         let low = holds-low s l (from_all (holds s) ls l all c) in
-        omega (arith, low, number_of-fault s l.variable few, cond-true (nat_lt l.variable 128) (l.low - get_or space.low l.variable 0) 0 (lt-ltb l.variable 128 few))
+        omega (
+          arith,
+          low,
+          number_of-fault s l.variable few,
+          cond-true (nat_lt l.variable 128) (l.low - get_or space.low l.variable 0) 0 (lt-ltb l.variable 128 few),
+        )
 
     pub demands_left : (from : ℕ) → sum_by (asked_beyond space) (drop from ls) ≤ space.left
     demands_left from =
         let all_of = weights_le (asked_beyond space) 128 (beyond space s) ls rising beyond_le
-        (λ l many. omega (arith, cond-false (nat_lt l.variable 128) (l.low - get_or space.low l.variable 0) 0 (le-ltb l.variable 128 many))) in
+        (λ l many. omega (
+          arith,
+          cond-false (nat_lt l.variable 128) (l.low - get_or space.low l.variable 0) 0 (le-ltb l.variable 128 many),
+        )) in
         omega (arith, all_of, lies.left, sum_by-take-drop (asked_beyond space) ls from)
 
   -- the next literal's demand, and the rest
-  module _ (ls : List Literal) (at : ℕ) (d : Literal) (there : at < length ls) (left low more : ℕ) (low_is : low ≡ (get_or ls at d).low - get_or space.low (get_or ls at d).variable 0)
-      (more_is : more ≡ faults_of (get_or ls at d).variable low) (most : sum_by (asked_beyond space) (drop at ls) ≤ left) where
+  module _ (ls : List Literal) (at : ℕ) (d : Literal) (there : at < length ls) (left low more : ℕ)
+      (low_is : low ≡ (get_or ls at d).low - get_or space.low (get_or ls at d).variable 0)
+      (more_is : more ≡ faults_of (get_or ls at d).variable low)
+      (most : sum_by (asked_beyond space) (drop at ls) ≤ left) where
     this_one : more ≡ asked_beyond space (get_or ls at d)
     this_one = more_is ∙ ap (faults_of (get_or ls at d).variable) low_is
 

@@ -1,7 +1,9 @@
 -- A tree that fits a space fits one with higher highs and with more faults left.
-use Rattle.std.proofs.Common.{ℕ, ◌+◌, ◌-◌, ◌<◌, ◌≤◌, ◌≡◌, ◌≢◌, true, ◌||◌, nat_lt, List, get_or, arith, refl, sym, ap, ◌∙◌, subst, set-set, inl, inr, ◌⊎◌, lt-ltb}
+use Rattle.std.proofs.Common.{ℕ, ◌+◌, ◌-◌, ◌<◌, ◌≤◌, ◌≡◌, ◌≢◌, true, ◌||◌, nat_lt, List, get_or, arith, refl, sym, ap}
+use Rattle.std.proofs.Common.{◌∙◌, subst, set-set, inl, inr, ◌⊎◌, lt-ltb}
 use Rattle.std.specs.Prelude.{nat_le, slice_set, length}
-use Rattle.std.proofs.lemmas.Bool.{cases_eq, cases_lt, and_parts, and_from, or_cases, or_left, or_right, cond-true, cond-false, leb-true, ltb-true, le-leb, le-ltb}
+use Rattle.std.proofs.lemmas.Bool.{cases_eq, cases_lt, and_parts, and_from, or_cases, or_left, or_right, cond-true}
+use Rattle.std.proofs.lemmas.Bool.{cond-false, leb-true, ltb-true, le-leb, le-ltb}
 use Rattle.std.proofs.lemmas.Grind.{same_number_lists}
 use Rattle.std.proofs.lemmas.List.{get_or-set_same, get_or-set_other, get_or_past, length-set}
 use Rattle.cpg_tree.specs.TreeNode.{TreeNode, Leaf, Fork}
@@ -15,20 +17,29 @@ record IsHigher (space other : Space) : Type 0 where
   pub long : length space.high ≡ length other.high
   pub high : (v : ℕ) → get_or space.high v 0 ≤ get_or other.high v 0
 
-higher_set : (highs others : List ℕ) (v cut u : ℕ) → length highs ≡ length others → get_or highs u 0 ≤ get_or others u 0 → (u ≡ v) ⊎ (u ≢ v) →
+higher_set : (highs others : List ℕ) (v cut u : ℕ) → length highs ≡ length others →
+    get_or highs u 0 ≤ get_or others u 0 →
+    (u ≡ v) ⊎ (u ≢ v) →
     get_or (slice_set highs v cut) u 0 ≤ get_or (slice_set others v cut) u 0
-higher_set highs others v cut u long h (inr n) = omega (arith, get_or-set_other highs v u cut 0 n, get_or-set_other others v u cut 0 n, h)
-higher_set highs others v cut u long h (inl e) = subst (λ w. get_or (slice_set highs v cut) w 0 ≤ get_or (slice_set others v cut) w 0) (sym e) (by_length (cases_lt v (length highs)))
+higher_set highs others v cut u long h (inr n) =
+    omega (arith, get_or-set_other highs v u cut 0 n, get_or-set_other others v u cut 0 n, h)
+higher_set highs others v cut u long h (inl e) =
+    subst (λ w. get_or (slice_set highs v cut) w 0 ≤ get_or (slice_set others v cut) w 0) (sym e)
+    (by_length (cases_lt v (length highs)))
   where
-    by_length : (v < length highs) ⊎ (length highs ≤ v) → get_or (slice_set highs v cut) v 0 ≤ get_or (slice_set others v cut) v 0
-    by_length (inl l) = omega (arith, get_or-set_same highs v cut 0 l, get_or-set_same others v cut 0 (omega (arith, l, long)))
-    by_length (inr past) = omega (arith, get_or_past (slice_set highs v cut) v 0 (omega (arith, past, length-set highs v cut)))
+    by_length : (v < length highs) ⊎ (length highs ≤ v) →
+        get_or (slice_set highs v cut) v 0 ≤ get_or (slice_set others v cut) v 0
+    by_length (inl l) =
+        omega (arith, get_or-set_same highs v cut 0 l, get_or-set_same others v cut 0 (omega (arith, l, long)))
+    by_length (inr past) =
+        omega (arith, get_or_past (slice_set highs v cut) v 0 (omega (arith, past, length-set highs v cut)))
 
 less_left : (a b n : ℕ) → a ≤ b → a - n ≤ b - n
 less_left a b n l = omega arith
 
 -- if some faults left allow a number, so do more
-allows_more : (v cut low a b : ℕ) → a ≤ b → (nat_le 128 v || nat_lt cut (low + a)) ≡ true → (nat_le 128 v || nat_lt cut (low + b)) ≡ true
+allows_more : (v cut low a b : ℕ) → a ≤ b → (nat_le 128 v || nat_lt cut (low + a)) ≡ true →
+    (nat_le 128 v || nat_lt cut (low + b)) ≡ true
 allows_more v cut low a b l h = elim (or_cases (nat_le 128 v) (nat_lt cut (low + a)) h) [
   | inl value ↦ or_left (nat_le 128 v) _ value
   | inr count ↦ or_right (nat_le 128 v) _ (lt-ltb cut (low + b) (omega (arith, ltb-true cut (low + a) count, l)))
@@ -46,7 +57,8 @@ module _ (space other : Space) (h : IsHigher space other) (v cut : ℕ) where
   higher_above : IsHigher (above_cut space v cut) (above_cut other v cut)
   higher_above = record {
     low = ap (λ (lows : List ℕ). slice_set lows v (cut + 1)) h.low;
-    left = subst (λ (lows : List ℕ). space.left - faults_of v (cut + 1 - get_or space.low v 0) ≤ other.left - faults_of v (cut + 1 - get_or lows v 0)) h.low
+    left = subst (λ (lows : List ℕ). space.left - faults_of v (cut + 1 - get_or space.low v 0)
+        ≤ other.left - faults_of v (cut + 1 - get_or lows v 0)) h.low
         (less_left space.left other.left (faults_of v (cut + 1 - get_or space.low v 0)) h.left);
     long = h.long;
     high = h.high;
@@ -57,11 +69,15 @@ module _ (space other : Space) (h : IsHigher space other) (v cut : ℕ) where
 
   open_above : is_open_above space v cut ≡ true → is_open_above other v cut ≡ true
   open_above o =
-      let parts = and_parts (nat_lt cut (get_or space.high v 0)) (nat_le 128 v || nat_lt cut (get_or space.low v 0 + space.left)) o in
-      and_from (nat_lt cut (get_or other.high v 0)) _ (lt-ltb cut (get_or other.high v 0) (omega (arith, ltb-true cut (get_or space.high v 0) parts.0, h.high v)))
-      (subst (λ (lows : List ℕ). (nat_le 128 v || nat_lt cut (get_or lows v 0 + other.left)) ≡ true) h.low (allows_more v cut (get_or space.low v 0) space.left other.left h.left parts.1))
+      let parts = and_parts (nat_lt cut (get_or space.high v 0))
+      (nat_le 128 v || nat_lt cut (get_or space.low v 0 + space.left)) o in
+      and_from (nat_lt cut (get_or other.high v 0)) _
+      (lt-ltb cut (get_or other.high v 0) (omega (arith, ltb-true cut (get_or space.high v 0) parts.0, h.high v)))
+      (subst (λ (lows : List ℕ). (nat_le 128 v || nat_lt cut (get_or lows v 0 + other.left)) ≡ true) h.low
+      (allows_more v cut (get_or space.low v 0) space.left other.left h.left parts.1))
 
-fits_higher : {T : Type 0} (node : TreeNode T) (space other : Space) → IsHigher space other → IsFit space node → IsFit other node
+fits_higher : {T : Type 0} (node : TreeNode T) (space other : Space) → IsHigher space other → IsFit space node →
+    IsFit other node
 fits_higher (Leaf x) space other h fit = fit
 fits_higher (Fork v cut below above) space other h fit = (
   fit.0,
@@ -72,45 +88,58 @@ fits_higher (Fork v cut below above) space other h fit = (
 )
 
 -- what fits the numbers up to a cut fits without the cut
-pub fits_uncut : {T : Type 0} (node : TreeNode T) (space : Space) (v cut : ℕ) → is_open_above space v cut ≡ true → IsFit (below_cut space v cut) node → IsFit space node
-fits_uncut node space v cut o fit = fits_higher node (below_cut space v cut) space (record { low = refl; left = omega arith; long = length-set space.high v cut; high = lower }) fit
+pub fits_uncut : {T : Type 0} (node : TreeNode T) (space : Space) (v cut : ℕ) → is_open_above space v cut ≡ true →
+    IsFit (below_cut space v cut) node →
+    IsFit space node
+fits_uncut node space v cut o fit = fits_higher node (below_cut space v cut) space
+    (record { low = refl; left = omega arith; long = length-set space.high v cut; high = lower }) fit
   where
     below_high : cut < get_or space.high v 0
     below_high = ltb-true cut (get_or space.high v 0) (and_parts (nat_lt cut (get_or space.high v 0)) _ o).0
 
-    at_cut : (v < length space.high) ⊎ (length space.high ≤ v) → get_or (slice_set space.high v cut) v 0 ≤ get_or space.high v 0
+    at_cut : (v < length space.high) ⊎ (length space.high ≤ v) →
+        get_or (slice_set space.high v cut) v 0 ≤ get_or space.high v 0
     at_cut (inl l) = omega (arith, get_or-set_same space.high v cut 0 l, below_high)
     at_cut (inr past) = absurd (omega (arith, get_or_past space.high v 0 past, below_high))
 
     lower : (u : ℕ) → get_or (slice_set space.high v cut) u 0 ≤ get_or space.high u 0
     lower u = elim (cases_eq u v) [
       | inr n ↦ omega (arith, get_or-set_other space.high v u cut 0 n)
-      | inl e ↦ subst (λ w. get_or (slice_set space.high v cut) w 0 ≤ get_or space.high w 0) (sym e) (at_cut (cases_lt v (length space.high)))
+      | inl e ↦ subst (λ w. get_or (slice_set space.high v cut) w 0 ≤ get_or space.high w 0) (sym e)
+          (at_cut (cases_lt v (length space.high)))
     ]
 
 -- ---- two cuts of one variable, the first left out
 
 -- a number that is set is there, or past the list
-at_set : (xs : List ℕ) (v y : ℕ) → (get_or (slice_set xs v y) v 0 ≡ y) ⊎ ((get_or (slice_set xs v y) v 0 ≡ 0) × (get_or xs v 0 ≡ 0))
+at_set : (xs : List ℕ) (v y : ℕ) →
+    (get_or (slice_set xs v y) v 0 ≡ y) ⊎ ((get_or (slice_set xs v y) v 0 ≡ 0) × (get_or xs v 0 ≡ 0))
 at_set xs v y = elim (cases_lt v (length xs)) [
   | inl l ↦ inl (get_or-set_same xs v y 0 l)
-  | inr past ↦ inr (get_or_past (slice_set xs v y) v 0 (omega (arith, past, length-set xs v y)), get_or_past xs v 0 past)
+  | inr past ↦
+      inr (get_or_past (slice_set xs v y) v 0 (omega (arith, past, length-set xs v y)), get_or_past xs v 0 past)
 ]
 
-set_lower : (highs : List ℕ) (v cut far u : ℕ) → cut < far → get_or (slice_set highs v cut) u 0 ≤ get_or (slice_set highs v far) u 0
+set_lower : (highs : List ℕ) (v cut far u : ℕ) → cut < far →
+    get_or (slice_set highs v cut) u 0 ≤ get_or (slice_set highs v far) u 0
 set_lower highs v cut far u less = elim (cases_eq u v) [
   | inr n ↦ omega (arith, get_or-set_other highs v u cut 0 n, get_or-set_other highs v u far 0 n)
-  | inl e ↦ subst (λ w. get_or (slice_set highs v cut) w 0 ≤ get_or (slice_set highs v far) w 0) (sym e) (elim (cases_lt v (length highs)) [
-    | inl l ↦ omega (arith, get_or-set_same highs v cut 0 l, get_or-set_same highs v far 0 l, less)
-    | inr past ↦ omega (arith, get_or_past (slice_set highs v cut) v 0 (omega (arith, past, length-set highs v cut)))
-  ])
+  | inl e ↦ subst (λ w. get_or (slice_set highs v cut) w 0 ≤ get_or (slice_set highs v far) w 0) (sym e)
+      (elim (cases_lt v (length highs)) [
+        | inl l ↦ omega (arith, get_or-set_same highs v cut 0 l, get_or-set_same highs v far 0 l, less)
+        | inr past ↦
+            omega (arith, get_or_past (slice_set highs v cut) v 0 (omega (arith, past, length-set highs v cut)))
+      ])
 ]
 
-twice_allows : (low cut far left here : ℕ) → (here ≡ cut + 1) ⊎ ((here ≡ 0) × (low ≡ 0)) → low ≤ cut → cut < far → far < here + (left - (cut + 1 - low)) → far < low + left
+twice_allows : (low cut far left here : ℕ) → (here ≡ cut + 1) ⊎ ((here ≡ 0) × (low ≡ 0)) → low ≤ cut → cut < far →
+    far < here + (left - (cut + 1 - low)) →
+    far < low + left
 twice_allows low cut far left here (inl e) below less h = omega arith
 twice_allows low cut far left here (inr e) below less h = omega (arith, e.0, e.1)
 
-twice_left : (low cut far left here : ℕ) → (here ≡ cut + 1) ⊎ ((here ≡ 0) × (low ≡ 0)) → low ≤ cut → cut < far → left - (cut + 1 - low) - (far + 1 - here) ≤ left - (far + 1 - low)
+twice_left : (low cut far left here : ℕ) → (here ≡ cut + 1) ⊎ ((here ≡ 0) × (low ≡ 0)) → low ≤ cut → cut < far →
+    left - (cut + 1 - low) - (far + 1 - here) ≤ left - (far + 1 - low)
 twice_left low cut far left here (inl e) below less = omega arith
 twice_left low cut far left here (inr e) below less = omega (arith, e.0, e.1)
 
@@ -124,7 +153,8 @@ module _ (space : Space) (v cut far : ℕ) (less : cut < far) (below : is_open_b
   low_under : get_or space.low v 0 ≤ cut
   low_under = leb-true (get_or space.low v 0) cut below
 
-  at_low : (get_or (slice_set space.low v (cut + 1)) v 0 ≡ cut + 1) ⊎ ((get_or (slice_set space.low v (cut + 1)) v 0 ≡ 0) × (get_or space.low v 0 ≡ 0))
+  at_low : (get_or (slice_set space.low v (cut + 1)) v 0 ≡ cut + 1) ⊎
+      ((get_or (slice_set space.low v (cut + 1)) v 0 ≡ 0) × (get_or space.low v 0 ≡ 0))
   at_low = at_set space.low v (cut + 1)
 
   joined_open_below : is_open_below space v far ≡ true
@@ -138,15 +168,23 @@ module _ (space : Space) (v cut far : ℕ) (less : cut < far) (below : is_open_b
         | inl count ↦ elim (or_cases (nat_le 128 v) _ parts.1) [
           | inl value ↦ or_left (nat_le 128 v) _ value
           | inr allows ↦ or_right (nat_le 128 v) _ (lt-ltb far (get_or space.low v 0 + space.left)
-              (twice_allows (get_or space.low v 0) cut far space.left (get_or (slice_set space.low v (cut + 1)) v 0) at_low low_under less
-              (subst (λ (n : ℕ). far < get_or (slice_set space.low v (cut + 1)) v 0 + (space.left - n)) (all_faults v (cut + 1 - get_or space.low v 0) count) (ltb-true far _ allows))))
+              (twice_allows (get_or space.low v 0) cut far space.left
+              (get_or (slice_set space.low v (cut + 1)) v 0) at_low low_under less
+              (subst (λ (n : ℕ). far < get_or (slice_set space.low v (cut + 1)) v 0 + (space.left - n))
+              (all_faults v (cut + 1 - get_or space.low v 0) count) (ltb-true far _ allows))))
         ]
       ])
 
   joined_below : IsHigher (below_cut space v cut) (below_cut space v far)
-  joined_below = record { low = refl; left = omega arith; long = length-set space.high v cut ∙ sym (length-set space.high v far); high = λ u. set_lower space.high v cut far u less }
+  joined_below = record {
+    low = refl;
+    left = omega arith;
+    long = length-set space.high v cut ∙ sym (length-set space.high v far);
+    high = λ u. set_lower space.high v cut far u less;
+  }
 
-  joined_left : (space.left - faults_of v (cut + 1 - get_or space.low v 0)) - faults_of v (far + 1 - get_or (slice_set space.low v (cut + 1)) v 0) ≤ space.left - faults_of v
+  joined_left : (space.left - faults_of v (cut + 1 - get_or space.low v 0))
+      - faults_of v (far + 1 - get_or (slice_set space.low v (cut + 1)) v 0) ≤ space.left - faults_of v
       (far + 1 - get_or space.low v 0)
   joined_left = elim (cases_lt v 128) [
     | inl count ↦ omega (
@@ -154,26 +192,33 @@ module _ (space : Space) (v cut far : ℕ) (less : cut < far) (below : is_open_b
       all_faults v (cut + 1 - get_or space.low v 0) count,
       all_faults v (far + 1 - get_or (slice_set space.low v (cut + 1)) v 0) count,
       all_faults v (far + 1 - get_or space.low v 0) count,
-      twice_left (get_or space.low v 0) cut far space.left (get_or (slice_set space.low v (cut + 1)) v 0) at_low low_under less,
+      twice_left (get_or space.low v 0) cut far space.left
+          (get_or (slice_set space.low v (cut + 1)) v 0) at_low low_under less,
     )
     | inr value ↦ omega (arith, no_faults v (far + 1 - get_or space.low v 0) value)
   ]
 
   joined_above : IsHigher (above_cut (above_cut space v cut) v far) (above_cut space v far)
-  joined_above = record { low = set-set space.low v (cut + 1) (far + 1); left = joined_left; long = refl; high = λ u. omega arith }
+  joined_above =
+      record { low = set-set space.low v (cut + 1) (far + 1); left = joined_left; long = refl; high = λ u. omega arith }
 
 -- a fork with a fork on the same variable above it, whose side below is left out
-pub fits_joined : {T : Type 0} (below near far_above above : TreeNode T) (space : Space) (v cut next far : ℕ) → above ≡ Fork next far near far_above → next ≡ v →
+pub fits_joined : {T : Type 0} (below near far_above above : TreeNode T) (space : Space) (v cut next far : ℕ) →
+    above ≡ Fork next far near far_above → next ≡ v →
     cut < far →
     is_open_below space v cut ≡ true → IsFit (below_cut space v cut) below → IsFit (above_cut space v cut) above →
-    (v < 256) × (is_open_below space v far ≡ true) × (is_open_above space v far ≡ true) × IsFit (below_cut space v far) below × IsFit (above_cut space v far) far_above
+    (v < 256) × (is_open_below space v far ≡ true) × (is_open_above space v far ≡ true) ×
+    IsFit (below_cut space v far) below × IsFit (above_cut space v far) far_above
 fits_joined {T} below near far_above above space v cut next far is same less under fit_below fit_above =
-    let fit = subst (λ (u : ℕ). IsFit (above_cut space v cut) (Fork u far near far_above)) same (subst (λ (n : TreeNode T). IsFit (above_cut space v cut) n) is fit_above) in (
+    let fit = subst (λ (u : ℕ). IsFit (above_cut space v cut) (Fork u far near far_above)) same
+    (subst (λ (n : TreeNode T). IsFit (above_cut space v cut) n) is fit_above) in (
       fit.0,
       joined_open_below space v cut far less under,
       joined_open_above space v cut far less under fit.2,
-      fits_higher below (below_cut space v cut) (below_cut space v far) (joined_below space v cut far less under) fit_below,
-      fits_higher far_above (above_cut (above_cut space v cut) v far) (above_cut space v far) (joined_above space v cut far less under) fit.4,
+      fits_higher below (below_cut space v cut) (below_cut space v far)
+          (joined_below space v cut far less under) fit_below,
+      fits_higher far_above (above_cut (above_cut space v cut) v far) (above_cut space v far)
+          (joined_above space v cut far less under) fit.4,
     )
 
 -- a tree that fits one space of all scenarios fits any

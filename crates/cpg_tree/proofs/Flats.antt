@@ -11,7 +11,8 @@ use Rattle.cpg_tree.specs.Paths.{paths_of}
 
 -- ---- a list gives its tree back
 
-read_back-append : {T : Type 0} (xs ys : List (TreeItem T)) (stack : List (TreeNode T)) → read_back (xs ++ ys) stack ≡ read_back ys (read_back xs stack)
+read_back-append : {T : Type 0} (xs ys : List (TreeItem T)) (stack : List (TreeNode T)) →
+    read_back (xs ++ ys) stack ≡ read_back ys (read_back xs stack)
 read_back-append [] ys stack = refl
 read_back-append (x ∷ xs) ys stack = read_back-append xs ys (stacked x stack)
 
@@ -20,7 +21,8 @@ read_back-flat (Leaf x) stack = refl
 read_back-flat {T} (Fork v cut below above) stack =
     let last : List (TreeItem T) = Cut v cut (length (flat below)) ∷ [] in
     read_back-append (flat below ++ flat above) last stack
-    ∙ ap (read_back last) (read_back-append (flat below) (flat above) stack ∙ ap (read_back (flat above)) (read_back-flat below stack) ∙ read_back-flat above (below ∷ stack))
+    ∙ ap (read_back last) (read_back-append (flat below) (flat above) stack
+    ∙ ap (read_back (flat above)) (read_back-flat below stack) ∙ read_back-flat above (below ∷ stack))
 
 first_or : {T : Type 0} → T → List T → T
 first_or x [] = x
@@ -32,16 +34,19 @@ unfolding first_or
 flat-same a b e = ap (first_or a) (sym (read_back-flat a []) ∙ ap (λ xs. read_back xs []) e ∙ read_back-flat b [])
 
 -- the paths that a list gives back are its tree's
-pub paths_in-flat : {T : Type 0} (k : ℕ) (items : List (TreeItem T)) (n : TreeNode T) → items ≡ flat n → paths_in k items ≡ paths_of k n
+pub paths_in-flat : {T : Type 0} (k : ℕ) (items : List (TreeItem T)) (n : TreeNode T) → items ≡ flat n →
+    paths_in k items ≡ paths_of k n
 paths_in-flat k items n are = ap (paths_in k) are ∙ ap (paths_on k) (read_back-flat n [])
 
 -- each tree has items
 pub flat-long : {T : Type 0} (n : TreeNode T) → 0 < length (flat n)
 flat-long (Leaf x) = omega arith
-flat-long (Fork v cut below above) = omega (arith, length-append (flat below ++ flat above) (Cut v cut (length (flat below)) ∷ []))
+flat-long (Fork v cut below above) =
+    omega (arith, length-append (flat below ++ flat above) (Cut v cut (length (flat below)) ∷ []))
 
 -- what is added to no items is all there is
-pub all_added : {T : Type 0} (old new : List (TreeItem T)) (n : TreeNode T) → old ≡ [] → new ≡ old ++ flat n → new ≡ flat n
+pub all_added : {T : Type 0} (old new : List (TreeItem T)) (n : TreeNode T) → old ≡ [] → new ≡ old ++ flat n →
+    new ≡ flat n
 all_added {T} old new n none added = added ∙ ap (λ (xs : List (TreeItem T)). xs ++ flat n) none
 
 -- ---- the last item tells what the tree is
@@ -62,8 +67,10 @@ module _ {A : Type 0} where
 
   pub rest_same : (xs ys : List A) (x y : A) → xs ++ (x ∷ []) ≡ ys ++ (y ∷ []) → xs ≡ ys
   rest_same xs ys x y e =
-      let long : length xs ≡ length ys = omega (arith, ap length e, length-append xs (x ∷ []), length-append ys (y ∷ [])) in
-      sym (take-append_seam xs (x ∷ [])) ∙ ap (take (length xs)) e ∙ ap (λ n. take n (ys ++ (y ∷ []))) long ∙ take-append_seam ys (y ∷ [])
+      let long : length xs ≡ length ys =
+      omega (arith, ap length e, length-append xs (x ∷ []), length-append ys (y ∷ [])) in
+      sym (take-append_seam xs (x ∷ [])) ∙ ap (take (length xs)) e ∙ ap (λ n. take n (ys ++ (y ∷ []))) long
+      ∙ take-append_seam ys (y ∷ [])
 
 -- what stands before the last item, and which it is
 abbrev pub sides_of : {T : Type 0} → TreeNode T → List (TreeItem T)
@@ -95,23 +102,33 @@ pub cut_is_no_value : {T : Type 0} {x : T} {v cut n : ℕ} → Cut v cut n ≡ V
 cut_is_no_value e = cc
 
 -- a list whose last item is a value
-pub shows_value : {T : Type 0} (n : TreeNode T) (items sides : List (TreeItem T)) (x : T) → items ≡ flat n → items ≡ sides ++ (Value x ∷ []) → items ≡ flat (Leaf x)
-shows_value (Leaf y) items sides x is last = is ∙ ap (λ i. i ∷ []) (sym (last_same sides [] (Value x) (Value y) (sym last ∙ is)))
-shows_value (Fork v cut below above) items sides x is last = absurd (value_is_no_cut (last_same sides (flat below ++ flat above) (Value x) (Cut v cut (length (flat below))) (sym last ∙ is)))
+pub shows_value : {T : Type 0} (n : TreeNode T) (items sides : List (TreeItem T)) (x : T) → items ≡ flat n →
+    items ≡ sides ++ (Value x ∷ []) →
+    items ≡ flat (Leaf x)
+shows_value (Leaf y) items sides x is last =
+    is ∙ ap (λ i. i ∷ []) (sym (last_same sides [] (Value x) (Value y) (sym last ∙ is)))
+shows_value (Fork v cut below above) items sides x is last = absurd (value_is_no_cut
+    (last_same sides (flat below ++ flat above) (Value x) (Cut v cut (length (flat below))) (sym last ∙ is)))
 
 -- and one whose last item is a cut
-pub shows_cut : {T : Type 0} (n : TreeNode T) (items sides : List (TreeItem T)) (v cut m : ℕ) → items ≡ flat n → items ≡ sides ++ (Cut v cut m ∷ []) →
-    (x : TreeNode T) × (y : TreeNode T) × (take (min m (length sides)) sides ≡ flat x) × (drop (min m (length sides)) sides ≡ flat y) × (items ≡ flat (Fork v cut x y))
-shows_cut {T} (Leaf z) items sides v cut m is last = absurd (cut_is_no_value (last_same sides [] (Cut v cut m) (Value z) (sym last ∙ is)))
+pub shows_cut : {T : Type 0} (n : TreeNode T) (items sides : List (TreeItem T)) (v cut m : ℕ) → items ≡ flat n →
+    items ≡ sides ++ (Cut v cut m ∷ []) →
+    (x : TreeNode T) × (y : TreeNode T) × (take (min m (length sides)) sides ≡ flat x) ×
+    (drop (min m (length sides)) sides ≡ flat y) × (items ≡ flat (Fork v cut x y))
+shows_cut {T} (Leaf z) items sides v cut m is last =
+    absurd (cut_is_no_value (last_same sides [] (Cut v cut m) (Value z) (sym last ∙ is)))
 shows_cut {T} (Fork u far below above) items sides v cut m is last =
-    let both : sides ++ (Cut v cut m ∷ []) ≡ flat below ++ flat above ++ (Cut u far (length (flat below)) ∷ []) = sym last ∙ is in
+    let both : sides ++ (Cut v cut m ∷ []) ≡ flat below ++ flat above ++ (Cut u far (length (flat below)) ∷ []) =
+    sym last ∙ is in
     let same : Cut v cut m ≡ Cut u far (length (flat below)) = last_same sides (flat below ++ flat above) _ _ both in
     let rest : sides ≡ flat below ++ flat above = rest_same sides (flat below ++ flat above) _ _ both in
     let number : m ≡ length (flat below) = cc in
-    let short : min m (length sides) ≡ length (flat below) = omega (arith, number, ap length rest, length-append (flat below) (flat above)) in (
+    let short : min m (length sides) ≡ length (flat below) =
+    omega (arith, number, ap length rest, length-append (flat below) (flat above)) in (
       below,
       above,
       ap (take (min m (length sides))) rest ∙ take_front (flat below) (flat above) _ short,
       ap (drop (min m (length sides))) rest ∙ drop_front (flat below) (flat above) _ short,
-      is ∙ ap (λ i. flat below ++ flat above ++ (i ∷ [])) (sym same) ∙ ap (λ k. flat below ++ flat above ++ (Cut v cut k ∷ [])) number,
+      is ∙ ap (λ i. flat below ++ flat above ++ (i ∷ [])) (sym same)
+          ∙ ap (λ k. flat below ++ flat above ++ (Cut v cut k ∷ [])) number,
     )

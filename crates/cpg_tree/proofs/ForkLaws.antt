@@ -1,5 +1,6 @@
 -- What a fork of two trees is, and that of the trees at the end of a list.
-use Rattle.std.proofs.Common.{ℕ, ◌+◌, ◌-◌, ◌<◌, ◌≤◌, ◌≡◌, List, [], ◌∷◌, ◌++◌, length, take, drop, arith, refl, sym, ap, ◌∙◌, subst, append_assoc}
+use Rattle.std.proofs.Common.{ℕ, ◌+◌, ◌-◌, ◌<◌, ◌≤◌, ◌≡◌, List, [], ◌∷◌, ◌++◌, length, take, drop, arith, refl, sym, ap}
+use Rattle.std.proofs.Common.{◌∙◌, subst, append_assoc}
 use Rattle.std.proofs.lemmas.List.{length-append}
 use Rattle.cpg_base.specs.Scenario.{Scenario, number_of}
 use Rattle.cpg_tree.specs.TreeNode.{TreeNode, Leaf, Fork}
@@ -62,25 +63,31 @@ module _ {T : Type 0} (v cut : ℕ) (below above : TreeNode T) where
         high_here = λ k s h. omega (arith, less, forks.high_here v far below above s (farther s h) k);
         high_above = λ k s u h. omega arith;
       };
-      fit = λ space lower upper fit other. fits_joined below below above (Fork v far below above) space v cut v far refl refl less lower fit other;
+      fit = λ space lower upper fit other.
+          fits_joined below below above (Fork v far below above) space v cut v far refl refl less lower fit other;
       pass = λ test is p q. q;
     }
 
 -- a tree whose list begins with that of another and ends in a cut behind it
-pub met_is : {T : Type 0} (a b : TreeNode T) (rest : List (TreeItem T)) (v far : ℕ) → flat a ≡ flat b ++ rest ++ (Cut v far (length (flat b)) ∷ []) → (y : TreeNode T) × (a ≡ Fork v far b y)
+pub met_is : {T : Type 0} (a b : TreeNode T) (rest : List (TreeItem T)) (v far : ℕ) →
+    flat a ≡ flat b ++ rest ++ (Cut v far (length (flat b)) ∷ []) →
+    (y : TreeNode T) × (a ≡ Fork v far b y)
 met_is (Leaf x) b rest v far e = absurd (cut_is_no_value (sym (last_same [] (flat b ++ rest) (Value x) _ e)))
 met_is {T} (Fork u cut x y) b rest v far e =
-    let same : Cut u cut (length (flat x)) ≡ Cut v far (length (flat b)) = last_same (flat x ++ flat y) (flat b ++ rest) _ _ e in
+    let same : Cut u cut (length (flat x)) ≡ Cut v far (length (flat b)) =
+    last_same (flat x ++ flat y) (flat b ++ rest) _ _ e in
     let parts : flat x ++ flat y ≡ flat b ++ rest = rest_same (flat x ++ flat y) (flat b ++ rest) _ _ e in
     let long : length (flat x) ≡ length (flat b) = cc in
     let one : u ≡ v = cc in
     let two : cut ≡ far = cc in
-    let side : x ≡ b = flat-same x b (sym (take_front (flat x) (flat y) (length (flat x)) refl) ∙ ap (take (length (flat x))) parts ∙ take_front (flat b) rest (length (flat x)) long) in
+    let side : x ≡ b = flat-same x b (sym (take_front (flat x) (flat y) (length (flat x)) refl)
+    ∙ ap (take (length (flat x))) parts ∙ take_front (flat b) rest (length (flat x)) long) in
     (y, ap (λ w. Fork w cut x y) one ∙ ap (λ w. Fork v w x y) two ∙ ap (λ w. Fork v far w y) side)
 
 -- ---- of lists
 
-module _ {T : Type 0} (start middle : ℕ) (old before : List (TreeItem T)) (below above : TreeNode T) (split : IsSplit start middle old before below above) where
+module _ {T : Type 0} (start middle : ℕ) (old before : List (TreeItem T)) (below above : TreeNode T)
+    (split : IsSplit start middle old before below above) where
   behind : middle ≡ length (before ++ flat below)
   behind = omega (arith, split.second, length-append before (flat below))
 
@@ -94,7 +101,8 @@ module _ {T : Type 0} (start middle : ℕ) (old before : List (TreeItem T)) (bel
   below_is = ap (drop start) front_is ∙ drop_front before (flat below) start split.first
 
   before_is : take start old ≡ before
-  before_is = ap (take start) (split.is ∙ append_assoc before (flat below) (flat above)) ∙ take_front before (flat below ++ flat above) start split.first
+  before_is = ap (take start) (split.is ∙ append_assoc before (flat below) (flat above))
+      ∙ take_front before (flat below ++ flat above) start split.first
 
   between : middle - start ≡ length (flat below)
   between = omega (arith, split.first, split.second)
@@ -104,28 +112,36 @@ module _ {T : Type 0} (start middle : ℕ) (old before : List (TreeItem T)) (bel
 
   module _ (v cut : ℕ) (new : List (TreeItem T)) where
     -- both sides are equal
-    pub forks_same : drop start (take middle old) ≡ drop middle old → new ≡ take middle old → AddsTree (IsForked v cut below above) before new
+    pub forks_same : drop start (take middle old) ≡ drop middle old → new ≡ take middle old →
+        AddsTree (IsForked v cut below above) before new
     forks_same same cutoff =
-        let one : below ≡ above = flat-same below above (sym below_is ∙ same ∙ above_is) in
-        (below, cutoff ∙ front_is, subst (λ (n : TreeNode T). IsForked v cut below n below) one (forked_same v cut below above))
+        let one : below ≡ above = flat-same below above (sym below_is ∙ same ∙ above_is) in (
+          below,
+          cutoff ∙ front_is,
+          subst (λ (n : TreeNode T). IsForked v cut below n below) one (forked_same v cut below above),
+        )
 
     -- the side below is met again
-    pub forks_repeated : RepeatsBelow (drop start (take middle old)) (drop middle old) v cut → new ≡ take start old ++ drop (start + (middle - start)) old
+    pub forks_repeated : RepeatsBelow (drop start (take middle old)) (drop middle old) v cut →
+        new ≡ take start old ++ drop (start + (middle - start)) old
         → AddsTree (IsForked v cut below above) before new
     forks_repeated (far, rest, less, ends) taken =
         let whole : flat above ≡ flat below ++ rest ++ (Cut v far (length (flat below)) ∷ []) =
         sym above_is ∙ ends ∙ ap (λ (xs : List (TreeItem T)). xs ++ rest ++ (Cut v far (length xs) ∷ [])) below_is in
         let is = met_is above below rest v far whole in (
           above,
-          taken ∙ ap (λ (xs : List (TreeItem T)). xs ++ drop (start + (middle - start)) old) before_is ∙ ap (λ n. before ++ drop n old) again ∙ ap (λ (xs : List (TreeItem T)). before ++ xs) above_is,
+          taken ∙ ap (λ (xs : List (TreeItem T)). xs ++ drop (start + (middle - start)) old) before_is
+              ∙ ap (λ n. before ++ drop n old) again ∙ ap (λ (xs : List (TreeItem T)). before ++ xs) above_is,
           subst (λ (n : TreeNode T). IsForked v cut below n n) (sym is.1) (forked_met v cut below is.0 far less),
         )
 
     -- else the fork is added
-    pub forks_plain : v < 256 → new ≡ old ++ (Cut v cut (middle - start) ∷ []) → AddsTree (IsForked v cut below above) before new
+    pub forks_plain : v < 256 → new ≡ old ++ (Cut v cut (middle - start) ∷ []) →
+        AddsTree (IsForked v cut below above) before new
     forks_plain small added = (
       Fork v cut below above,
-      added ∙ ap (λ (xs : List (TreeItem T)). xs ++ (Cut v cut (middle - start) ∷ [])) (split.is ∙ append_assoc before (flat below) (flat above))
+      added ∙ ap (λ (xs : List (TreeItem T)). xs ++ (Cut v cut (middle - start) ∷ []))
+          (split.is ∙ append_assoc before (flat below) (flat above))
           ∙ append_assoc before (flat below ++ flat above) (Cut v cut (middle - start) ∷ [])
           ∙ ap (λ n. before ++ (flat below ++ flat above ++ (Cut v cut n ∷ []))) between,
       forked_plain v cut below above small,

@@ -1,5 +1,6 @@
 -- What a scenario finds at a fork, and what is made of its two sides.
-use Rattle.std.proofs.Common.{ℕ, ◌+◌, ◌<◌, ◌≤◌, ◌≡◌, ◌≢◌, max, min, ◌==◌, Bool, true, false, arith, refl, sym, ap, ◌∙◌, subst, inl, inr, ◌⊎◌, eq-eqb, ne_eqb, Result, Ok, Err}
+use Rattle.std.proofs.Common.{ℕ, ◌+◌, ◌<◌, ◌≤◌, ◌≡◌, ◌≢◌, max, min, ◌==◌, Bool, true, false, arith, refl, sym, ap, ◌∙◌}
+use Rattle.std.proofs.Common.{subst, inl, inr, ◌⊎◌, eq-eqb, ne_eqb, Result, Ok, Err}
 use Rattle.std.specs.Prelude.{nat_le, IfOk}
 use Rattle.std.specs.Bool.{OnFalse, OnTrue}
 use Rattle.std.proofs.lemmas.Bool.{cases_lt, cases_eq, cond-true, cond-false, le-leb, lt-leb}
@@ -25,7 +26,8 @@ module _ {T : Type 0} (v cut : ℕ) (below : TreeNode T) (above : TreeNode T) (s
     low_below u = cond-true (nat_le (number_of s v) cut) _ _ goes_below
 
     pub high_below : (k u : ℕ) → u ≢ v → high_at k (Fork v cut below above) s u ≡ high_at k below s u
-    high_below k u n = cond-true (nat_le (number_of s v) cut) _ _ goes_below ∙ cond-false (v == u) _ _ (ne_eqb v u (λ e. n (sym e)))
+    high_below k u n =
+        cond-true (nat_le (number_of s v) cut) _ _ goes_below ∙ cond-false (v == u) _ _ (ne_eqb v u (λ e. n (sym e)))
 
     pub high_here : (k : ℕ) → high_at k (Fork v cut below above) s v ≡ min cut (high_at k below s v)
     high_here k = cond-true (nat_le (number_of s v) cut) _ _ goes_below ∙ cond-true (v == v) _ _ (eq-eqb v v refl)
@@ -38,7 +40,8 @@ module _ {T : Type 0} (v cut : ℕ) (below : TreeNode T) (above : TreeNode T) (s
     value_above = cond-false (nat_le (number_of s v) cut) _ _ goes_above
 
     pub low_above : (u : ℕ) → u ≢ v → low_at (Fork v cut below above) s u ≡ low_at above s u
-    low_above u n = cond-false (nat_le (number_of s v) cut) _ _ goes_above ∙ cond-false (v == u) _ _ (ne_eqb v u (λ e. n (sym e)))
+    low_above u n =
+        cond-false (nat_le (number_of s v) cut) _ _ goes_above ∙ cond-false (v == u) _ _ (ne_eqb v u (λ e. n (sym e)))
 
     pub low_here : low_at (Fork v cut below above) s v ≡ max (cut + 1) (low_at above s v)
     low_here = cond-false (nat_le (number_of s v) cut) _ _ goes_above ∙ cond-true (v == v) _ _ (eq-eqb v v refl)
@@ -48,17 +51,22 @@ module _ {T : Type 0} (v cut : ℕ) (below : TreeNode T) (above : TreeNode T) (s
 
 -- ---- made of two sides
 
-module _ {T : Type 0} (domain : Scenario → Type 0) (fact : Scenario → T → Type 0) (low : Scenario → ℕ → ℕ) (high : ℕ → Scenario → ℕ → ℕ) (v cut : ℕ) where
+module _ {T : Type 0} (domain : Scenario → Type 0) (fact : Scenario → T → Type 0) (low : Scenario → ℕ → ℕ)
+    (high : ℕ → Scenario → ℕ → ℕ) (v cut : ℕ) where
   -- what a scenario that goes to a side is told there
-  pub record Side (inner : Scenario → Type 0) (inner_fact : Scenario → T → Type 0) (inner_low : Scenario → ℕ → ℕ) (inner_high : ℕ → Scenario → ℕ → ℕ) (s : Scenario) : Type 0 where
+  pub record Side (inner : Scenario → Type 0) (inner_fact : Scenario → T → Type 0) (inner_low : Scenario → ℕ → ℕ)
+      (inner_high : ℕ → Scenario → ℕ → ℕ) (s : Scenario) : Type 0 where
     pub lies : inner s
     pub gives : (z : T) → inner_fact s z → fact s z
     pub lows : (u : ℕ) → u ≢ v → inner_low s u ≤ low s u
     pub highs : (k u : ℕ) → u ≢ v → high k s u ≤ inner_high k s u
 
-  module _ (one : Scenario → Type 0) (one_fact : Scenario → T → Type 0) (one_low : Scenario → ℕ → ℕ) (one_high : ℕ → Scenario → ℕ → ℕ)
-      (two : Scenario → Type 0) (two_fact : Scenario → T → Type 0) (two_low : Scenario → ℕ → ℕ) (two_high : ℕ → Scenario → ℕ → ℕ) (lo hi r : TreeNode T)
-      (fork : IsForkOf v cut lo hi r) (of_lo : IsResultTree one one_fact one_low one_high lo) (of_hi : IsResultTree two two_fact two_low two_high hi)
+  module _ (one : Scenario → Type 0) (one_fact : Scenario → T → Type 0) (one_low : Scenario → ℕ → ℕ)
+      (one_high : ℕ → Scenario → ℕ → ℕ)
+      (two : Scenario → Type 0) (two_fact : Scenario → T → Type 0) (two_low : Scenario → ℕ → ℕ)
+      (two_high : ℕ → Scenario → ℕ → ℕ) (lo hi r : TreeNode T)
+      (fork : IsForkOf v cut lo hi r) (of_lo : IsResultTree one one_fact one_low one_high lo)
+      (of_hi : IsResultTree two two_fact two_low two_high hi)
       (first : (s : Scenario) → domain s → number_of s v ≤ cut → Side one one_fact one_low one_high s)
       (first_low : (s : Scenario) → domain s → number_of s v ≤ cut → one_low s v ≤ low s v)
       (first_high : (k : ℕ) (s : Scenario) → domain s → number_of s v ≤ cut → high k s v ≤ min cut (one_high k s v))
@@ -66,21 +74,36 @@ module _ {T : Type 0} (domain : Scenario → Type 0) (fact : Scenario → T → 
       (second_low : (s : Scenario) → domain s → cut < number_of s v → max (cut + 1) (two_low s v) ≤ low s v)
       (second_high : (k : ℕ) (s : Scenario) → domain s → cut < number_of s v → high k s v ≤ two_high k s v) where
     value_is : (s : Scenario) → domain s → (cut < number_of s v) ⊎ (number_of s v ≤ cut) → fact s (value_at r s)
-    value_is s d (inr h) = let side = first s d h in subst (fact s) (sym (fork.value_below s h)) (side.gives (value_at lo s) (of_lo.value s side.lies))
-    value_is s d (inl h) = let side = second s d h in subst (fact s) (sym (fork.value_above s h)) (side.gives (value_at hi s) (of_hi.value s side.lies))
+    value_is s d (inr h) = let side = first s d h in
+        subst (fact s) (sym (fork.value_below s h)) (side.gives (value_at lo s) (of_lo.value s side.lies))
+    value_is s d (inl h) = let side = second s d h in
+        subst (fact s) (sym (fork.value_above s h)) (side.gives (value_at hi s) (of_hi.value s side.lies))
 
-    low_is : (s : Scenario) (u : ℕ) → domain s → (cut < number_of s v) ⊎ (number_of s v ≤ cut) → (u ≡ v) ⊎ (u ≢ v) → low_at r s u ≤ low s u
-    low_is s u d (inr h) (inl e) = let side = first s d h in subst (λ w. low_at r s w ≤ low s w) (sym e) (omega (arith, fork.low_below s v h, of_lo.lows s v side.lies, first_low s d h))
-    low_is s u d (inr h) (inr n) = let side = first s d h in omega (arith, fork.low_below s u h, of_lo.lows s u side.lies, side.lows u n)
-    low_is s u d (inl h) (inl e) = let side = second s d h in subst (λ w. low_at r s w ≤ low s w) (sym e) (omega (arith, fork.low_here s h, of_hi.lows s v side.lies, second_low s d h))
-    low_is s u d (inl h) (inr n) = let side = second s d h in omega (arith, fork.low_above s u h n, of_hi.lows s u side.lies, side.lows u n)
+    low_is : (s : Scenario) (u : ℕ) → domain s → (cut < number_of s v) ⊎ (number_of s v ≤ cut) → (u ≡ v) ⊎ (u ≢ v) →
+        low_at r s u ≤ low s u
+    low_is s u d (inr h) (inl e) = let side = first s d h in
+        subst (λ w. low_at r s w ≤ low s w) (sym e)
+        (omega (arith, fork.low_below s v h, of_lo.lows s v side.lies, first_low s d h))
+    low_is s u d (inr h) (inr n) = let side = first s d h in
+        omega (arith, fork.low_below s u h, of_lo.lows s u side.lies, side.lows u n)
+    low_is s u d (inl h) (inl e) = let side = second s d h in
+        subst (λ w. low_at r s w ≤ low s w) (sym e)
+        (omega (arith, fork.low_here s h, of_hi.lows s v side.lies, second_low s d h))
+    low_is s u d (inl h) (inr n) = let side = second s d h in
+        omega (arith, fork.low_above s u h n, of_hi.lows s u side.lies, side.lows u n)
 
-    high_is : (k : ℕ) (s : Scenario) (u : ℕ) → domain s → (cut < number_of s v) ⊎ (number_of s v ≤ cut) → (u ≡ v) ⊎ (u ≢ v) → high k s u ≤ high_at k r s u
-    high_is k s u d (inr h) (inl e) = let side = first s d h in subst (λ w. high k s w ≤ high_at k r s w) (sym e) (omega (arith, fork.high_here k s h, of_lo.highs k s v side.lies, first_high k s d h))
-    high_is k s u d (inr h) (inr n) = let side = first s d h in omega (arith, fork.high_below k s u h n, of_lo.highs k s u side.lies, side.highs k u n)
+    high_is : (k : ℕ) (s : Scenario) (u : ℕ) → domain s → (cut < number_of s v) ⊎ (number_of s v ≤ cut) →
+        (u ≡ v) ⊎ (u ≢ v) →
+        high k s u ≤ high_at k r s u
+    high_is k s u d (inr h) (inl e) = let side = first s d h in
+        subst (λ w. high k s w ≤ high_at k r s w) (sym e)
+        (omega (arith, fork.high_here k s h, of_lo.highs k s v side.lies, first_high k s d h))
+    high_is k s u d (inr h) (inr n) = let side = first s d h in
+        omega (arith, fork.high_below k s u h n, of_lo.highs k s u side.lies, side.highs k u n)
     high_is k s u d (inl h) (inl e) = let side = second s d h in subst (λ w. high k s w ≤ high_at k r s w) (sym e)
         (omega (arith, fork.high_above k s v h, of_hi.highs k s v side.lies, second_high k s d h))
-    high_is k s u d (inl h) (inr n) = let side = second s d h in omega (arith, fork.high_above k s u h, of_hi.highs k s u side.lies, side.highs k u n)
+    high_is k s u d (inl h) (inr n) = let side = second s d h in
+        omega (arith, fork.high_above k s u h, of_hi.highs k s u side.lies, side.highs k u n)
 
     pub made_of_sides : IsResultTree domain fact low high r
     made_of_sides = record {
@@ -90,9 +113,11 @@ module _ {T : Type 0} (domain : Scenario → Type 0) (fact : Scenario → T → 
     }
 
 -- what tells more is made too
-pub made_weaker : {T : Type 0} (domain : Scenario → Type 0) (fact other_fact : Scenario → T → Type 0) (low other_low : Scenario → ℕ → ℕ) (high other_high : ℕ → Scenario → ℕ → ℕ) (r : TreeNode T) →
+pub made_weaker : {T : Type 0} (domain : Scenario → Type 0) (fact other_fact : Scenario → T → Type 0)
+    (low other_low : Scenario → ℕ → ℕ) (high other_high : ℕ → Scenario → ℕ → ℕ) (r : TreeNode T) →
     IsResultTree domain fact low high r →
-    ((s : Scenario) (z : T) → domain s → fact s z → other_fact s z) → ((s : Scenario) (u : ℕ) → domain s → low s u ≤ other_low s u) →
+    ((s : Scenario) (z : T) → domain s → fact s z → other_fact s z) →
+    ((s : Scenario) (u : ℕ) → domain s → low s u ≤ other_low s u) →
     ((k : ℕ) (s : Scenario) (u : ℕ) → domain s → other_high k s u ≤ high k s u) →
     IsResultTree domain other_fact other_low other_high r
 made_weaker domain fact other_fact low other_low high other_high r made gives lows highs = record {
@@ -102,7 +127,8 @@ made_weaker domain fact other_fact low other_low high other_high r made gives lo
 }
 
 -- what is made in some scenarios is made in fewer
-pub made_narrower : {T : Type 0} (domain fewer : Scenario → Type 0) (fact : Scenario → T → Type 0) (low : Scenario → ℕ → ℕ) (high : ℕ → Scenario → ℕ → ℕ) (r : TreeNode T) →
+pub made_narrower : {T : Type 0} (domain fewer : Scenario → Type 0) (fact : Scenario → T → Type 0)
+    (low : Scenario → ℕ → ℕ) (high : ℕ → Scenario → ℕ → ℕ) (r : TreeNode T) →
     IsResultTree domain fact low high r →
     ((s : Scenario) → fewer s → domain s) → IsResultTree fewer fact low high r
 made_narrower domain fewer fact low high r made only = record {
@@ -112,40 +138,54 @@ made_narrower domain fewer fact low high r made only = record {
 }
 
 -- what is made in the space that is asked for is made in both
-pub made_in_both : {T U V : Type 0} (answers : T → U → V → Type 0) (spaces : SpacePair) (a : TreeNode T) (b : TreeNode U) (r : TreeNode V) → IsJoinOf answers spaces.asked a b r →
+pub made_in_both : {T U V : Type 0} (answers : T → U → V → Type 0) (spaces : SpacePair) (a : TreeNode T)
+    (b : TreeNode U) (r : TreeNode V) →
+    IsJoinOf answers spaces.asked a b r →
     IsJoinIn answers (IsInBothSpaces spaces) a b r
-made_in_both answers spaces a b r made = made_narrower (IsInSpace spaces.asked) (IsInBothSpaces spaces) _ _ _ r made (λ s d. d.0)
+made_in_both answers spaces a b r made =
+    made_narrower (IsInSpace spaces.asked) (IsInBothSpaces spaces) _ _ _ r made (λ s d. d.0)
 
 -- what is made with the part of a tree that the space walked comes to is made with the tree
-pub both_whole : {T U V : Type 0} (answers : T → U → V → Type 0) (spaces : SpacePair) (a : TreeNode T) (b part : TreeNode U) (r : TreeNode V) → IsTreeWithin spaces.walked b part →
+pub both_whole : {T U V : Type 0} (answers : T → U → V → Type 0) (spaces : SpacePair) (a : TreeNode T)
+    (b part : TreeNode U) (r : TreeNode V) →
+    IsTreeWithin spaces.walked b part →
     IsJoinIn answers (IsInBothSpaces spaces) a part r → IsJoinIn answers (IsInBothSpaces spaces) a b r
 both_whole answers spaces a b part r same made = made_weaker (IsInBothSpaces spaces) _ _ _ _ _ _ r made
     (λ s z d t. subst (λ y. answers (value_at a s) y z) (same.value s d.1) t)
     (λ s u d. omega (arith, same.lows s u d.1)) (λ k s u d. omega (arith, same.highs k s u d.1))
 
 -- what is made with the part of a tree that a space comes to is made with the tree
-pub join_whole : {T U V : Type 0} (answers : T → U → V → Type 0) (space : Space) (a : TreeNode T) (b part : TreeNode U) (r : TreeNode V) → IsTreeWithin space b part →
+pub join_whole : {T U V : Type 0} (answers : T → U → V → Type 0) (space : Space) (a : TreeNode T) (b part : TreeNode U)
+    (r : TreeNode V) →
+    IsTreeWithin space b part →
     IsJoinOf answers space a part r → IsJoinOf answers space a b r
 join_whole answers space a b part r same made = made_weaker (IsInSpace space) _ _ _ _ _ _ r made
     (λ s z d t. subst (λ y. answers (value_at a s) y z) (same.value s d) t)
     (λ s u d. omega (arith, same.lows s u d)) (λ k s u d. omega (arith, same.highs k s u d))
 
 -- what a chooser picks from the parts of trees that a space comes to is picked from the trees
-pub pick_whole : {T : Type 0} (space : Space) (chooser : TreeNode Bool) (on off on_part off_part r : TreeNode T) → IsTreeWithin space on on_part → IsTreeWithin space off off_part →
+pub pick_whole : {T : Type 0} (space : Space) (chooser : TreeNode Bool) (on off on_part off_part r : TreeNode T) →
+    IsTreeWithin space on on_part →
+    IsTreeWithin space off off_part →
     IsPickOf space chooser on_part off_part r → IsPickOf space chooser on off r
-pick_whole {T} space chooser on off on_part off_part r same_on same_off made = made_weaker (IsInSpace space) _ _ _ _ _ _ r made
+pick_whole {T} space chooser on off on_part off_part r same_on same_off made =
+    made_weaker (IsInSpace space) _ _ _ _ _ _ r made
     (λ s z d t. t ∙ same_value (value_at chooser s) s d)
-    (λ s u d. omega (arith, same_low (value_at chooser s) s u d)) (λ k s u d. omega (arith, same_high (value_at chooser s) k s u d))
+    (λ s u d. omega (arith, same_low (value_at chooser s) s u d))
+    (λ k s u d. omega (arith, same_high (value_at chooser s) k s u d))
   where
-    same_value : (b : Bool) (s : Scenario) → IsInSpace space s → value_at (picked b on_part off_part) s ≡ value_at (picked b on off) s
+    same_value : (b : Bool) (s : Scenario) → IsInSpace space s →
+        value_at (picked b on_part off_part) s ≡ value_at (picked b on off) s
     same_value true s d = same_on.value s d
     same_value false s d = same_off.value s d
 
-    same_low : (b : Bool) (s : Scenario) (u : ℕ) → IsInSpace space s → low_at (picked b on_part off_part) s u ≤ low_at (picked b on off) s u
+    same_low : (b : Bool) (s : Scenario) (u : ℕ) → IsInSpace space s →
+        low_at (picked b on_part off_part) s u ≤ low_at (picked b on off) s u
     same_low true s u d = same_on.lows s u d
     same_low false s u d = same_off.lows s u d
 
-    same_high : (b : Bool) (k : ℕ) (s : Scenario) (u : ℕ) → IsInSpace space s → high_at k (picked b on off) s u ≤ high_at k (picked b on_part off_part) s u
+    same_high : (b : Bool) (k : ℕ) (s : Scenario) (u : ℕ) → IsInSpace space s →
+        high_at k (picked b on off) s u ≤ high_at k (picked b on_part off_part) s u
     same_high true k s u d = same_on.highs k s u d
     same_high false k s u d = same_off.highs k s u d
 
@@ -159,27 +199,34 @@ module _ {T U : Type 0} (fact : Scenario → T → U → Type 0) where
     abbrev whole : TreeNode T
     whole = Fork v cut below above
 
-    pub one_below : IsOne domain below r → ((s : Scenario) → domain s → number_of s v ≤ cut) → IsOne domain (Fork v cut below above) r
+    pub one_below : IsOne domain below r → ((s : Scenario) → domain s → number_of s v ≤ cut) →
+        IsOne domain (Fork v cut below above) r
     one_below made only = made_weaker domain _ _ _ _ _ _ r made
         (λ s z d t. subst (λ x. fact s x z) (sym (value_below v cut below above s (only s d))) t)
         (λ s u d. omega (arith, low_below v cut below above s (only s d) u))
         (λ k s u d. elim (cases_eq u v) [
-          | inl e ↦ subst (λ w. high_at k whole s w ≤ high_at k below s w) (sym e) (omega (arith, high_here v cut below above s (only s d) k))
+          | inl e ↦ subst (λ w. high_at k whole s w ≤ high_at k below s w) (sym e)
+              (omega (arith, high_here v cut below above s (only s d) k))
           | inr n ↦ omega (arith, high_below v cut below above s (only s d) k u n)
         ])
 
-    pub one_above : IsOne domain above r → ((s : Scenario) → domain s → cut < number_of s v) → IsOne domain (Fork v cut below above) r
+    pub one_above : IsOne domain above r → ((s : Scenario) → domain s → cut < number_of s v) →
+        IsOne domain (Fork v cut below above) r
     one_above made only = made_weaker domain _ _ _ _ _ _ r made
         (λ s z d t. subst (λ x. fact s x z) (sym (value_above v cut below above s (only s d))) t)
         (λ s u d. elim (cases_eq u v) [
-          | inl e ↦ subst (λ w. low_at above s w ≤ low_at whole s w) (sym e) (omega (arith, low_here v cut below above s (only s d)))
+          | inl e ↦ subst (λ w. low_at above s w ≤ low_at whole s w) (sym e)
+              (omega (arith, low_here v cut below above s (only s d)))
           | inr n ↦ omega (arith, low_above v cut below above s (only s d) u n)
         ])
         (λ k s u d. omega (arith, high_above v cut below above s (only s d) k u))
 
-    pub one_fork : (one two : Scenario → Type 0) (lo hi : TreeNode U) → IsOne one below lo → IsOne two above hi → IsForkOf v cut lo hi r →
-        ((s : Scenario) → domain s → number_of s v ≤ cut → one s) → ((s : Scenario) → domain s → cut < number_of s v → two s) → IsOne domain (Fork v cut below above) r
-    one_fork one two lo hi of_lo of_hi fork goes_one goes_two = made_of_sides domain (λ s z. fact s (value_at whole s) z) (low_at whole) (λ k. high_at k whole) v cut
+    pub one_fork : (one two : Scenario → Type 0) (lo hi : TreeNode U) → IsOne one below lo → IsOne two above hi →
+        IsForkOf v cut lo hi r →
+        ((s : Scenario) → domain s → number_of s v ≤ cut → one s) →
+        ((s : Scenario) → domain s → cut < number_of s v → two s) → IsOne domain (Fork v cut below above) r
+    one_fork one two lo hi of_lo of_hi fork goes_one goes_two =
+        made_of_sides domain (λ s z. fact s (value_at whole s) z) (low_at whole) (λ k. high_at k whole) v cut
         one _ _ _ two _ _ _ lo hi r fork of_lo of_hi
         (λ s d h. record {
           lies = goes_one s d h;
@@ -200,54 +247,107 @@ module _ {T U : Type 0} (fact : Scenario → T → U → Type 0) where
 
 -- ---- of a tree and more
 
-module _ {T U : Type 0} (fact : Scenario → T → U → Type 0) (more_low : Scenario → T → ℕ → ℕ) (more_high : ℕ → Scenario → T → ℕ → ℕ) where
+module _ {T U : Type 0} (fact : Scenario → T → U → Type 0) (more_low : Scenario → T → ℕ → ℕ)
+    (more_high : ℕ → Scenario → T → ℕ → ℕ) where
   abbrev pub IsTwo : (Scenario → Type 0) → TreeNode T → TreeNode U → Type 0
-  IsTwo domain a r = IsResultTree domain (λ s z. fact s (value_at a s) z) (λ s u. max (low_at a s u) (more_low s (value_at a s) u)) (λ k s u. min (high_at k a s u) (more_high k s (value_at a s) u)) r
+  IsTwo domain a r =
+      IsResultTree domain (λ s z. fact s (value_at a s) z) (λ s u. max (low_at a s u) (more_low s (value_at a s) u))
+      (λ k s u. min (high_at k a s u) (more_high k s (value_at a s) u)) r
 
   module _ (domain : Scenario → Type 0) (v cut : ℕ) (below : TreeNode T) (above : TreeNode T) (r : TreeNode U) where
     abbrev both : TreeNode T
     both = Fork v cut below above
 
-    pub two_below : IsTwo domain below r → ((s : Scenario) → domain s → number_of s v ≤ cut) → IsTwo domain (Fork v cut below above) r
+    pub two_below : IsTwo domain below r → ((s : Scenario) → domain s → number_of s v ≤ cut) →
+        IsTwo domain (Fork v cut below above) r
     two_below made only = made_weaker domain _ _ _ _ _ _ r made
         (λ s z d t. subst (λ x. fact s x z) (sym (value_below v cut below above s (only s d))) t)
-        (λ s u d. omega (arith, low_below v cut below above s (only s d) u, ap (λ x. more_low s x u) (value_below v cut below above s (only s d))))
+        (λ s u d. omega (
+          arith,
+          low_below v cut below above s (only s d) u,
+          ap (λ x. more_low s x u) (value_below v cut below above s (only s d)),
+        ))
         (λ k s u d. elim (cases_eq u v) [
-          | inl e ↦ subst (λ w. min (high_at k both s w) (more_high k s (value_at both s) w) ≤ min (high_at k below s w) (more_high k s (value_at below s) w)) (sym e)
-              (omega (arith, high_here v cut below above s (only s d) k, ap (λ x. more_high k s x v) (value_below v cut below above s (only s d))))
-          | inr n ↦ omega (arith, high_below v cut below above s (only s d) k u n, ap (λ x. more_high k s x u) (value_below v cut below above s (only s d)))
+          | inl e ↦ subst (λ w. min (high_at k both s w) (more_high k s (value_at both s) w)
+              ≤ min (high_at k below s w) (more_high k s (value_at below s) w)) (sym e)
+              (omega (
+                arith,
+                high_here v cut below above s (only s d) k,
+                ap (λ x. more_high k s x v) (value_below v cut below above s (only s d)),
+              ))
+          | inr n ↦ omega (
+            arith,
+            high_below v cut below above s (only s d) k u n,
+            ap (λ x. more_high k s x u) (value_below v cut below above s (only s d)),
+          )
         ])
 
-    pub two_above : IsTwo domain above r → ((s : Scenario) → domain s → cut < number_of s v) → IsTwo domain (Fork v cut below above) r
+    pub two_above : IsTwo domain above r → ((s : Scenario) → domain s → cut < number_of s v) →
+        IsTwo domain (Fork v cut below above) r
     two_above made only = made_weaker domain _ _ _ _ _ _ r made
         (λ s z d t. subst (λ x. fact s x z) (sym (value_above v cut below above s (only s d))) t)
         (λ s u d. elim (cases_eq u v) [
-          | inl e ↦ subst (λ w. max (low_at above s w) (more_low s (value_at above s) w) ≤ max (low_at both s w) (more_low s (value_at both s) w)) (sym e)
-              (omega (arith, low_here v cut below above s (only s d), ap (λ x. more_low s x v) (value_above v cut below above s (only s d))))
-          | inr n ↦ omega (arith, low_above v cut below above s (only s d) u n, ap (λ x. more_low s x u) (value_above v cut below above s (only s d)))
+          | inl e ↦ subst (λ w. max (low_at above s w) (more_low s (value_at above s) w)
+              ≤ max (low_at both s w) (more_low s (value_at both s) w)) (sym e)
+              (omega (
+                arith,
+                low_here v cut below above s (only s d),
+                ap (λ x. more_low s x v) (value_above v cut below above s (only s d)),
+              ))
+          | inr n ↦ omega (
+            arith,
+            low_above v cut below above s (only s d) u n,
+            ap (λ x. more_low s x u) (value_above v cut below above s (only s d)),
+          )
         ])
-        (λ k s u d. omega (arith, high_above v cut below above s (only s d) k u, ap (λ x. more_high k s x u) (value_above v cut below above s (only s d))))
+        (λ k s u d. omega (
+          arith,
+          high_above v cut below above s (only s d) k u,
+          ap (λ x. more_high k s x u) (value_above v cut below above s (only s d)),
+        ))
 
-    pub two_fork : (one two : Scenario → Type 0) (lo hi : TreeNode U) → IsTwo one below lo → IsTwo two above hi → IsForkOf v cut lo hi r →
-        ((s : Scenario) → domain s → number_of s v ≤ cut → one s) → ((s : Scenario) → domain s → cut < number_of s v → two s) → IsTwo domain (Fork v cut below above) r
+    pub two_fork : (one two : Scenario → Type 0) (lo hi : TreeNode U) → IsTwo one below lo → IsTwo two above hi →
+        IsForkOf v cut lo hi r →
+        ((s : Scenario) → domain s → number_of s v ≤ cut → one s) →
+        ((s : Scenario) → domain s → cut < number_of s v → two s) → IsTwo domain (Fork v cut below above) r
     two_fork one two lo hi of_lo of_hi fork goes_one goes_two = made_of_sides domain _ _ _ v cut
         one _ _ _ two _ _ _ lo hi r fork of_lo of_hi
         (λ s d h. record {
           lies = goes_one s d h;
           gives = λ z t. subst (λ x. fact s x z) (sym (value_below v cut below above s h)) t;
-          lows = λ u n. omega (arith, low_below v cut below above s h u, ap (λ x. more_low s x u) (value_below v cut below above s h));
-          highs = λ k u n. omega (arith, high_below v cut below above s h k u n, ap (λ x. more_high k s x u) (value_below v cut below above s h));
+          lows = λ u n. omega
+              (arith, low_below v cut below above s h u, ap (λ x. more_low s x u) (value_below v cut below above s h));
+          highs = λ k u n. omega (
+            arith,
+            high_below v cut below above s h k u n,
+            ap (λ x. more_high k s x u) (value_below v cut below above s h),
+          );
         })
-        (λ s d h. omega (arith, low_below v cut below above s h v, ap (λ x. more_low s x v) (value_below v cut below above s h)))
-        (λ k s d h. omega (arith, high_here v cut below above s h k, ap (λ x. more_high k s x v) (value_below v cut below above s h)))
+        (λ s d h. omega
+        (arith, low_below v cut below above s h v, ap (λ x. more_low s x v) (value_below v cut below above s h)))
+        (λ k s d h. omega
+        (arith, high_here v cut below above s h k, ap (λ x. more_high k s x v) (value_below v cut below above s h)))
         (λ s d h. record {
           lies = goes_two s d h;
           gives = λ z t. subst (λ x. fact s x z) (sym (value_above v cut below above s h)) t;
-          lows = λ u n. omega (arith, low_above v cut below above s h u n, ap (λ x. more_low s x u) (value_above v cut below above s h));
-          highs = λ k u n. omega (arith, high_above v cut below above s h k u, ap (λ x. more_high k s x u) (value_above v cut below above s h));
+          lows = λ u n. omega (
+            arith,
+            low_above v cut below above s h u n,
+            ap (λ x. more_low s x u) (value_above v cut below above s h),
+          );
+          highs = λ k u n. omega (
+            arith,
+            high_above v cut below above s h k u,
+            ap (λ x. more_high k s x u) (value_above v cut below above s h),
+          );
         })
-        (λ s d h. omega (arith, low_here v cut below above s h, ap (λ x. more_low s x v) (value_above v cut below above s h)))
-        (λ k s d h. omega (arith, high_above v cut below above s h k v, ap (λ x. more_high k s x v) (value_above v cut below above s h)))
+        (λ s d h.
+        omega (arith, low_here v cut below above s h, ap (λ x. more_low s x v) (value_above v cut below above s h)))
+        (λ k s d h. omega (
+          arith,
+          high_above v cut below above s h k v,
+          ap (λ x. more_high k s x v) (value_above v cut below above s h),
+        ))
 
 -- what follows of an answer holds of it too
 pub of_answer : {T E : Type 0} (r : Result T E) (P Q : T → Type 0) → IfOk r P → ((x : T) → P x → Q x) → IfOk r Q
@@ -268,72 +368,107 @@ from_true true e h = h
 from_true false e h = cc
 
 -- the same of a tree that is a fork
-module _ {T U : Type 0} (fact : Scenario → T → U → Type 0) (domain : Scenario → Type 0) (v cut : ℕ) (below above n : TreeNode T) (is : n ≡ Fork v cut below above)
+module _ {T U : Type 0} (fact : Scenario → T → U → Type 0) (domain : Scenario → Type 0) (v cut : ℕ)
+    (below above n : TreeNode T) (is : n ≡ Fork v cut below above)
     (r : TreeNode U) where
-  pub one_below_of : IsOne fact domain below r → ((s : Scenario) → domain s → number_of s v ≤ cut) → IsOne fact domain n r
-  one_below_of made only = subst (λ (m : TreeNode T). IsOne fact domain m r) (sym is) (one_below fact domain v cut below above r made only)
+  pub one_below_of : IsOne fact domain below r → ((s : Scenario) → domain s → number_of s v ≤ cut) →
+      IsOne fact domain n r
+  one_below_of made only =
+      subst (λ (m : TreeNode T). IsOne fact domain m r) (sym is) (one_below fact domain v cut below above r made only)
 
-  pub one_above_of : IsOne fact domain above r → ((s : Scenario) → domain s → cut < number_of s v) → IsOne fact domain n r
-  one_above_of made only = subst (λ (m : TreeNode T). IsOne fact domain m r) (sym is) (one_above fact domain v cut below above r made only)
+  pub one_above_of : IsOne fact domain above r → ((s : Scenario) → domain s → cut < number_of s v) →
+      IsOne fact domain n r
+  one_above_of made only =
+      subst (λ (m : TreeNode T). IsOne fact domain m r) (sym is) (one_above fact domain v cut below above r made only)
 
-  pub one_fork_of : (one two : Scenario → Type 0) (lo hi : TreeNode U) → IsOne fact one below lo → IsOne fact two above hi → IsForkOf v cut lo hi r →
-      ((s : Scenario) → domain s → number_of s v ≤ cut → one s) → ((s : Scenario) → domain s → cut < number_of s v → two s) → IsOne fact domain n r
-  one_fork_of one two lo hi of_lo of_hi fork goes_one goes_two = subst (λ (m : TreeNode T). IsOne fact domain m r) (sym is)
+  pub one_fork_of : (one two : Scenario → Type 0) (lo hi : TreeNode U) → IsOne fact one below lo →
+      IsOne fact two above hi →
+      IsForkOf v cut lo hi r →
+      ((s : Scenario) → domain s → number_of s v ≤ cut → one s) →
+      ((s : Scenario) → domain s → cut < number_of s v → two s) → IsOne fact domain n r
+  one_fork_of one two lo hi of_lo of_hi fork goes_one goes_two =
+      subst (λ (m : TreeNode T). IsOne fact domain m r) (sym is)
       (one_fork fact domain v cut below above r one two lo hi of_lo of_hi fork goes_one goes_two)
 
 -- the same of a tree that is a fork
-module _ {T U : Type 0} (fact : Scenario → T → U → Type 0) (more_low : Scenario → T → ℕ → ℕ) (more_high : ℕ → Scenario → T → ℕ → ℕ) (domain : Scenario → Type 0) (v cut : ℕ)
+module _ {T U : Type 0} (fact : Scenario → T → U → Type 0) (more_low : Scenario → T → ℕ → ℕ)
+    (more_high : ℕ → Scenario → T → ℕ → ℕ) (domain : Scenario → Type 0) (v cut : ℕ)
     (below above n : TreeNode T) (is : n ≡ Fork v cut below above) (r : TreeNode U) where
-  pub two_below_of : IsTwo fact more_low more_high domain below r → ((s : Scenario) → domain s → number_of s v ≤ cut) → IsTwo fact more_low more_high domain n r
-  two_below_of made only = subst (λ (m : TreeNode T). IsTwo fact more_low more_high domain m r) (sym is) (two_below fact more_low more_high domain v cut below above r made only)
+  pub two_below_of : IsTwo fact more_low more_high domain below r → ((s : Scenario) → domain s → number_of s v ≤ cut) →
+      IsTwo fact more_low more_high domain n r
+  two_below_of made only = subst (λ (m : TreeNode T). IsTwo fact more_low more_high domain m r) (sym is)
+      (two_below fact more_low more_high domain v cut below above r made only)
 
-  pub two_above_of : IsTwo fact more_low more_high domain above r → ((s : Scenario) → domain s → cut < number_of s v) → IsTwo fact more_low more_high domain n r
-  two_above_of made only = subst (λ (m : TreeNode T). IsTwo fact more_low more_high domain m r) (sym is) (two_above fact more_low more_high domain v cut below above r made only)
+  pub two_above_of : IsTwo fact more_low more_high domain above r → ((s : Scenario) → domain s → cut < number_of s v) →
+      IsTwo fact more_low more_high domain n r
+  two_above_of made only = subst (λ (m : TreeNode T). IsTwo fact more_low more_high domain m r) (sym is)
+      (two_above fact more_low more_high domain v cut below above r made only)
 
-  pub two_fork_of : (one two : Scenario → Type 0) (lo hi : TreeNode U) → IsTwo fact more_low more_high one below lo → IsTwo fact more_low more_high two above hi → IsForkOf v cut lo hi r →
-      ((s : Scenario) → domain s → number_of s v ≤ cut → one s) → ((s : Scenario) → domain s → cut < number_of s v → two s) → IsTwo fact more_low more_high domain n r
-  two_fork_of one two lo hi of_lo of_hi fork goes_one goes_two = subst (λ (m : TreeNode T). IsTwo fact more_low more_high domain m r) (sym is)
+  pub two_fork_of : (one two : Scenario → Type 0) (lo hi : TreeNode U) → IsTwo fact more_low more_high one below lo →
+      IsTwo fact more_low more_high two above hi →
+      IsForkOf v cut lo hi r →
+      ((s : Scenario) → domain s → number_of s v ≤ cut → one s) →
+      ((s : Scenario) → domain s → cut < number_of s v → two s) → IsTwo fact more_low more_high domain n r
+  two_fork_of one two lo hi of_lo of_hi fork goes_one goes_two =
+      subst (λ (m : TreeNode T). IsTwo fact more_low more_high domain m r) (sym is)
       (two_fork fact more_low more_high domain v cut below above r one two lo hi of_lo of_hi fork goes_one goes_two)
 
 -- the same of a tree that is one value
-module _ {T U : Type 0} (fact : Scenario → T → U → Type 0) (more_low : Scenario → T → ℕ → ℕ) (more_high : ℕ → Scenario → T → ℕ → ℕ) (domain : Scenario → Type 0) (x : T) (n : TreeNode T)
+module _ {T U : Type 0} (fact : Scenario → T → U → Type 0) (more_low : Scenario → T → ℕ → ℕ)
+    (more_high : ℕ → Scenario → T → ℕ → ℕ) (domain : Scenario → Type 0) (x : T) (n : TreeNode T)
     (is : n ≡ Leaf x) (r : TreeNode U) where
-  pub two_leaf_of : IsResultTree domain (λ s z. fact s x z) (λ s u. more_low s x u) (λ k s u. more_high k s x u) r → IsTwo fact more_low more_high domain n r
+  pub two_leaf_of : IsResultTree domain (λ s z. fact s x z) (λ s u. more_low s x u) (λ k s u. more_high k s x u) r →
+      IsTwo fact more_low more_high domain n r
   two_leaf_of made = subst (λ (m : TreeNode T). IsTwo fact more_low more_high domain m r) (sym is)
       (made_weaker domain _ _ _ _ _ _ r made (λ s z d t. t) (λ s u d. omega arith) (λ k s u d. omega arith))
 
 -- if the forks of a tree that is a fork pass a test, so do those of its sides
-pub passes_parts : {T : Type 0} (test : ℕ → Bool) (v cut : ℕ) (below above n : TreeNode T) → n ≡ Fork v cut below above → DoForksPass test n → (test v ≡ true) ×
+pub passes_parts : {T : Type 0} (test : ℕ → Bool) (v cut : ℕ) (below above n : TreeNode T) →
+    n ≡ Fork v cut below above → DoForksPass test n →
+    (test v ≡ true) ×
     DoForksPass test below × DoForksPass test above
 passes_parts test v cut below above n is pass = subst (DoForksPass test) is pass
 
 -- if such a tree fits, so do its sides
-pub fit_parts : {T : Type 0} (space : Space) (v cut : ℕ) (below above n : TreeNode T) → n ≡ Fork v cut below above → IsFit space n → IsFit space (Fork v cut below above)
+pub fit_parts : {T : Type 0} (space : Space) (v cut : ℕ) (below above n : TreeNode T) → n ≡ Fork v cut below above →
+    IsFit space n →
+    IsFit space (Fork v cut below above)
 fit_parts space v cut below above n is fit = subst (IsFit space) is fit
 
 -- ---- two spaces, put back above a cut
 
-module _ (spaces shut inner opened : SpacePair) (v : ℕ) (highs : Highs) (back : lowered shut v highs ≡ spaces) (same : inner ≡ shut) (put : opened ≡ lowered inner v highs) where
+module _ (spaces shut inner opened : SpacePair) (v : ℕ) (highs : Highs) (back : lowered shut v highs ≡ spaces)
+    (same : inner ≡ shut) (put : opened ≡ lowered inner v highs) where
   pub both_opened : opened ≡ spaces
   both_opened = put ∙ ap (λ (r : SpacePair). lowered r v highs) same ∙ back
 
   -- what is above the cut in them is in those closed below it
-  pub both_reopened : (upper : SpacePair) (cut : ℕ) → ((s : Scenario) → IsInBothSpaces opened s → cut < number_of s v → IsInBothSpaces upper s) → (s : Scenario) → IsInBothSpaces spaces s
+  pub both_reopened : (upper : SpacePair) (cut : ℕ) →
+      ((s : Scenario) → IsInBothSpaces opened s → cut < number_of s v → IsInBothSpaces upper s) → (s : Scenario) →
+      IsInBothSpaces spaces s
       → cut < number_of s v →
       IsInBothSpaces upper s
   both_reopened upper cut lies_upper s lies h = lies_upper s (subst (λ r. IsInBothSpaces r s) (sym both_opened) lies) h
 
 -- ---- a fork at which all scenarios of two spaces go one way
 
-module _ {T U V : Type 0} (answers : T → U → V → Type 0) (spaces inner : SpacePair) (v cut : ℕ) (below above n : TreeNode T) (is : n ≡ Fork v cut below above)
+module _ {T U V : Type 0} (answers : T → U → V → Type 0) (spaces inner : SpacePair) (v cut : ℕ)
+    (below above n : TreeNode T) (is : n ≡ Fork v cut below above)
     (other part : TreeNode U) (same : IsTreeWithin spaces.walked other part) (r : TreeNode V) where
-  -- what is made in the spaces left, with the part of the other tree that the space walked comes to, is made with both trees
-  pub made_all_below : IsInner spaces (λ s. number_of s v ≤ cut) inner → IsJoinIn answers (IsInBothSpaces inner) below part r → IsJoinIn answers (IsInBothSpaces spaces) n other r
+  -- what is made in the spaces left, with the part of the other tree that the space walked comes to, is made with both
+  -- trees
+  pub made_all_below : IsInner spaces (λ s. number_of s v ≤ cut) inner →
+      IsJoinIn answers (IsInBothSpaces inner) below part r →
+      IsJoinIn answers (IsInBothSpaces spaces) n other r
   made_all_below way made = both_whole answers spaces n other part r same
-      (two_below_of (λ s x z. answers x (value_at part s) z) (λ s x u. low_at part s u) (λ k s x u. high_at k part s u) (IsInBothSpaces spaces) v cut below above n is r
+      (two_below_of (λ s x z. answers x (value_at part s) z) (λ s x u. low_at part s u) (λ k s x u. high_at k part s u)
+      (IsInBothSpaces spaces) v cut below above n is r
       (made_narrower (IsInBothSpaces inner) (IsInBothSpaces spaces) _ _ _ r made way.lies) way.goes)
 
-  pub made_all_above : IsInner spaces (λ s. cut < number_of s v) inner → IsJoinIn answers (IsInBothSpaces inner) above part r → IsJoinIn answers (IsInBothSpaces spaces) n other r
+  pub made_all_above : IsInner spaces (λ s. cut < number_of s v) inner →
+      IsJoinIn answers (IsInBothSpaces inner) above part r →
+      IsJoinIn answers (IsInBothSpaces spaces) n other r
   made_all_above way made = both_whole answers spaces n other part r same
-      (two_above_of (λ s x z. answers x (value_at part s) z) (λ s x u. low_at part s u) (λ k s x u. high_at k part s u) (IsInBothSpaces spaces) v cut below above n is r
+      (two_above_of (λ s x z. answers x (value_at part s) z) (λ s x u. low_at part s u) (λ k s x u. high_at k part s u)
+      (IsInBothSpaces spaces) v cut below above n is r
       (made_narrower (IsInBothSpaces inner) (IsInBothSpaces spaces) _ _ _ r made way.lies) way.goes)

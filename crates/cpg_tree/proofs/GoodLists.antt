@@ -21,13 +21,17 @@ module _ {T : Type 0} (k : ℕ) (items : List (TreeItem T)) where
   state_is n are = ap (λ (ps : List (Path T)). record { faults = k; paths = ps }) (paths_in-flat k items n are)
 
   pub one_each : IsGoodList k items → HasOnePathEach k (paths_in k items)
-  one_each good = subst (HasOnePathEach k) (sym (paths_in-flat k items good.0 good.1)) (λ s few. one_path k good.0 good.2 s few)
+  one_each good =
+      subst (HasOnePathEach k) (sym (paths_in-flat k items good.0 good.1)) (λ s few. one_path k good.0 good.2 s few)
 
   pub all_tidy : IsGoodList k items → All (IsTidyPath k) (paths_in k items)
-  all_tidy good = subst (λ (ps : List (Path T)). All (IsTidyPath k) ps) (sym (paths_in-flat k items good.0 good.1)) (tidy_all k good.0 good.2)
+  all_tidy good = subst (λ (ps : List (Path T)). All (IsTidyPath k) ps) (sym (paths_in-flat k items good.0 good.1))
+      (tidy_all k good.0 good.2)
 
 -- a list that is the value true is that of a tree that is true everywhere
-pub true_value : (b : Bool) (t : TreeState Bool) (items : List (TreeItem Bool)) → items ≡ flat (Leaf b) → ((n : TreeNode Bool) → items ≡ flat n → t.paths ≡ paths_of t.faults n) → OnTrue b
+pub true_value : (b : Bool) (t : TreeState Bool) (items : List (TreeItem Bool)) → items ≡ flat (Leaf b) →
+    ((n : TreeNode Bool) → items ≡ flat n → t.paths ≡ paths_of t.faults n) → OnTrue b
     (IsConstant true t.faults t)
-true_value true t items leaf paths = ap (λ (ps : List (Path Bool)). record { faults = t.faults; paths = ps }) (paths (Leaf true) leaf)
+true_value true t items leaf paths =
+    ap (λ (ps : List (Path Bool)). record { faults = t.faults; paths = ps }) (paths (Leaf true) leaf)
 true_value false t items leaf paths = tt

@@ -14,18 +14,21 @@ use Rattle.cpg_tree.specs.TreeNode.{TreeNode, Leaf, Fork}
 use Rattle.cpg_tree.specs.declared.bounds.Span.{Span}
 use Rattle.cpg_tree.specs.declared.item.TreeItem.{TreeItem}
 use Rattle.cpg_tree.proofs.Flats.{flat-same}
-use Rattle.cpg_tree.proofs.Forks.{both_whole, made_all_above, made_all_below, made_in_both, made_narrower, one_above_of, one_below_of, passes_parts, two_fork_of}
+use Rattle.cpg_tree.proofs.Forks.{both_whole, made_all_above, made_all_below, made_in_both, made_narrower, one_above_of}
+use Rattle.cpg_tree.proofs.Forks.{one_below_of, passes_parts, two_fork_of}
 use Rattle.cpg_tree.proofs.Greatness.{first_greater, first_leaf, second_greater}
 use Rattle.cpg_tree.proofs.JoinLaws.{split_of}
 
 -- ---- parts with bounds
 
-module _ {T : Type 0} (v cut : ℕ) (x y n : TreeNode T) (items : List (TreeItem T)) (is : items ≡ flat (Fork v cut x y)) (are : items ≡ flat n) where
+module _ {T : Type 0} (v cut : ℕ) (x y n : TreeNode T) (items : List (TreeItem T)) (is : items ≡ flat (Fork v cut x y))
+    (are : items ≡ flat n) where
   fork_is : n ≡ Fork v cut x y
   fork_is = flat-same n (Fork v cut x y) (sym are ∙ is)
 
   module _ (space : Space) (bounds side spans : List Span) (part : List (TreeItem T)) where
-    pub bounded_above : ((s : Scenario) → IsInSpace space s → cut < number_of s v) → ((number : T → ℕ) → bounds ≡ bounds_in number (Fork v cut x y) → side ≡ bounds_in number y) →
+    pub bounded_above : ((s : Scenario) → IsInSpace space s → cut < number_of s v) →
+        ((number : T → ℕ) → bounds ≡ bounds_in number (Fork v cut x y) → side ≡ bounds_in number y) →
         IsBoundedPartList space y side part spans → IsBoundedPartList space n bounds part spans
     bounded_above only cuts p = (
       p.0,
@@ -37,7 +40,8 @@ module _ {T : Type 0} (v cut : ℕ) (x y n : TreeNode T) (items : List (TreeItem
       λ number e. p.3 number (cuts number (e ∙ ap (bounds_in number) fork_is)),
     )
 
-    pub bounded_below : ((s : Scenario) → IsInSpace space s → number_of s v ≤ cut) → ((number : T → ℕ) → bounds ≡ bounds_in number (Fork v cut x y) → side ≡ bounds_in number x) →
+    pub bounded_below : ((s : Scenario) → IsInSpace space s → number_of s v ≤ cut) →
+        ((number : T → ℕ) → bounds ≡ bounds_in number (Fork v cut x y) → side ≡ bounds_in number x) →
         IsBoundedPartList space x side part spans → IsBoundedPartList space n bounds part spans
     bounded_below only cuts p = (
       p.0,
@@ -50,53 +54,65 @@ module _ {T : Type 0} (v cut : ℕ) (x y n : TreeNode T) (items : List (TreeItem
     )
 
 -- a side has the spans of its forks if the whole does
-pub side_bounded : {T : Type 0} (number : T → ℕ) (n side : TreeNode T) (items part : List (TreeItem T)) (bounds spans : List Span) → IsBounded number items bounds → items ≡ flat n → part ≡ flat side →
+pub side_bounded : {T : Type 0} (number : T → ℕ) (n side : TreeNode T) (items part : List (TreeItem T))
+    (bounds spans : List Span) → IsBounded number items bounds → items ≡ flat n →
+    part ≡ flat side →
     (bounds ≡ bounds_in number n → spans ≡ bounds_in number side) → IsBounded number part spans
-side_bounded number n side items part bounds spans is are part_is cuts = (side, part_is, cuts (is.2 ∙ ap (bounds_in number) (flat-same is.0 n (sym is.1 ∙ are))))
+side_bounded number n side items part bounds spans is are part_is cuts =
+    (side, part_is, cuts (is.2 ∙ ap (bounds_in number) (flat-same is.0 n (sym is.1 ∙ are))))
 
 -- and so does a part
-pub part_bounded : {T : Type 0} (number : T → ℕ) (space : Space) (items part : List (TreeItem T)) (bounds spans : List Span) → IsBounded number items bounds →
+pub part_bounded : {T : Type 0} (number : T → ℕ) (space : Space) (items part : List (TreeItem T))
+    (bounds spans : List Span) →
+    IsBounded number items bounds →
     ((n : TreeNode T) → items ≡ flat n → IsBoundedPartList space n bounds part spans) → IsBounded number part spans
 part_bounded number space items part bounds spans is parts = let p = parts is.0 is.1 in (p.0, p.1, p.3 number is.2)
 
 -- ---- one of two trees, with the part of the other that the space walked comes to
 
-module _ {T U V : Type 0} (number : T → ℕ) (other_number : U → ℕ) (makes : ℕ → V → Type 0) (spaces : SpacePair) (n : TreeNode T) (m part : TreeNode U) (is : IsPartInSpace spaces.walked m part)
+module _ {T U V : Type 0} (number : T → ℕ) (other_number : U → ℕ) (makes : ℕ → V → Type 0) (spaces : SpacePair)
+    (n : TreeNode T) (m part : TreeNode U) (is : IsPartInSpace spaces.walked m part)
     (old new : List (TreeItem V)) where
   abbrev answers : T → U → V → Type 0
   answers x y z = makes (max (number x) (other_number y)) z
 
-  pub own_added : IsAtLeast number other_number n part → AddsTree (IsFilled (λ (x : ℕ) (y : T) (z : V). makes (max x (number y)) z) spaces.asked 0 n) old new
+  pub own_added : IsAtLeast number other_number n part →
+      AddsTree (IsFilled (λ (x : ℕ) (y : T) (z : V). makes (max x (number y)) z) spaces.asked 0 n) old new
       → AddsTree (IsJoinedIn answers spaces n m) old new
   own_added least p = (
     p.0,
     p.1,
     record {
-      made = both_whole answers spaces n m part p.0 is.same (made_in_both answers spaces n part p.0 (first_greater number other_number makes spaces.asked n part p.0 least p.2.made));
+      made = both_whole answers spaces n m part p.0 is.same (made_in_both answers spaces n part p.0
+          (first_greater number other_number makes spaces.asked n part p.0 least p.2.made));
       fit = p.2.fit;
       pass = λ test own other. p.2.pass test own;
     },
   )
 
-  pub other_added : IsAtLeast other_number number part n → AddsTree (IsFilled (λ (x : ℕ) (y : U) (z : V). makes (max x (other_number y)) z) spaces.asked 0 part) old new →
+  pub other_added : IsAtLeast other_number number part n →
+      AddsTree (IsFilled (λ (x : ℕ) (y : U) (z : V). makes (max x (other_number y)) z) spaces.asked 0 part) old new →
       AddsTree (IsJoinedIn answers spaces n m) old new
   other_added least p = (
     p.0,
     p.1,
     record {
-      made = both_whole answers spaces n m part p.0 is.same (made_in_both answers spaces n part p.0 (second_greater number other_number makes spaces.asked n part p.0 least p.2.made));
+      made = both_whole answers spaces n m part p.0 is.same (made_in_both answers spaces n part p.0
+          (second_greater number other_number makes spaces.asked n part p.0 least p.2.made));
       fit = p.2.fit;
       pass = λ test own other. p.2.pass test (is.pass test other);
     },
   )
 
-  pub leaf_added : (x : T) (at : ℕ) → n ≡ Leaf x → at ≡ number x → AddsTree (IsFilled (λ (x : ℕ) (y : U) (z : V). makes (max x (other_number y)) z) spaces.asked at part) old new →
+  pub leaf_added : (x : T) (at : ℕ) → n ≡ Leaf x → at ≡ number x →
+      AddsTree (IsFilled (λ (x : ℕ) (y : U) (z : V). makes (max x (other_number y)) z) spaces.asked at part) old new →
       AddsTree (IsJoinedIn answers spaces n m) old new
   leaf_added x at leaf value p = (
     p.0,
     p.1,
     record {
-      made = both_whole answers spaces n m part p.0 is.same (made_in_both answers spaces n part p.0 (first_leaf number other_number makes spaces.asked n part p.0 x at leaf value p.2.made));
+      made = both_whole answers spaces n m part p.0 is.same (made_in_both answers spaces n part p.0
+          (first_leaf number other_number makes spaces.asked n part p.0 x at leaf value p.2.made));
       fit = p.2.fit;
       pass = λ test own other. p.2.pass test (is.pass test other);
     },
@@ -104,12 +120,15 @@ module _ {T U V : Type 0} (number : T → ℕ) (other_number : U → ℕ) (makes
 
 -- ---- a fork and such a part
 
-module _ {T U V : Type 0} (answers : T → U → V → Type 0) (spaces : SpacePair) (v cut : ℕ) (x y n : TreeNode T) (items : List (TreeItem T)) (is : items ≡ flat (Fork v cut x y)) (are : items ≡ flat n)
+module _ {T U V : Type 0} (answers : T → U → V → Type 0) (spaces : SpacePair) (v cut : ℕ) (x y n : TreeNode T)
+    (items : List (TreeItem T)) (is : items ≡ flat (Fork v cut x y)) (are : items ≡ flat n)
     (m part : TreeNode U) (part_is : IsPartInSpace spaces.walked m part) (old new : List (TreeItem V)) where
   whole : n ≡ Fork v cut x y
   whole = fork_is v cut x y n items is are
 
-  pub added_below : (inner : SpacePair) → IsInner spaces (λ s. number_of s v ≤ cut) inner → AddsTree (IsJoinedIn answers inner x part) old new → AddsTree (IsJoinedIn answers spaces n m) old new
+  pub added_below : (inner : SpacePair) → IsInner spaces (λ s. number_of s v ≤ cut) inner →
+      AddsTree (IsJoinedIn answers inner x part) old new →
+      AddsTree (IsJoinedIn answers spaces n m) old new
   added_below inner way p = (
     p.0,
     p.1,
@@ -120,7 +139,9 @@ module _ {T U V : Type 0} (answers : T → U → V → Type 0) (spaces : SpacePa
     },
   )
 
-  pub added_above : (inner : SpacePair) → IsInner spaces (λ s. cut < number_of s v) inner → AddsTree (IsJoinedIn answers inner y part) old new → AddsTree (IsJoinedIn answers spaces n m) old new
+  pub added_above : (inner : SpacePair) → IsInner spaces (λ s. cut < number_of s v) inner →
+      AddsTree (IsJoinedIn answers inner y part) old new →
+      AddsTree (IsJoinedIn answers spaces n m) old new
   added_above inner way p = (
     p.0,
     p.1,
@@ -131,22 +152,31 @@ module _ {T U V : Type 0} (answers : T → U → V → Type 0) (spaces : SpacePa
     },
   )
 
-  module _ (met shut upper : SpacePair) (opens : AreBothOpen spaces v cut) (same : met ≡ spaces) (shut_is : shut.asked ≡ below_cut met.asked v cut) (upper_is : upper.asked ≡ above_cut met.asked v cut)
+  module _ (met shut upper : SpacePair) (opens : AreBothOpen spaces v cut) (same : met ≡ spaces)
+      (shut_is : shut.asked ≡ below_cut met.asked v cut) (upper_is : upper.asked ≡ above_cut met.asked v cut)
       (lies_shut : (s : Scenario) → IsInBothSpaces met s → number_of s v ≤ cut → IsInBothSpaces shut s)
       (lies_upper : (s : Scenario) → IsInBothSpaces met s → cut < number_of s v → IsInBothSpaces upper s)
-      (start middle : ℕ) (lower higher : List (TreeItem V)) (first : start ≡ length old) (second : middle ≡ length lower) (forks : ForksEnd start middle v cut higher new) where
-    pub added_fork : AddsTree (IsJoinedIn answers shut x part) old lower → AddsTree (IsJoinedIn answers upper y part) lower higher → AddsTree (IsJoinedIn answers spaces n m) old new
+      (start middle : ℕ) (lower higher : List (TreeItem V)) (first : start ≡ length old)
+      (second : middle ≡ length lower) (forks : ForksEnd start middle v cut higher new) where
+    pub added_fork : AddsTree (IsJoinedIn answers shut x part) old lower →
+        AddsTree (IsJoinedIn answers upper y part) lower higher →
+        AddsTree (IsJoinedIn answers spaces n m) old new
     added_fork one two =
-        let fork = forks old one.0 two.0 (split_of start middle old lower higher one.0 two.0 one.1 two.1 first second) in (
+        let fork =
+        forks old one.0 two.0 (split_of start middle old lower higher one.0 two.0 one.1 two.1 first second) in (
           fork.0,
           fork.1,
           record {
-            made = both_whole answers spaces n m part fork.0 part_is.same (subst (λ (q : SpacePair). IsJoinIn answers (IsInBothSpaces q) n part fork.0) same
-                (two_fork_of (λ s x z. answers x (value_at part s) z) (λ s x u. low_at part s u) (λ k s x u. high_at k part s u) (IsInBothSpaces met) v cut x y n whole fork.0 (IsInBothSpaces shut)
+            made = both_whole answers spaces n m part fork.0 part_is.same
+                (subst (λ (q : SpacePair). IsJoinIn answers (IsInBothSpaces q) n part fork.0) same
+                (two_fork_of (λ s x z. answers x (value_at part s) z) (λ s x u. low_at part s u)
+                (λ k s x u. high_at k part s u) (IsInBothSpaces met) v cut x y n whole fork.0 (IsInBothSpaces shut)
                 (IsInBothSpaces upper) one.0 two.0 one.2.made two.2.made fork.2.made lies_shut lies_upper));
             fit = fork.2.fit spaces.asked opens.below opens.above
-                (subst (λ (space : Space). IsFit space one.0) (shut_is ∙ ap (λ (q : SpacePair). below_cut q.asked v cut) same) one.2.fit)
-                (subst (λ (space : Space). IsFit space two.0) (upper_is ∙ ap (λ (q : SpacePair). above_cut q.asked v cut) same) two.2.fit);
+                (subst (λ (space : Space). IsFit space one.0)
+                (shut_is ∙ ap (λ (q : SpacePair). below_cut q.asked v cut) same) one.2.fit)
+                (subst (λ (space : Space). IsFit space two.0)
+                (upper_is ∙ ap (λ (q : SpacePair). above_cut q.asked v cut) same) two.2.fit);
             pass = λ test own other.
                 let parts = passes_parts test v cut x y n whole own in
                 let others = part_is.pass test other in
@@ -156,13 +186,17 @@ module _ {T U V : Type 0} (answers : T → U → V → Type 0) (spaces : SpacePa
 
 -- ---- two whole trees in one space
 
-module _ {T U V : Type 0} (number : T → ℕ) (other_number : U → ℕ) (makes : ℕ → V → Type 0) (space : Space) (n : TreeNode T) (m : TreeNode U) (old new : List (TreeItem V)) where
+module _ {T U V : Type 0} (number : T → ℕ) (other_number : U → ℕ) (makes : ℕ → V → Type 0) (space : Space)
+    (n : TreeNode T) (m : TreeNode U) (old new : List (TreeItem V)) where
   abbrev both_answers : T → U → V → Type 0
   both_answers x y z = makes (max (number x) (other_number y)) z
 
   -- of one tree alone, if its number is the greater one
-  first_alone : (at : ℕ) → ((s : Scenario) → max at (number (value_at n s)) ≡ max (number (value_at n s)) (other_number (value_at m s))) → IsFit space n →
-      AddsTree (IsMapped (λ (x : T) (z : V). makes (max at (number x)) z) n) old new → AddsTree (IsJoined both_answers space n m) old new
+  first_alone : (at : ℕ) →
+      ((s : Scenario) → max at (number (value_at n s)) ≡ max (number (value_at n s)) (other_number (value_at m s))) →
+      IsFit space n →
+      AddsTree (IsMapped (λ (x : T) (z : V). makes (max at (number x)) z) n) old new →
+      AddsTree (IsJoined both_answers space n m) old new
   first_alone at same fits p = (
     p.0,
     p.1,
@@ -177,8 +211,11 @@ module _ {T U V : Type 0} (number : T → ℕ) (other_number : U → ℕ) (makes
     },
   )
 
-  second_alone : (at : ℕ) → ((s : Scenario) → max at (other_number (value_at m s)) ≡ max (number (value_at n s)) (other_number (value_at m s))) → IsFit space m →
-      AddsTree (IsMapped (λ (y : U) (z : V). makes (max at (other_number y)) z) m) old new → AddsTree (IsJoined both_answers space n m) old new
+  second_alone : (at : ℕ) → ((s : Scenario) →
+      max at (other_number (value_at m s)) ≡ max (number (value_at n s)) (other_number (value_at m s))) →
+      IsFit space m →
+      AddsTree (IsMapped (λ (y : U) (z : V). makes (max at (other_number y)) z) m) old new →
+      AddsTree (IsJoined both_answers space n m) old new
   second_alone at same fits p = (
     p.0,
     p.1,
@@ -193,28 +230,36 @@ module _ {T U V : Type 0} (number : T → ℕ) (other_number : U → ℕ) (makes
     },
   )
 
-  pub first_added : (x : T) (at : ℕ) → n ≡ Leaf x → at ≡ number x → IsFit space m → AddsTree (IsMapped (λ (y : U) (z : V). makes (max at (other_number y)) z) m) old new →
+  pub first_added : (x : T) (at : ℕ) → n ≡ Leaf x → at ≡ number x → IsFit space m →
+      AddsTree (IsMapped (λ (y : U) (z : V). makes (max at (other_number y)) z) m) old new →
       AddsTree (IsJoined both_answers space n m) old new
-  first_added x at leaf value = second_alone at (λ s. omega (arith, value, ap (λ (c : TreeNode T). number (value_at c s)) leaf))
+  first_added x at leaf value =
+      second_alone at (λ s. omega (arith, value, ap (λ (c : TreeNode T). number (value_at c s)) leaf))
 
-  pub second_added : (y : U) (at : ℕ) → m ≡ Leaf y → at ≡ other_number y → IsFit space n → AddsTree (IsMapped (λ (x : T) (z : V). makes (max at (number x)) z) n) old new →
+  pub second_added : (y : U) (at : ℕ) → m ≡ Leaf y → at ≡ other_number y → IsFit space n →
+      AddsTree (IsMapped (λ (x : T) (z : V). makes (max at (number x)) z) n) old new →
       AddsTree (IsJoined both_answers space n m) old new
-  second_added y at leaf value = first_alone at (λ s. omega (arith, value, ap (λ (c : TreeNode U). other_number (value_at c s)) leaf))
+  second_added y at leaf value =
+      first_alone at (λ s. omega (arith, value, ap (λ (c : TreeNode U). other_number (value_at c s)) leaf))
 
-  pub first_whole : IsAtLeast number other_number n m → IsFit space n → AddsTree (IsMapped (λ (x : T) (z : V). makes (max 0 (number x)) z) n) old new
+  pub first_whole : IsAtLeast number other_number n m → IsFit space n →
+      AddsTree (IsMapped (λ (x : T) (z : V). makes (max 0 (number x)) z) n) old new
       → AddsTree (IsJoined both_answers space n m) old new
   first_whole least = first_alone 0 (λ s. omega (arith, least s s))
 
-  pub second_whole : IsAtLeast other_number number m n → IsFit space m → AddsTree (IsMapped (λ (y : U) (z : V). makes (max 0 (other_number y)) z) m) old new
+  pub second_whole : IsAtLeast other_number number m n → IsFit space m →
+      AddsTree (IsMapped (λ (y : U) (z : V). makes (max 0 (other_number y)) z) m) old new
       → AddsTree (IsJoined both_answers space n m) old new
   second_whole least = second_alone 0 (λ s. omega (arith, least s s))
 
-  pub joined_added : AddsTree (IsJoinedIn both_answers (record { asked = space; walked = space }) n m) old new → AddsTree (IsJoined both_answers space n m) old new
+  pub joined_added : AddsTree (IsJoinedIn both_answers (record { asked = space; walked = space }) n m) old new →
+      AddsTree (IsJoined both_answers space n m) old new
   joined_added p = (
     p.0,
     p.1,
     record {
-      made = made_narrower (IsInBothSpaces (record { asked = space; walked = space })) (IsInSpace space) _ _ _ p.0 p.2.made (λ s d. (d, d));
+      made = made_narrower (IsInBothSpaces (record { asked = space; walked = space }))
+          (IsInSpace space) _ _ _ p.0 p.2.made (λ s d. (d, d));
       fit = p.2.fit;
       pass = p.2.pass;
     },

@@ -25,17 +25,25 @@ module _ {T : Type 0} (number : T → ℕ) where
   ]
 
 -- what is made of the greater number of two trees
-module _ {T U V : Type 0} (number : T → ℕ) (other_number : U → ℕ) (makes : ℕ → V → Type 0) (space : Space) (a : TreeNode T) (b : TreeNode U) (r : TreeNode V) where
-  pub first_greater : IsAtLeast number other_number a b → IsFillOf (λ x y z. makes (max x (number y)) z) space 0 a r → IsJoinOf (λ x y z. makes (max (number x) (other_number y)) z) space a b r
+module _ {T U V : Type 0} (number : T → ℕ) (other_number : U → ℕ) (makes : ℕ → V → Type 0) (space : Space)
+    (a : TreeNode T) (b : TreeNode U) (r : TreeNode V) where
+  pub first_greater : IsAtLeast number other_number a b → IsFillOf (λ x y z. makes (max x (number y)) z) space 0 a r →
+      IsJoinOf (λ x y z. makes (max (number x) (other_number y)) z) space a b r
   first_greater least made = made_weaker (IsInSpace space) _ _ _ _ _ _ r made
-      (λ s z d e. subst (λ (n : ℕ). makes n z) (omega (arith, least s s)) e) (λ s u d. omega arith) (λ k s u d. omega arith)
+      (λ s z d e. subst (λ (n : ℕ). makes n z) (omega (arith, least s s)) e) (λ s u d. omega arith)
+      (λ k s u d. omega arith)
 
-  pub second_greater : IsAtLeast other_number number b a → IsFillOf (λ x y z. makes (max x (other_number y)) z) space 0 b r → IsJoinOf (λ x y z. makes (max (number x) (other_number y)) z) space a b r
+  pub second_greater : IsAtLeast other_number number b a →
+      IsFillOf (λ x y z. makes (max x (other_number y)) z) space 0 b r →
+      IsJoinOf (λ x y z. makes (max (number x) (other_number y)) z) space a b r
   second_greater least made = made_weaker (IsInSpace space) _ _ _ _ _ _ r made
-      (λ s z d e. subst (λ (n : ℕ). makes n z) (omega (arith, least s s)) e) (λ s u d. omega arith) (λ k s u d. omega arith)
+      (λ s z d e. subst (λ (n : ℕ). makes n z) (omega (arith, least s s)) e) (λ s u d. omega arith)
+      (λ k s u d. omega arith)
 
   -- of one number and a tree
-  pub first_leaf : (x : T) (n : ℕ) → a ≡ Leaf x → n ≡ number x → IsFillOf (λ x y z. makes (max x (other_number y)) z) space n b r →
+  pub first_leaf : (x : T) (n : ℕ) → a ≡ Leaf x → n ≡ number x →
+      IsFillOf (λ x y z. makes (max x (other_number y)) z) space n b r →
       IsJoinOf (λ x y z. makes (max (number x) (other_number y)) z) space a b r
   first_leaf x n is at made = made_weaker (IsInSpace space) _ _ _ _ _ _ r made
-      (λ s z d e. subst (λ (m : ℕ). makes m z) (omega (arith, at, ap (λ (c : TreeNode T). number (value_at c s)) is)) e) (λ s u d. omega arith) (λ k s u d. omega arith)
+      (λ s z d e. subst (λ (m : ℕ). makes m z) (omega (arith, at, ap (λ (c : TreeNode T). number (value_at c s)) is)) e)
+      (λ s u d. omega arith) (λ k s u d. omega arith)

@@ -13,7 +13,8 @@ module _ (s : Scenario) (l : Literal) where
   below_low h = ap (λ b. b && nat_le (number_of s l.variable) l.high) (lt-leb l.low (number_of s l.variable) h)
 
   pub above_high : l.high < number_of s l.variable → holds s l ≡ false
-  above_high h = ap (λ b. nat_le l.low (number_of s l.variable) && b) (lt-leb (number_of s l.variable) l.high h) ∙ and-false (nat_le l.low (number_of s l.variable))
+  above_high h = ap (λ b. nat_le l.low (number_of s l.variable) && b) (lt-leb (number_of s l.variable) l.high h)
+      ∙ and-false (nat_le l.low (number_of s l.variable))
 
 -- a number on a side of the cut under a low
 pub under : (low n : ℕ) → (low ≡ 0 → ⊥) → n ≤ low - 1 → n < low

@@ -1,5 +1,6 @@
 -- What the answers of a function make of one tree or two, for the scenarios of a space.
-use Rattle.std.proofs.Common.{ℕ, ◌+◌, ◌<◌, ◌≤◌, ◌≡◌, List, [], ◌∷◌, ◌++◌, length, Bool, true, arith, refl, sym, ap, ◌∙◌, subst}
+use Rattle.std.proofs.Common.{ℕ, ◌+◌, ◌<◌, ◌≤◌, ◌≡◌, List, [], ◌∷◌, ◌++◌, length, Bool, true, arith, refl, sym, ap, ◌∙◌}
+use Rattle.std.proofs.Common.{subst}
 use Rattle.std.proofs.lemmas.List.{length-append}
 use Rattle.cpg_base.specs.Scenario.{Scenario, number_of}
 use Rattle.cpg_tree.specs.declared.space.Space.{Space}
@@ -10,12 +11,15 @@ use Rattle.cpg_tree.specs.declared.item.TreeItem.TheVariants.{Value, Cut}
 use Rattle.cpg_tree.specs.Decision.{IsFit, DoForksPass, value_at, low_at, high_at}
 use Rattle.cpg_tree.specs.Flat.{flat}
 use Rattle.cpg_tree.specs.Added.{AddsTree, ForksEnd, IsSplit, IsPartInSpace, IsPartList, IsFilled, IsJoined}
-use Rattle.cpg_tree.proofs.Forks.{one_above_of, one_below_of, one_fork_of, two_above_of, two_below_of, two_fork_of, two_leaf_of, join_whole, passes_parts}
+use Rattle.cpg_tree.proofs.Forks.{one_above_of, one_below_of, one_fork_of, two_above_of, two_below_of, two_fork_of}
+use Rattle.cpg_tree.proofs.Forks.{two_leaf_of, join_whole, passes_parts}
 use Rattle.cpg_tree.proofs.Flats.{flat-same}
 
 -- ---- two lists behind another are split there
 
-pub split_of : {T : Type 0} (start middle : ℕ) (old low high : List (TreeItem T)) (lo hi : TreeNode T) → low ≡ old ++ flat lo → high ≡ low ++ flat hi → start ≡ length old → middle ≡ length low →
+pub split_of : {T : Type 0} (start middle : ℕ) (old low high : List (TreeItem T)) (lo hi : TreeNode T) →
+    low ≡ old ++ flat lo → high ≡ low ++ flat hi → start ≡ length old →
+    middle ≡ length low →
     IsSplit start middle high old lo hi
 split_of {T} start middle old low high lo hi one two first second = record {
   is = two ∙ ap (λ (xs : List (TreeItem T)). xs ++ flat hi) one;
@@ -23,13 +27,16 @@ split_of {T} start middle old low high lo hi one two first second = record {
   second = second ∙ ap length one ∙ length-append old (flat lo);
 }
 
-module _ {T : Type 0} (space : Space) (v cut : ℕ) (x y n : TreeNode T) (items : List (TreeItem T)) (is : items ≡ flat (Fork v cut x y)) (are : items ≡ flat n) where
+module _ {T : Type 0} (space : Space) (v cut : ℕ) (x y n : TreeNode T) (items : List (TreeItem T))
+    (is : items ≡ flat (Fork v cut x y)) (are : items ≡ flat n) where
   pub fork_is : n ≡ Fork v cut x y
   fork_is = flat-same n (Fork v cut x y) (sym are ∙ is)
 
   -- ---- parts
 
-  pub part_above : (part : List (TreeItem T)) → ((s : Scenario) → IsInSpace space s → cut < number_of s v) → IsPartList space y part → IsPartList space n part
+  pub part_above : (part : List (TreeItem T)) → ((s : Scenario) → IsInSpace space s → cut < number_of s v) →
+      IsPartList space y part →
+      IsPartList space n part
   part_above part only p = (
     p.0,
     p.1,
@@ -39,7 +46,9 @@ module _ {T : Type 0} (space : Space) (v cut : ℕ) (x y n : TreeNode T) (items 
     },
   )
 
-  pub part_below : (part : List (TreeItem T)) → ((s : Scenario) → IsInSpace space s → number_of s v ≤ cut) → IsPartList space x part → IsPartList space n part
+  pub part_below : (part : List (TreeItem T)) → ((s : Scenario) → IsInSpace space s → number_of s v ≤ cut) →
+      IsPartList space x part →
+      IsPartList space n part
   part_below part only p = (
     p.0,
     p.1,
@@ -52,7 +61,9 @@ module _ {T : Type 0} (space : Space) (v cut : ℕ) (x y n : TreeNode T) (items 
   -- ---- a value and a tree
 
   module _ {A V : Type 0} (answers : A → T → V → Type 0) (a : A) (old new : List (TreeItem V)) where
-    pub fills_above : ((s : Scenario) → IsInSpace space s → cut < number_of s v) → AddsTree (IsFilled answers space a y) old new → AddsTree (IsFilled answers space a n) old new
+    pub fills_above : ((s : Scenario) → IsInSpace space s → cut < number_of s v) →
+        AddsTree (IsFilled answers space a y) old new →
+        AddsTree (IsFilled answers space a n) old new
     fills_above only p = (
       p.0,
       p.1,
@@ -63,7 +74,9 @@ module _ {T : Type 0} (space : Space) (v cut : ℕ) (x y n : TreeNode T) (items 
       },
     )
 
-    pub fills_below : ((s : Scenario) → IsInSpace space s → number_of s v ≤ cut) → AddsTree (IsFilled answers space a x) old new → AddsTree (IsFilled answers space a n) old new
+    pub fills_below : ((s : Scenario) → IsInSpace space s → number_of s v ≤ cut) →
+        AddsTree (IsFilled answers space a x) old new →
+        AddsTree (IsFilled answers space a n) old new
     fills_below only p = (
       p.0,
       p.1,
@@ -74,97 +87,126 @@ module _ {T : Type 0} (space : Space) (v cut : ℕ) (x y n : TreeNode T) (items 
       },
     )
 
-    module _ (shut upper : Space) (start middle : ℕ) (low high : List (TreeItem V)) (under : is_open_below space v cut ≡ true) (over : is_open_above space v cut ≡ true)
+    module _ (shut upper : Space) (start middle : ℕ) (low high : List (TreeItem V))
+        (under : is_open_below space v cut ≡ true) (over : is_open_above space v cut ≡ true)
         (shut_is : shut ≡ below_cut space v cut) (upper_is : upper ≡ above_cut space v cut)
-        (lies_shut : (s : Scenario) → IsInSpace space s → number_of s v ≤ cut → IsInSpace shut s) (lies_upper : (s : Scenario) → IsInSpace space s → cut < number_of s v → IsInSpace upper s)
+        (lies_shut : (s : Scenario) → IsInSpace space s → number_of s v ≤ cut → IsInSpace shut s)
+        (lies_upper : (s : Scenario) → IsInSpace space s → cut < number_of s v → IsInSpace upper s)
         (first : start ≡ length old) (second : middle ≡ length low)
         (forks : ForksEnd start middle v cut high new) where
-      pub fills_fork : AddsTree (IsFilled answers shut a x) old low → AddsTree (IsFilled answers upper a y) low high → AddsTree (IsFilled answers space a n) old new
+      pub fills_fork : AddsTree (IsFilled answers shut a x) old low → AddsTree (IsFilled answers upper a y) low high →
+          AddsTree (IsFilled answers space a n) old new
       fills_fork one two =
-          let fork = forks old one.0 two.0 (split_of start middle old low high one.0 two.0 one.1 two.1 first second) in (
+          let fork =
+          forks old one.0 two.0 (split_of start middle old low high one.0 two.0 one.1 two.1 first second) in (
             fork.0,
             fork.1,
             record {
-              made = one_fork_of (λ s y z. answers a y z) (IsInSpace space) v cut x y n fork_is fork.0 (IsInSpace shut) (IsInSpace upper) one.0 two.0 one.2.made two.2.made fork.2.made lies_shut
+              made = one_fork_of (λ s y z. answers a y z) (IsInSpace space) v cut x y n fork_is fork.0 (IsInSpace shut)
+                  (IsInSpace upper) one.0 two.0 one.2.made two.2.made fork.2.made lies_shut
                   lies_upper;
-              fit = fork.2.fit space under over (subst (λ r. IsFit r one.0) shut_is one.2.fit) (subst (λ r. IsFit r two.0) upper_is two.2.fit);
-              pass = λ test pass. let parts = passes_parts test v cut x y n fork_is pass in fork.2.pass test parts.0 (one.2.pass test parts.1) (two.2.pass test parts.2);
+              fit = fork.2.fit space under over (subst (λ r. IsFit r one.0) shut_is one.2.fit)
+                  (subst (λ r. IsFit r two.0) upper_is two.2.fit);
+              pass = λ test pass. let parts = passes_parts test v cut x y n fork_is pass in
+                  fork.2.pass test parts.0 (one.2.pass test parts.1) (two.2.pass test parts.2);
             },
           )
 
   -- ---- two trees
 
   module _ {U V : Type 0} (answers : T → U → V → Type 0) (m : TreeNode U) (old new : List (TreeItem V)) where
-    pub joins_above : ((s : Scenario) → IsInSpace space s → cut < number_of s v) → AddsTree (IsJoined answers space y m) old new → AddsTree (IsJoined answers space n m) old new
+    pub joins_above : ((s : Scenario) → IsInSpace space s → cut < number_of s v) →
+        AddsTree (IsJoined answers space y m) old new →
+        AddsTree (IsJoined answers space n m) old new
     joins_above only p = (
       p.0,
       p.1,
       record {
-        made = two_above_of (λ s x z. answers x (value_at m s) z) (λ s x u. low_at m s u) (λ k s x u. high_at k m s u) (IsInSpace space) v cut x y n fork_is p.0 p.2.made only;
+        made = two_above_of (λ s x z. answers x (value_at m s) z) (λ s x u. low_at m s u) (λ k s x u. high_at k m s u)
+            (IsInSpace space) v cut x y n fork_is p.0 p.2.made only;
         fit = p.2.fit;
         pass = λ test pass other. p.2.pass test (passes_parts test v cut x y n fork_is pass).2 other;
       },
     )
 
-    pub joins_below : ((s : Scenario) → IsInSpace space s → number_of s v ≤ cut) → AddsTree (IsJoined answers space x m) old new → AddsTree (IsJoined answers space n m) old new
+    pub joins_below : ((s : Scenario) → IsInSpace space s → number_of s v ≤ cut) →
+        AddsTree (IsJoined answers space x m) old new →
+        AddsTree (IsJoined answers space n m) old new
     joins_below only p = (
       p.0,
       p.1,
       record {
-        made = two_below_of (λ s x z. answers x (value_at m s) z) (λ s x u. low_at m s u) (λ k s x u. high_at k m s u) (IsInSpace space) v cut x y n fork_is p.0 p.2.made only;
+        made = two_below_of (λ s x z. answers x (value_at m s) z) (λ s x u. low_at m s u) (λ k s x u. high_at k m s u)
+            (IsInSpace space) v cut x y n fork_is p.0 p.2.made only;
         fit = p.2.fit;
         pass = λ test pass other. p.2.pass test (passes_parts test v cut x y n fork_is pass).1 other;
       },
     )
 
-    module _ (shut upper : Space) (start middle : ℕ) (low high : List (TreeItem V)) (under : is_open_below space v cut ≡ true) (over : is_open_above space v cut ≡ true)
+    module _ (shut upper : Space) (start middle : ℕ) (low high : List (TreeItem V))
+        (under : is_open_below space v cut ≡ true) (over : is_open_above space v cut ≡ true)
         (shut_is : shut ≡ below_cut space v cut) (upper_is : upper ≡ above_cut space v cut)
-        (lies_shut : (s : Scenario) → IsInSpace space s → number_of s v ≤ cut → IsInSpace shut s) (lies_upper : (s : Scenario) → IsInSpace space s → cut < number_of s v → IsInSpace upper s)
+        (lies_shut : (s : Scenario) → IsInSpace space s → number_of s v ≤ cut → IsInSpace shut s)
+        (lies_upper : (s : Scenario) → IsInSpace space s → cut < number_of s v → IsInSpace upper s)
         (first : start ≡ length old) (second : middle ≡ length low)
         (forks : ForksEnd start middle v cut high new) where
-      pub joins_fork : AddsTree (IsJoined answers shut x m) old low → AddsTree (IsJoined answers upper y m) low high → AddsTree (IsJoined answers space n m) old new
+      pub joins_fork : AddsTree (IsJoined answers shut x m) old low → AddsTree (IsJoined answers upper y m) low high →
+          AddsTree (IsJoined answers space n m) old new
       joins_fork one two =
-          let fork = forks old one.0 two.0 (split_of start middle old low high one.0 two.0 one.1 two.1 first second) in (
+          let fork =
+          forks old one.0 two.0 (split_of start middle old low high one.0 two.0 one.1 two.1 first second) in (
             fork.0,
             fork.1,
             record {
-              made = two_fork_of (λ s x z. answers x (value_at m s) z) (λ s x u. low_at m s u) (λ k s x u. high_at k m s u) (IsInSpace space) v cut x y n fork_is fork.0 (IsInSpace shut)
+              made = two_fork_of (λ s x z. answers x (value_at m s) z) (λ s x u. low_at m s u)
+                  (λ k s x u. high_at k m s u) (IsInSpace space) v cut x y n fork_is fork.0 (IsInSpace shut)
                   (IsInSpace upper) one.0 two.0 one.2.made two.2.made fork.2.made lies_shut lies_upper;
-              fit = fork.2.fit space under over (subst (λ r. IsFit r one.0) shut_is one.2.fit) (subst (λ r. IsFit r two.0) upper_is two.2.fit);
-              pass = λ test pass other. let parts = passes_parts test v cut x y n fork_is pass in fork.2.pass test parts.0 (one.2.pass test parts.1 other) (two.2.pass test parts.2 other);
+              fit = fork.2.fit space under over (subst (λ r. IsFit r one.0) shut_is one.2.fit)
+                  (subst (λ r. IsFit r two.0) upper_is two.2.fit);
+              pass = λ test pass other. let parts = passes_parts test v cut x y n fork_is pass in
+                  fork.2.pass test parts.0 (one.2.pass test parts.1 other) (two.2.pass test parts.2 other);
             },
           )
 
 -- a value's answer
-filled_leaf : {A T V : Type 0} (answers : A → T → V → Type 0) (space : Space) (a : A) (x : T) (z : V) → answers a x z → IsFilled answers space a (Leaf x) (Leaf z)
+filled_leaf : {A T V : Type 0} (answers : A → T → V → Type 0) (space : Space) (a : A) (x : T) (z : V) → answers a x z →
+    IsFilled answers space a (Leaf x) (Leaf z)
 filled_leaf answers space a x z is = record {
   made = record { value = λ s d. is; lows = λ s v d. omega arith; highs = λ k s v d. omega arith };
   fit = tt;
   pass = λ test pass. pass;
 }
 
-pub fills_leaf : {A T V : Type 0} (answers : A → T → V → Type 0) (space : Space) (a : A) (x : T) (z : V) (n : TreeNode T) (items : List (TreeItem T)) (old new : List
+pub fills_leaf : {A T V : Type 0} (answers : A → T → V → Type 0) (space : Space) (a : A) (x : T) (z : V)
+    (n : TreeNode T) (items : List (TreeItem T)) (old new : List
     (TreeItem V)) → answers a x z → items ≡ flat (Leaf x) → items ≡ flat n →
     new ≡ old ++ (Value z ∷ []) → AddsTree (IsFilled answers space a n) old new
-fills_leaf answers space a x z n items old new is leaf are added =
-    (Leaf z, added, subst (λ m. IsFilled answers space a m (Leaf z)) (flat-same (Leaf x) n (sym leaf ∙ are)) (filled_leaf answers space a x z is))
+fills_leaf answers space a x z n items old new is leaf are added = (
+  Leaf z,
+  added,
+  subst (λ m. IsFilled answers space a m (Leaf z)) (flat-same (Leaf x) n (sym leaf ∙ are))
+      (filled_leaf answers space a x z is),
+)
 
 -- a value joined with a tree
-pub joins_leaf : {T U V : Type 0} (answers : T → U → V → Type 0) (space : Space) (x : T) (n : TreeNode T) (m : TreeNode U) (items : List (TreeItem T)) (old new : List (TreeItem V)) → items ≡ flat
+pub joins_leaf : {T U V : Type 0} (answers : T → U → V → Type 0) (space : Space) (x : T) (n : TreeNode T)
+    (m : TreeNode U) (items : List (TreeItem T)) (old new : List (TreeItem V)) → items ≡ flat
     (Leaf x) → items ≡ flat n →
     AddsTree (IsFilled answers space x m) old new → AddsTree (IsJoined answers space n m) old new
 joins_leaf answers space x n m items old new leaf are p = (
   p.0,
   p.1,
   record {
-    made = two_leaf_of (λ s x z. answers x (value_at m s) z) (λ s x v. low_at m s v) (λ k s x v. high_at k m s v) (IsInSpace space) x n (flat-same n (Leaf x) (sym are ∙ leaf)) p.0 p.2.made;
+    made = two_leaf_of (λ s x z. answers x (value_at m s) z) (λ s x v. low_at m s v) (λ k s x v. high_at k m s v)
+        (IsInSpace space) x n (flat-same n (Leaf x) (sym are ∙ leaf)) p.0 p.2.made;
     fit = p.2.fit;
     pass = λ test pass other. p.2.pass test other;
   },
 )
 
 -- what is joined with a part is joined with the whole
-pub joins_whole : {T U V : Type 0} (answers : T → U → V → Type 0) (space : Space) (n : TreeNode T) (m part : TreeNode U) (old new : List (TreeItem V)) → IsPartInSpace space m part → AddsTree
+pub joins_whole : {T U V : Type 0} (answers : T → U → V → Type 0) (space : Space) (n : TreeNode T) (m part : TreeNode U)
+    (old new : List (TreeItem V)) → IsPartInSpace space m part → AddsTree
     (IsJoined answers space n part) old new → AddsTree (IsJoined answers space n m) old new
 joins_whole answers space n m part old new is p = (
   p.0,

@@ -1,5 +1,6 @@
 -- A list from which items are taken out, one place at a time.
-use Rattle.std.proofs.Common.{ℕ, ◌+◌, ◌-◌, ◌<◌, ◌≤◌, ◌≡◌, List, ◌++◌, length, take, drop, get_or, arith, refl, sym, ap, ◌∙◌, subst}
+use Rattle.std.proofs.Common.{ℕ, ◌+◌, ◌-◌, ◌<◌, ◌≤◌, ◌≡◌, List, ◌++◌, length, take, drop, get_or, arith, refl, sym, ap}
+use Rattle.std.proofs.Common.{◌∙◌, subst}
 use Rattle.std.specs.Prelude.{slice_set, slice_index_or}
 use Rattle.std.proofs.lemmas.List.{get_or-drop, length-drop, take_all}
 use Rattle.std.proofs.Math.Seq.{paste, paste-zero}
@@ -16,36 +17,45 @@ module _ {A : Type 0} (old : List A) (from count : ℕ) where
     same_place : from + j + count ≡ from + count + j
     same_place = omega arith
 
-    reads : slice_index_or (paste old from (drop (from + count) old) j) (from + j + count) x ≡ get_or (drop (from + count) old) j x
+    reads : slice_index_or (paste old from (drop (from + count) old) j) (from + j + count) x
+        ≡ get_or (drop (from + count) old) j x
     reads =
         sym (get_or-drop (from + j) (paste old from (drop (from + count) old) j) count x)
-        ∙ ap (λ (xs : List A). get_or xs count x) (drop-paste old from (drop (from + count) old) j (omega (arith, there)) (omega (arith, rest_long)))
+        ∙ ap (λ (xs : List A). get_or xs count x)
+        (drop-paste old from (drop (from + count) old) j (omega (arith, there)) (omega (arith, rest_long)))
         ∙ get_or-drop (from + j) old count x
         ∙ ap (λ n. get_or old n x) same_place
         ∙ sym (get_or-drop (from + count) old j x)
 
-    turn : x ≡ slice_index_or (paste old from (drop (from + count) old) j) (from + j + count) x → slice_set (paste old from (drop (from + count) old) j) (from + j) x ≡ paste old from (drop
+    turn : x ≡ slice_index_or (paste old from (drop (from + count) old) j) (from + j + count) x →
+        slice_set (paste old from (drop (from + count) old) j) (from + j) x ≡ paste old from (drop
         (from + count) old) (j + 1)
-    turn value = ap (λ y. slice_set (paste old from (drop (from + count) old) j) (from + j) y) (value ∙ reads) ∙ paste_more old from (drop (from + count) old) j x (omega (arith, there)) rest_long
+    turn value = ap (λ y. slice_set (paste old from (drop (from + count) old) j) (from + j) y) (value ∙ reads)
+        ∙ paste_more old from (drop (from + count) old) j x (omega (arith, there)) rest_long
 
   -- one more item is moved
-  pub moved_on : (now : List A) (i : ℕ) (x : A) → from ≤ i → i + count < length old → now ≡ moved i → x ≡ slice_index_or now (i + count) x → slice_set now i x ≡ moved (i + 1)
+  pub moved_on : (now : List A) (i : ℕ) (x : A) → from ≤ i → i + count < length old → now ≡ moved i →
+      x ≡ slice_index_or now (i + count) x →
+      slice_set now i x ≡ moved (i + 1)
   moved_on now i x after there is value =
       let at : from + (i - from) ≡ i = omega (arith, after) in
       let more : i - from + 1 ≡ i + 1 - from = omega (arith, after) in
       ap (λ (xs : List A). slice_set xs i x) is ∙ ap (λ n. slice_set (moved i) n x) (sym at)
-      ∙ turn (i - from) x (omega (arith, at, there)) (value ∙ ap (λ (xs : List A). slice_index_or xs (i + count) x) is ∙ ap (λ n. slice_index_or (moved i) (n + count) x) (sym at))
+      ∙ turn (i - from) x (omega (arith, at, there)) (value ∙ ap (λ (xs : List A). slice_index_or xs (i + count) x) is
+      ∙ ap (λ n. slice_index_or (moved i) (n + count) x) (sym at))
       ∙ ap (λ n. paste old from (drop (from + count) old) n) more
 
   -- and when all are, the rest is cut off
-  pub moved_all : (left : ℕ) → left + count ≡ length old → from ≤ left → take left (moved left) ≡ take from old ++ drop (from + count) old
+  pub moved_all : (left : ℕ) → left + count ≡ length old → from ≤ left →
+      take left (moved left) ≡ take from old ++ drop (from + count) old
   moved_all left all after =
       let s : List A = drop (from + count) old in
       let long : length s ≡ left - from = omega (arith, length-drop (from + count) old, all, after) in
       let at : from + (left - from) ≡ left = omega (arith, after) in
       ap (λ n. take n (moved left)) (sym at)
       ∙ take-paste old from s (left - from) (omega (arith, all, after)) (omega (arith, long))
-      ∙ ap (λ n. take from old ++ take n s) (sym long) ∙ ap (λ (xs : List A). take from old ++ xs) (take_all (length s) s (omega arith))
+      ∙ ap (λ n. take from old ++ take n s) (sym long)
+      ∙ ap (λ (xs : List A). take from old ++ xs) (take_all (length s) s (omega arith))
 
   pub moved_none : old ≡ moved from
   moved_none =

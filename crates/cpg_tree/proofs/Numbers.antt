@@ -1,5 +1,6 @@
 -- Trees of the number of one variable.
-use Rattle.std.proofs.Common.{ℕ, ◌+◌, ◌-◌, ◌<◌, ◌≤◌, ◌≡◌, Bool, true, false, nat_lt, get_or, arith, refl, ap, ◌∙◌, inl, inr, lt-ltb, le-ltb, cond, map, replicate, rules}
+use Rattle.std.proofs.Common.{ℕ, ◌+◌, ◌-◌, ◌<◌, ◌≤◌, ◌≡◌, Bool, true, false, nat_lt, get_or, arith, refl, ap, ◌∙◌, inl}
+use Rattle.std.proofs.Common.{inr, lt-ltb, le-ltb, cond, map, replicate, rules}
 use Rattle.std.specs.Prelude.{nat_le}
 use Rattle.std.proofs.lemmas.Bool.{cases_lt, cond-true, cond-false, le-leb, and_from, or_left, or_right}
 use Rattle.std.proofs.lemmas.List.{get_or-set_same, get_or-replicate}
@@ -20,7 +21,8 @@ use Rattle.cpg_tree.proofs.Spaces.{number_le_top}
 pub leaf_only : {T : Type 0} (v : ℕ) (x : T) → ForksOnly v (Leaf x)
 leaf_only v x = record { low = λ s u n. omega arith; high = λ k s u n. omega arith }
 
-fork_only : {T : Type 0} (v cut : ℕ) (below above r : TreeNode T) → ForksOnly v below → ForksOnly v above → IsForkOf v cut below above r → ForksOnly v r
+fork_only : {T : Type 0} (v cut : ℕ) (below above r : TreeNode T) → ForksOnly v below → ForksOnly v above →
+    IsForkOf v cut below above r → ForksOnly v r
 fork_only v cut below above r one two fork = record {
   low = λ s u n. elim (cases_lt cut (number_of s v)) [
     | inl gt ↦ omega (arith, fork.low_above s u gt n, two.low s u n)
@@ -35,7 +37,9 @@ fork_only v cut below above r one two fork = record {
 pub last_count : (p k : ℕ) → AreCountsFrom p k k (Leaf k)
 last_count p k = record { value = λ s low high. omega (arith, low, high); only = leaf_only p k }
 
-pub more_counts : (p first k : ℕ) (above r : TreeNode ℕ) → AreCountsFrom p (first + 1) k above → IsForkOf p first (Leaf first) above r → AreCountsFrom p first k r
+pub more_counts : (p first k : ℕ) (above r : TreeNode ℕ) → AreCountsFrom p (first + 1) k above →
+    IsForkOf p first (Leaf first) above r →
+    AreCountsFrom p first k r
 more_counts p first k above r rest fork = record {
   value = λ s low high. elim (cases_lt first (number_of s p)) [
     | inl gt ↦ fork.value_above s gt ∙ rest.value s (omega (arith, gt)) high
@@ -44,24 +48,37 @@ more_counts p first k above r rest fork = record {
   only = fork_only p first (Leaf first) above r (leaf_only p first) rest.only fork;
 }
 
-module _ (space : Space) (p first k : ℕ) (count : p < 128) (leaves : LeavesCounts space p first k) (less : first < k) where
+module _ (space : Space) (p first k : ℕ) (count : p < 128) (leaves : LeavesCounts space p first k)
+    (less : first < k) where
   pub counts_open_below : is_open_below space p first ≡ true
   counts_open_below = le-leb (get_or space.low p 0) first (omega (arith, leaves.low))
 
   pub counts_open_above : is_open_above space p first ≡ true
   counts_open_above = and_from _ _ (lt-ltb first (get_or space.high p 0) (omega (arith, leaves.high, less)))
-      (or_right (nat_le 128 p) _ (lt-ltb first (get_or space.low p 0 + space.left) (omega (arith, leaves.low, leaves.left, less))))
+      (or_right (nat_le 128 p) _
+      (lt-ltb first (get_or space.low p 0 + space.left) (omega (arith, leaves.low, leaves.left, less))))
 
   pub counts_above : LeavesCounts (above_cut space p first) p (first + 1) k
   counts_above = record {
     long = search rules;
     low = get_or-set_same space.low p (first + 1) 0 (omega (arith, leaves.long, count));
     high = leaves.high;
-    left = omega (arith, leaves.left, less, leaves.low, cond-true (nat_lt p 128) (first + 1 - get_or space.low p 0) 0 (lt-ltb p 128 count));
+    left = omega (
+      arith,
+      leaves.left,
+      less,
+      leaves.low,
+      cond-true (nat_lt p 128) (first + 1 - get_or space.low p 0) 0 (lt-ltb p 128 count),
+    );
   }
 
 pub whole_counts : (k : ℕ) (space : Space) (p : ℕ) → p < 128 → IsWhole k space → LeavesCounts space p 0 k
-whole_counts k space p count whole = record { long = whole.long; low = whole.lows p (omega (arith, count)); high = whole.counts p count; left = omega (arith, whole.left) }
+whole_counts k space p count whole = record {
+  long = whole.long;
+  low = whole.lows p (omega (arith, count));
+  high = whole.counts p count;
+  left = omega (arith, whole.left);
+}
 
 -- ---- values
 
@@ -79,11 +96,14 @@ module _ (k : ℕ) (space : Space) (whole : IsWhole k space) (v : ℕ) (value : 
   value_open_below = le-leb (get_or space.low v 0) 0 (omega (arith, whole.lows v there))
 
   pub value_open_above : is_open_above space v 0 ≡ true
-  value_open_above = and_from _ _ (lt-ltb 0 (get_or space.high v 0) (omega (arith, whole.values v value there))) (or_left (nat_le 128 v) _ (le-leb 128 v value))
+  value_open_above = and_from _ _ (lt-ltb 0 (get_or space.high v 0) (omega (arith, whole.values v value there)))
+      (or_left (nat_le 128 v) _ (le-leb 128 v value))
 
 -- ---- said of paths
 
-pub number_paths : {T : Type 0} (v k : ℕ) (number : T → ℕ) (node : TreeNode T) → IsGood k node → ((s : Scenario) → HasAtMostFaults k s → number (value_at node s) ≡ number_of s v) → ForksOnly v node →
+pub number_paths : {T : Type 0} (v k : ℕ) (number : T → ℕ) (node : TreeNode T) → IsGood k node →
+    ((s : Scenario) → HasAtMostFaults k s → number (value_at node s) ≡ number_of s v) →
+    ForksOnly v node →
     IsNumber v k number (state k node)
 number_paths v k number node good value only = record {
   faults = refl;

@@ -1,5 +1,6 @@
 -- The one path of a scenario of a graph.
-use Rattle.std.proofs.Common.{ℕ, zero, suc, ◌+◌, ◌≤◌, ◌≡◌, ◌∙◌, List, [], ◌∷◌, length, filter, get_or, sum, sum_by, All, Contains, arith, refl, sym, subst, inl, inr}
+use Rattle.std.proofs.Common.{ℕ, zero, suc, ◌+◌, ◌≤◌, ◌≡◌, ◌∙◌, List, [], ◌∷◌, length, filter, get_or, sum, sum_by, All}
+use Rattle.std.proofs.Common.{Contains, arith, refl, sym, subst, inl, inr}
 use Rattle.std.proofs.lemmas.Grind.{common_steps}
 use Rattle.std.proofs.lemmas.List.Elements.{All-contains}
 use Rattle.std.proofs.lemmas.List.Sums.{sum_by-cons}
@@ -36,7 +37,9 @@ first_of_one : {X : Type 0} (xs : List X) → length xs ≡ 1 → (x : X) × Con
 first_of_one [] e = absurd (omega (arith, e))
 first_of_one (x ∷ xs) e = (x, Contains-first x xs)
 
-pub the_path : {T : Type 0} (k : ℕ) (paths : List (Path T)) → HasOnePathEach k paths → (s : Scenario) → HasAtMostFaults k s → (x : Path T) × IsOnPath paths s x
+pub the_path : {T : Type 0} (k : ℕ) (paths : List (Path T)) → HasOnePathEach k paths → (s : Scenario) →
+    HasAtMostFaults k s →
+    (x : Path T) × IsOnPath paths s x
 the_path k paths each s few =
     let f = first_of_one (filter (is_on s) paths) (each s few) in
     let parts = Contains-filter_parts (is_on s) paths f.0 f.1 in
@@ -53,16 +56,22 @@ same_of_one [] e x y a b = absurd (Contains-nil x a)
 same_of_one (z ∷ []) e x y a b = sym (the_only z x a) ∙ the_only z y b
 same_of_one (z ∷ w ∷ zs) e x y a b = absurd (omega (arith, e))
 
-pub same_path : {T : Type 0} (k : ℕ) (paths : List (Path T)) → HasOnePathEach k paths → (s : Scenario) → HasAtMostFaults k s → (x y : Path T) → IsOnPath paths s x → IsOnPath paths s y → x ≡ y
+pub same_path : {T : Type 0} (k : ℕ) (paths : List (Path T)) → HasOnePathEach k paths → (s : Scenario) →
+    HasAtMostFaults k s → (x y : Path T) → IsOnPath paths s x → IsOnPath paths s y → x ≡ y
 same_path k paths each s few x y on_x on_y =
-    same_of_one (filter (is_on s) paths) (each s few) x y (Contains-filter (is_on s) paths x on_x.matched on_x.stands) (Contains-filter (is_on s) paths y on_y.matched on_y.stands)
+    same_of_one (filter (is_on s) paths) (each s few) x y (Contains-filter (is_on s) paths x on_x.matched on_x.stands)
+    (Contains-filter (is_on s) paths y on_y.matched on_y.stands)
 
 -- a tree whose values are answers to themselves
-pub own_map : {T : Type 0} (answers : T → T → Type 0) (t : TreeState T) → HasOnePathEach t.faults t.paths → All (λ (p : Path T). answers p.1 p.1) t.paths → IsMap answers t t
+pub own_map : {T : Type 0} (answers : T → T → Type 0) (t : TreeState T) → HasOnePathEach t.faults t.paths →
+    All (λ (p : Path T). answers p.1 p.1) t.paths →
+    IsMap answers t t
 own_map {T} answers t each own = record {
   faults = refl;
   value = λ s x z few on_x on_z.
-      subst (λ (y : Path T). answers x.1 y.1) (same_path t.faults t.paths each s few x z on_x on_z) (All-contains (λ (p : Path T). answers p.1 p.1) t.paths x own on_x.stands);
+      subst (λ (y : Path T). answers x.1 y.1) (same_path t.faults t.paths each s few x z on_x on_z)
+      (All-contains (λ (p : Path T). answers p.1 p.1) t.paths x own on_x.stands);
   ranges = λ s x z few on_x on_z.
-      subst (λ (y : Path T). IsAsWide t.faults y.0 x.0) (same_path t.faults t.paths each s few x z on_x on_z) (record { low = λ v. omega arith; high = λ v. omega arith });
+      subst (λ (y : Path T). IsAsWide t.faults y.0 x.0) (same_path t.faults t.paths each s few x z on_x on_z)
+      (record { low = λ v. omega arith; high = λ v. omega arith });
 }

@@ -1,5 +1,6 @@
 -- Spaces that some scenario lies in, and cubes that say no more than a space.
-use Rattle.std.proofs.Common.{ℕ, ◌+◌, ◌-◌, ◌<◌, ◌≤◌, ◌≡◌, ◌≢◌, true, nat_lt, List, [], get_or, sum_by, length, arith, sym, ap, ◌∙◌, subst, inl, inr, ◌⊎◌, lt-ltb, le-ltb}
+use Rattle.std.proofs.Common.{ℕ, ◌+◌, ◌-◌, ◌<◌, ◌≤◌, ◌≡◌, ◌≢◌, true, nat_lt, List, [], get_or, sum_by, length, arith}
+use Rattle.std.proofs.Common.{sym, ap, ◌∙◌, subst, inl, inr, ◌⊎◌, lt-ltb, le-ltb}
 use Rattle.std.specs.Prelude.{nat_le, slice_set}
 use Rattle.std.proofs.lemmas.Bool.{cases_lt, cases_eq, cond-true, cond-false, and_parts, or_cases, leb-true, ltb-true}
 use Rattle.std.proofs.lemmas.List.{get_or-set_same, get_or-set_other, length-set}
@@ -30,10 +31,13 @@ pub record CoversSpace (k : ℕ) (space : Space) (cube : List Literal) : Type 0 
   pub high : (v : ℕ) → v < 256 → get_or space.high v 0 ≤ high_in k cube v
   pub within : (v : ℕ) → high_in k cube v ≤ top k v
 
-more_asked : (new old low cut left k : ℕ) → new + low ≡ old + (cut + 1) → old + left ≤ k → low ≤ cut → cut < low + left → new + (left - (cut + 1 - low)) ≤ k
+more_asked : (new old low cut left k : ℕ) → new + low ≡ old + (cut + 1) → old + left ≤ k → low ≤ cut →
+    cut < low + left →
+    new + (left - (cut + 1 - low)) ≤ k
 more_asked new old low cut left k changed most below allows = omega arith
 
-module _ (k : ℕ) (space : Space) (is : IsOpenSpace k space) (v cut : ℕ) (there : v < 256) (below : is_open_below space v cut ≡ true) (upper : is_open_above space v cut ≡ true) where
+module _ (k : ℕ) (space : Space) (is : IsOpenSpace k space) (v cut : ℕ) (there : v < 256)
+    (below : is_open_below space v cut ≡ true) (upper : is_open_above space v cut ≡ true) where
   pub low_at_most : get_or space.low v 0 ≤ cut
   low_at_most = leb-true (get_or space.low v 0) cut below
 
@@ -43,12 +47,24 @@ module _ (k : ℕ) (space : Space) (is : IsOpenSpace k space) (v cut : ℕ) (the
   pub cut_under : cut < top k v
   cut_under = omega (arith, cut_less, is.tops v there)
 
-  set_high : (u : ℕ) → (u ≡ v) ⊎ (u ≢ v) → ((u ≡ v) × (get_or (slice_set space.high v cut) u 0 ≡ cut)) ⊎ (get_or (slice_set space.high v cut) u 0 ≡ get_or space.high u 0)
-  set_high u (inl e) = inl (e, subst (λ w. get_or (slice_set space.high v cut) w 0 ≡ cut) (sym e) (get_or-set_same space.high v cut 0 (omega (arith, is.highs, there))))
+  set_high : (u : ℕ) → (u ≡ v) ⊎ (u ≢ v) →
+      ((u ≡ v) × (get_or (slice_set space.high v cut) u 0 ≡ cut)) ⊎
+      (get_or (slice_set space.high v cut) u 0 ≡ get_or space.high u 0)
+  set_high u (inl e) = inl (
+    e,
+    subst (λ w. get_or (slice_set space.high v cut) w 0 ≡ cut) (sym e)
+        (get_or-set_same space.high v cut 0 (omega (arith, is.highs, there))),
+  )
   set_high u (inr n) = inr (get_or-set_other space.high v u cut 0 n)
 
-  set_low : (u : ℕ) → (u ≡ v) ⊎ (u ≢ v) → ((u ≡ v) × (get_or (slice_set space.low v (cut + 1)) u 0 ≡ cut + 1)) ⊎ (get_or (slice_set space.low v (cut + 1)) u 0 ≡ get_or space.low u 0)
-  set_low u (inl e) = inl (e, subst (λ w. get_or (slice_set space.low v (cut + 1)) w 0 ≡ cut + 1) (sym e) (get_or-set_same space.low v (cut + 1) 0 (omega (arith, is.lows, there))))
+  set_low : (u : ℕ) → (u ≡ v) ⊎ (u ≢ v) →
+      ((u ≡ v) × (get_or (slice_set space.low v (cut + 1)) u 0 ≡ cut + 1)) ⊎
+      (get_or (slice_set space.low v (cut + 1)) u 0 ≡ get_or space.low u 0)
+  set_low u (inl e) = inl (
+    e,
+    subst (λ w. get_or (slice_set space.low v (cut + 1)) w 0 ≡ cut + 1) (sym e)
+        (get_or-set_same space.low v (cut + 1) 0 (omega (arith, is.lows, there))),
+  )
   set_low u (inr n) = inr (get_or-set_other space.low v u (cut + 1) 0 n)
 
   pub opens_below : IsOpenSpace k (below_cut space v cut)
@@ -67,10 +83,11 @@ module _ (k : ℕ) (space : Space) (is : IsOpenSpace k space) (v cut : ℕ) (the
   }
 
   allows : v < 128 → cut < get_or space.low v 0 + space.left
-  allows l = elim (or_cases (nat_le 128 v) (nat_lt cut (get_or space.low v 0 + space.left)) (and_parts (nat_lt cut (get_or space.high v 0)) _ upper).1) [
-    | inl h ↦ absurd (omega (arith, leb-true 128 v h, l))
-    | inr h ↦ ltb-true cut (get_or space.low v 0 + space.left) h
-  ]
+  allows l = elim (or_cases (nat_le 128 v) (nat_lt cut (get_or space.low v 0 + space.left))
+      (and_parts (nat_lt cut (get_or space.high v 0)) _ upper).1) [
+        | inl h ↦ absurd (omega (arith, leb-true 128 v h, l))
+        | inr h ↦ ltb-true cut (get_or space.low v 0 + space.left) h
+      ]
 
   pub opens_above : IsOpenSpace k (above_cut space v cut)
   opens_above = record {
@@ -83,15 +100,20 @@ module _ (k : ℕ) (space : Space) (is : IsOpenSpace k space) (v cut : ℕ) (the
     tops = is.tops;
     budget = elim (cases_lt v 128) [
       | inl l ↦
-          let changed = sum_changed (λ p. get_or (slice_set space.low v (cut + 1)) p 0) (λ p. get_or space.low p 0) 128 v l (λ u n. get_or-set_other space.low v u (cut + 1) 0 n) in
-          let here = ap (λ m. sum_by (λ p. get_or space.low p 0) (numbers_below 128) + m) (get_or-set_same space.low v (cut + 1) 0 (omega (arith, is.lows, there))) in
-          subst (λ n. sum_by (λ p. get_or (slice_set space.low v (cut + 1)) p 0) (numbers_below 128) + (space.left - n) ≤ k)
+          let changed = sum_changed (λ p. get_or (slice_set space.low v (cut + 1)) p 0)
+          (λ p. get_or space.low p 0) 128 v l (λ u n. get_or-set_other space.low v u (cut + 1) 0 n) in
+          let here = ap (λ m. sum_by (λ p. get_or space.low p 0) (numbers_below 128) + m)
+          (get_or-set_same space.low v (cut + 1) 0 (omega (arith, is.lows, there))) in
+          subst (λ n.
+          sum_by (λ p. get_or (slice_set space.low v (cut + 1)) p 0) (numbers_below 128) + (space.left - n) ≤ k)
           (sym (cond-true (nat_lt v 128) (cut + 1 - get_or space.low v 0) 0 (lt-ltb v 128 l)))
           (more_asked _ _ (get_or space.low v 0) cut space.left k (changed ∙ here) is.budget low_at_most (allows l))
       | inr l ↦
-          let same = same_sum_by (λ p. get_or (slice_set space.low v (cut + 1)) p 0) (λ p. get_or space.low p 0) (numbers_below 128)
+          let same = same_sum_by (λ p. get_or (slice_set space.low v (cut + 1)) p 0) (λ p. get_or space.low p 0)
+          (numbers_below 128)
           (λ u c. get_or-set_other space.low v u (cut + 1) 0 (λ e. omega (arith, numbers-Contains 128 u c, e, l))) in
-          subst (λ n. sum_by (λ p. get_or (slice_set space.low v (cut + 1)) p 0) (numbers_below 128) + (space.left - n) ≤ k)
+          subst (λ n.
+          sum_by (λ p. get_or (slice_set space.low v (cut + 1)) p 0) (numbers_below 128) + (space.left - n) ≤ k)
           (sym (cond-false (nat_lt v 128) (cut + 1 - get_or space.low v 0) 0 (le-ltb v 128 l)))
           (as_before _ _ space.left k same is.budget)
     ];
@@ -105,14 +127,23 @@ module _ (k : ℕ) (space : Space) (is : IsOpenSpace k space) (v cut : ℕ) (the
     covers_below = record {
       rising = rising-narrowed (up_to v cut) cube covers.rising;
       low = λ u l. elim (cases_eq v u) [
-        | inl e ↦ subst (λ w. low_in (narrowed_by (up_to v cut) cube) w ≤ get_or space.low w 0) e (omega (arith, low-same k (up_to v cut) cube covers.rising, covers.low v there))
+        | inl e ↦ subst (λ w. low_in (narrowed_by (up_to v cut) cube) w ≤ get_or space.low w 0) e
+            (omega (arith, low-same k (up_to v cut) cube covers.rising, covers.low v there))
         | inr n ↦ omega (arith, low-other k (up_to v cut) cube u n, covers.low u l)
       ];
       high = λ u l. elim (set_high u (cases_eq u v)) [
-        | inl c ↦ subst (λ w. get_or (slice_set space.high v cut) u 0 ≤ high_in k (narrowed_by (up_to v cut) cube) w) (sym c.0)
-            (omega (arith, c.1, high-same k (up_to v cut) cube covers.rising (omega (arith, cut_under)), covers.high v there, cut_less))
+        | inl c ↦ subst (λ w. get_or (slice_set space.high v cut) u 0 ≤ high_in k (narrowed_by (up_to v cut) cube) w)
+            (sym c.0)
+            (omega (
+              arith,
+              c.1,
+              high-same k (up_to v cut) cube covers.rising (omega (arith, cut_under)),
+              covers.high v there,
+              cut_less,
+            ))
         | inr e ↦ elim (cases_eq v u) [
-          | inl s ↦ subst (λ w. get_or (slice_set space.high v cut) w 0 ≤ high_in k (narrowed_by (up_to v cut) cube) w) s
+          | inl s ↦
+              subst (λ w. get_or (slice_set space.high v cut) w 0 ≤ high_in k (narrowed_by (up_to v cut) cube) w) s
               (omega (
                 arith,
                 get_or-set_same space.high v cut 0 (omega (arith, is.highs, there)),
@@ -124,7 +155,8 @@ module _ (k : ℕ) (space : Space) (is : IsOpenSpace k space) (v cut : ℕ) (the
         ]
       ];
       within = λ u. elim (cases_eq v u) [
-        | inl e ↦ subst (λ w. high_in k (narrowed_by (up_to v cut) cube) w ≤ top k w) e (omega (arith, high-same k (up_to v cut) cube covers.rising (omega (arith, cut_under)), cut_under))
+        | inl e ↦ subst (λ w. high_in k (narrowed_by (up_to v cut) cube) w ≤ top k w) e
+            (omega (arith, high-same k (up_to v cut) cube covers.rising (omega (arith, cut_under)), cut_under))
         | inr n ↦ omega (arith, high-other k (up_to v cut) cube u n, covers.within u)
       ];
     }
@@ -133,17 +165,35 @@ module _ (k : ℕ) (space : Space) (is : IsOpenSpace k space) (v cut : ℕ) (the
     covers_above = record {
       rising = rising-narrowed (above k v cut) cube covers.rising;
       low = λ u l. elim (cases_eq v u) [
-        | inl e ↦ subst (λ w. low_in (narrowed_by (above k v cut) cube) w ≤ get_or (slice_set space.low v (cut + 1)) w 0) e
-            (omega (arith, get_or-set_same space.low v (cut + 1) 0 (omega (arith, is.lows, there)), low-same k (above k v cut) cube covers.rising, covers.low v there, low_at_most))
-        | inr n ↦ omega (arith, get_or-set_other space.low v u (cut + 1) 0 (λ e. n (sym e)), low-other k (above k v cut) cube u n, covers.low u l)
+        | inl e ↦
+            subst (λ w. low_in (narrowed_by (above k v cut) cube) w ≤ get_or (slice_set space.low v (cut + 1)) w 0) e
+            (omega (
+              arith,
+              get_or-set_same space.low v (cut + 1) 0 (omega (arith, is.lows, there)),
+              low-same k (above k v cut) cube covers.rising,
+              covers.low v there,
+              low_at_most,
+            ))
+        | inr n ↦ omega (
+          arith,
+          get_or-set_other space.low v u (cut + 1) 0 (λ e. n (sym e)),
+          low-other k (above k v cut) cube u n,
+          covers.low u l,
+        )
       ];
       high = λ u l. elim (cases_eq v u) [
         | inl e ↦ subst (λ w. get_or space.high w 0 ≤ high_in k (narrowed_by (above k v cut) cube) w) e
-            (omega (arith, high-same k (above k v cut) cube covers.rising (omega arith), covers.high v there, is.tops v there))
+            (omega (
+              arith,
+              high-same k (above k v cut) cube covers.rising (omega arith),
+              covers.high v there,
+              is.tops v there,
+            ))
         | inr n ↦ omega (arith, high-other k (above k v cut) cube u n, covers.high u l)
       ];
       within = λ u. elim (cases_eq v u) [
-        | inl e ↦ subst (λ w. high_in k (narrowed_by (above k v cut) cube) w ≤ top k w) e (omega (arith, high-same k (above k v cut) cube covers.rising (omega arith)))
+        | inl e ↦ subst (λ w. high_in k (narrowed_by (above k v cut) cube) w ≤ top k w) e
+            (omega (arith, high-same k (above k v cut) cube covers.rising (omega arith)))
         | inr n ↦ omega (arith, high-other k (above k v cut) cube u n, covers.within u)
       ];
     }
@@ -159,7 +209,12 @@ whole_opens k space whole = record {
     | inl m ↦ omega (arith, whole.counts v m, cond-true (nat_lt v 128) k 1 (lt-ltb v 128 m))
     | inr m ↦ omega (arith, whole.values v m l, cond-false (nat_lt v 128) k 1 (le-ltb v 128 m))
   ];
-  budget = omega (arith, sum_by_zeros (λ p. get_or space.low p 0) (numbers_below 128) (λ p c. whole.lows p (omega (arith, numbers-Contains 128 p c))), whole.left);
+  budget = omega (
+    arith,
+    sum_by_zeros (λ p. get_or space.low p 0) (numbers_below 128)
+        (λ p c. whole.lows p (omega (arith, numbers-Contains 128 p c))),
+    whole.left,
+  );
 }
 
 pub whole_covers : (k : ℕ) (space : Space) → IsWhole k space → CoversSpace k space []

@@ -1,8 +1,11 @@
 -- The variables of forks are those of the literals of paths.
-use Rattle.std.proofs.Common.{ℕ, ◌≡◌, Bool, true, ◌&&◌, nat_lt, List, [], ◌∷◌, get_or, All, Contains, refl, sym, ap, ◌∙◌, subst, inl, inr, lt-ltb}
+use Rattle.std.proofs.Common.{ℕ, ◌≡◌, Bool, true, ◌&&◌, nat_lt, List, [], ◌∷◌, get_or, All, Contains, refl, sym, ap}
+use Rattle.std.proofs.Common.{◌∙◌, subst, inl, inr, lt-ltb}
 use Rattle.std.specs.Prelude.{nat_le}
-use Rattle.std.proofs.lemmas.Bool.{cases_order, or_cases, or_left, or_right, and_parts, and_from, leb-true, ltb-true, le-leb}
-use Rattle.std.proofs.lemmas.List.Elements.{All-contains, Contains-get_or, Contains-append_left, Contains-append_right, Contains-append_cases}
+use Rattle.std.proofs.lemmas.Bool.{cases_order, or_cases, or_left, or_right, and_parts, and_from, leb-true, ltb-true}
+use Rattle.std.proofs.lemmas.Bool.{le-leb}
+use Rattle.std.proofs.lemmas.List.Elements.{All-contains, Contains-get_or, Contains-append_left, Contains-append_right}
+use Rattle.std.proofs.lemmas.List.Elements.{Contains-append_cases}
 use Rattle.cpg_base.specs.Graph.{Graph, process_count, condition_count, value_variable, IsVariable}
 use Rattle.cpg_base.proofs.Lists.{Contains-first, Contains-rest, Contains-cases, Contains-nil}
 use Rattle.cpg_cube.specs.declared.literal.Literal.{Literal}
@@ -23,25 +26,39 @@ SpeaksOf cube v = (l : Literal) × Contains cube l × (l.variable ≡ v)
 speaks_of_new : (l : Literal) (cube : List Literal) → SpeaksOf (narrowed_by l cube) l.variable
 speaks_of_new l [] = (l, Contains-first l [], refl)
 speaks_of_new l (m ∷ ms) = elim (cases_order l.variable m.variable) [
-  | inl e ↦ (meet_literal l m, subst (λ (c : List Literal). Contains c (meet_literal l m)) (sym (narrowed-here l m ms e)) (Contains-first (meet_literal l m) ms), sym e)
-  | inr (inl h) ↦ (l, subst (λ (c : List Literal). Contains c l) (sym (narrowed-before l m ms h)) (Contains-first l (m ∷ ms)), refl)
+  | inl e ↦ (
+    meet_literal l m,
+    subst (λ (c : List Literal). Contains c (meet_literal l m)) (sym (narrowed-here l m ms e))
+        (Contains-first (meet_literal l m) ms),
+    sym e,
+  )
+  | inr (inl h) ↦
+      (l, subst (λ (c : List Literal). Contains c l) (sym (narrowed-before l m ms h)) (Contains-first l (m ∷ ms)), refl)
   | inr (inr h) ↦
-      let r = speaks_of_new l ms in
-      (r.0, subst (λ (c : List Literal). Contains c r.0) (sym (narrowed-after l m ms h)) (Contains-rest m (narrowed_by l ms) r.0 r.1), r.2)
+      let r = speaks_of_new l ms in (
+        r.0,
+        subst (λ (c : List Literal). Contains c r.0) (sym (narrowed-after l m ms h))
+            (Contains-rest m (narrowed_by l ms) r.0 r.1),
+        r.2,
+      )
 ]
 
-speaks_of_old : (l : Literal) (cube : List Literal) (x : Literal) → Contains cube x → SpeaksOf (narrowed_by l cube) x.variable
+speaks_of_old : (l : Literal) (cube : List Literal) (x : Literal) → Contains cube x →
+    SpeaksOf (narrowed_by l cube) x.variable
 speaks_of_old l [] x c = absurd (Contains-nil x c)
 speaks_of_old l (m ∷ ms) x c = elim (cases_order l.variable m.variable) [
-  | inl e ↦ subst (λ (n : List Literal). SpeaksOf n x.variable) (sym (narrowed-here l m ms e)) (elim (Contains-cases m ms x c) [
-    | inl s ↦ (meet_literal l m, Contains-first (meet_literal l m) ms, ap (λ (y : Literal). y.variable) s)
-    | inr d ↦ (x, Contains-rest (meet_literal l m) ms x d, refl)
-  ])
-  | inr (inl h) ↦ subst (λ (n : List Literal). SpeaksOf n x.variable) (sym (narrowed-before l m ms h)) (x, Contains-rest l (m ∷ ms) x c, refl)
-  | inr (inr h) ↦ subst (λ (n : List Literal). SpeaksOf n x.variable) (sym (narrowed-after l m ms h)) (elim (Contains-cases m ms x c) [
-    | inl s ↦ (m, Contains-first m (narrowed_by l ms), ap (λ (y : Literal). y.variable) s)
-    | inr d ↦ let r = speaks_of_old l ms x d in (r.0, Contains-rest m (narrowed_by l ms) r.0 r.1, r.2)
-  ])
+  | inl e ↦ subst (λ (n : List Literal). SpeaksOf n x.variable) (sym (narrowed-here l m ms e))
+      (elim (Contains-cases m ms x c) [
+        | inl s ↦ (meet_literal l m, Contains-first (meet_literal l m) ms, ap (λ (y : Literal). y.variable) s)
+        | inr d ↦ (x, Contains-rest (meet_literal l m) ms x d, refl)
+      ])
+  | inr (inl h) ↦ subst (λ (n : List Literal). SpeaksOf n x.variable) (sym (narrowed-before l m ms h))
+      (x, Contains-rest l (m ∷ ms) x c, refl)
+  | inr (inr h) ↦ subst (λ (n : List Literal). SpeaksOf n x.variable) (sym (narrowed-after l m ms h))
+      (elim (Contains-cases m ms x c) [
+        | inl s ↦ (m, Contains-first m (narrowed_by l ms), ap (λ (y : Literal). y.variable) s)
+        | inr d ↦ let r = speaks_of_old l ms x d in (r.0, Contains-rest m (narrowed_by l ms) r.0 r.1, r.2)
+      ])
 ]
 
 -- ---- each fork's variable is one of a path
@@ -49,73 +66,95 @@ speaks_of_old l (m ∷ ms) x c = elim (cases_order l.variable m.variable) [
 abbrev IsSpoken : {T : Type 0} → List (Path T) → ℕ → Type 0
 IsSpoken {T} paths v = (p : Path T) × Contains paths p × SpeaksOf p.0 v
 
-some_path : {T : Type 0} (k : ℕ) (node : TreeNode T) (cube : List Literal) (v : ℕ) → SpeaksOf cube v → IsSpoken (paths_from k cube node) v
+some_path : {T : Type 0} (k : ℕ) (node : TreeNode T) (cube : List Literal) (v : ℕ) → SpeaksOf cube v →
+    IsSpoken (paths_from k cube node) v
 some_path k (Leaf x) cube v speaks = ((cube, x), Contains-first (cube, x) [], speaks)
 some_path k (Fork u cut below upper) cube v speaks =
     let old = speaks_of_old (up_to u cut) cube speaks.0 speaks.1 in
-    let r = some_path k below (narrowed_by (up_to u cut) cube) v (old.0, old.1, old.2 ∙ speaks.2) in
-    (r.0, Contains-append_left (paths_from k (narrowed_by (up_to u cut) cube) below) (paths_from k (narrowed_by (above k u cut) cube) upper) r.0 r.1, r.2)
+    let r = some_path k below (narrowed_by (up_to u cut) cube) v (old.0, old.1, old.2 ∙ speaks.2) in (
+      r.0,
+      Contains-append_left (paths_from k (narrowed_by (up_to u cut) cube) below)
+          (paths_from k (narrowed_by (above k u cut) cube) upper) r.0 r.1,
+      r.2,
+    )
 
 module _ (test : ℕ → Bool) where
   abbrev Passes : List Literal → Type 0
   Passes cube = (l : Literal) → Contains cube l → test l.variable ≡ true
 
-  forks_from : {T : Type 0} (k : ℕ) (node : TreeNode T) (cube : List Literal) → ((p : Path T) → Contains (paths_from k cube node) p → Passes p.0) → DoForksPass test node
+  forks_from : {T : Type 0} (k : ℕ) (node : TreeNode T) (cube : List Literal) →
+      ((p : Path T) → Contains (paths_from k cube node) p → Passes p.0) →
+      DoForksPass test node
   forks_from k (Leaf x) cube h = tt
   forks_from k (Fork v cut below upper) cube h =
       let lower = paths_from k (narrowed_by (up_to v cut) cube) below in
       let higher = paths_from k (narrowed_by (above k v cut) cube) upper in
       let some = some_path k below (narrowed_by (up_to v cut) cube) v (speaks_of_new (up_to v cut) cube) in (
-        subst (λ (u : ℕ). test u ≡ true) some.2.2 (h some.0 (Contains-append_left lower higher some.0 some.1) some.2.0 some.2.1),
+        subst (λ (u : ℕ). test u ≡ true) some.2.2
+            (h some.0 (Contains-append_left lower higher some.0 some.1) some.2.0 some.2.1),
         forks_from k below (narrowed_by (up_to v cut) cube) (λ x c. h x (Contains-append_left lower higher x c)),
         forks_from k upper (narrowed_by (above k v cut) cube) (λ x c. h x (Contains-append_right lower higher x c)),
       )
 
   -- ---- each variable of a path is a fork's
 
-  passes_narrowed : (l : Literal) (cube : List Literal) → test l.variable ≡ true → Passes cube → Passes (narrowed_by l cube)
+  passes_narrowed : (l : Literal) (cube : List Literal) → test l.variable ≡ true → Passes cube →
+      Passes (narrowed_by l cube)
   passes_narrowed l cube on old x c = elim (variables_of_narrowed l cube x c) [
     | inl e ↦ subst (λ (v : ℕ). test v ≡ true) e on
     | inr r ↦ subst (λ (v : ℕ). test v ≡ true) r.2 (old r.0 r.1)
   ]
 
-  paths_pass : {T : Type 0} (k : ℕ) (node : TreeNode T) (cube : List Literal) → Passes cube → DoForksPass test node → (x : Path T) → Contains (paths_from k cube node) x → Passes x.0
+  paths_pass : {T : Type 0} (k : ℕ) (node : TreeNode T) (cube : List Literal) → Passes cube → DoForksPass test node →
+      (x : Path T) → Contains (paths_from k cube node) x → Passes x.0
   paths_pass {T} k (Leaf y) cube on pass x c = elim (Contains-cases (cube, y) [] x c) [
     | inl e ↦ subst (λ (z : Path T). Passes z.0) e on
     | inr none ↦ absurd (Contains-nil x none)
   ]
   paths_pass k (Fork v cut below upper) cube on pass x c =
-      elim (Contains-append_cases (paths_from k (narrowed_by (up_to v cut) cube) below) (paths_from k (narrowed_by (above k v cut) cube) upper) x c) [
-        | inl i ↦ paths_pass k below (narrowed_by (up_to v cut) cube) (passes_narrowed (up_to v cut) cube pass.0 on) pass.1 x i
-        | inr i ↦ paths_pass k upper (narrowed_by (above k v cut) cube) (passes_narrowed (above k v cut) cube pass.0 on) pass.2 x i
+      elim (Contains-append_cases (paths_from k (narrowed_by (up_to v cut) cube) below)
+      (paths_from k (narrowed_by (above k v cut) cube) upper) x c) [
+        | inl i ↦ paths_pass k below (narrowed_by (up_to v cut) cube)
+            (passes_narrowed (up_to v cut) cube pass.0 on) pass.1 x i
+        | inr i ↦ paths_pass k upper (narrowed_by (above k v cut) cube)
+            (passes_narrowed (above k v cut) cube pass.0 on) pass.2 x i
       ]
 
   -- ---- of a whole tree
 
-  pub forks_of_paths : {T : Type 0} (k : ℕ) (node : TreeNode T) → DoPathsPass test (paths_of k node) → DoForksPass test node
+  pub forks_of_paths : {T : Type 0} (k : ℕ) (node : TreeNode T) → DoPathsPass test (paths_of k node) →
+      DoForksPass test node
   forks_of_paths {T} k node h = forks_from k node []
-      (λ p c. λ l. All-contains (λ (m : Literal). test m.variable ≡ true) p.0 l (All-contains (λ (q : Path T). All (λ (m : Literal). test m.variable ≡ true) q.0) (paths_of k node) p h c))
+      (λ p c. λ l. All-contains (λ (m : Literal). test m.variable ≡ true) p.0 l
+      (All-contains (λ (q : Path T). All (λ (m : Literal). test m.variable ≡ true) q.0) (paths_of k node) p h c))
 
-  pub paths_of_forks : {T : Type 0} (k : ℕ) (node : TreeNode T) → DoForksPass test node → DoPathsPass test (paths_of k node)
+  pub paths_of_forks : {T : Type 0} (k : ℕ) (node : TreeNode T) → DoForksPass test node →
+      DoPathsPass test (paths_of k node)
   paths_of_forks k node pass i d l j e m =
       let path = get_or (paths_of k node) i d in
-      paths_pass k node [] (λ x c. absurd (Contains-nil x c)) pass path (Contains-get_or (paths_of k node) i d l) (get_or path.0 j e) (Contains-get_or path.0 j e m)
+      paths_pass k node [] (λ x c. absurd (Contains-nil x c)) pass path (Contains-get_or (paths_of k node) i d l)
+      (get_or path.0 j e) (Contains-get_or path.0 j e m)
 
 -- ---- the variables of a graph
 
 pub variable_from : (g : Graph) (v : ℕ) → is_variable g v ≡ true → IsVariable g v
-variable_from g v h = elim (or_cases (nat_lt v (process_count g)) (nat_le 128 v && nat_lt v (value_variable (condition_count g))) h) [
-  | inl l ↦ inl (ltb-true v (process_count g) l)
-  | inr b ↦ let parts = and_parts (nat_le 128 v) (nat_lt v (value_variable (condition_count g))) b in inr (leb-true 128 v parts.0, ltb-true v (value_variable (condition_count g)) parts.1)
-]
+variable_from g v h =
+    elim (or_cases (nat_lt v (process_count g)) (nat_le 128 v && nat_lt v (value_variable (condition_count g))) h) [
+      | inl l ↦ inl (ltb-true v (process_count g) l)
+      | inr b ↦ let parts = and_parts (nat_le 128 v) (nat_lt v (value_variable (condition_count g))) b in
+          inr (leb-true 128 v parts.0, ltb-true v (value_variable (condition_count g)) parts.1)
+    ]
 
 variable_passes : (g : Graph) (v : ℕ) → IsVariable g v → is_variable g v ≡ true
 variable_passes g v (inl l) = or_left (nat_lt v (process_count g)) _ (lt-ltb v (process_count g) l)
-variable_passes g v (inr b) = or_right (nat_lt v (process_count g)) _ (and_from (nat_le 128 v) _ (le-leb 128 v b.0) (lt-ltb v (value_variable (condition_count g)) b.1))
+variable_passes g v (inr b) = or_right (nat_lt v (process_count g)) _
+    (and_from (nat_le 128 v) _ (le-leb 128 v b.0) (lt-ltb v (value_variable (condition_count g)) b.1))
 
 -- if the variables of a tree are the graph's, they are known, as is asked of a tree whose columns are listed
-pub known_from : {T : Type 0} (g : Graph) (paths : List (Path T)) → DoPathsPass (is_variable g) paths → All (λ (p : Path T). IsKnown g p.0) paths
+pub known_from : {T : Type 0} (g : Graph) (paths : List (Path T)) → DoPathsPass (is_variable g) paths →
+    All (λ (p : Path T). IsKnown g p.0) paths
 known_from g paths h i d l j e m = variable_from g _ (h i d l j e m)
 
-pub known_passes : {T : Type 0} (g : Graph) (paths : List (Path T)) → All (λ (p : Path T). IsKnown g p.0) paths → DoPathsPass (is_variable g) paths
+pub known_passes : {T : Type 0} (g : Graph) (paths : List (Path T)) → All (λ (p : Path T). IsKnown g p.0) paths →
+    DoPathsPass (is_variable g) paths
 known_passes g paths h i d l j e m = variable_passes g _ (h i d l j e m)

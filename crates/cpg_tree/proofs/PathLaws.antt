@@ -1,8 +1,10 @@
 -- The paths of a tree: each scenario is on one, which has the value and the ranges that it finds on its way down.
-use Rattle.std.proofs.Common.{ℕ, ◌+◌, ◌<◌, ◌≤◌, ◌≡◌, ◌≢◌, max, min, true, false, List, [], ◌∷◌, length, filter, get_or, Contains, arith, refl, sym, ap, ap₂, ◌∙◌, subst, inl, inr, ◌⊎◌, length-append}
+use Rattle.std.proofs.Common.{ℕ, ◌+◌, ◌<◌, ◌≤◌, ◌≡◌, ◌≢◌, max, min, true, false, List, [], ◌∷◌, length, filter, get_or}
+use Rattle.std.proofs.Common.{Contains, arith, refl, sym, ap, ap₂, ◌∙◌, subst, inl, inr, ◌⊎◌, length-append}
 use Rattle.std.proofs.Common.{lt-ltb, le-ltb, rules}
 use Rattle.std.specs.Prelude.{nat_lt, slice_set}
-use Rattle.std.proofs.lemmas.Bool.{cases_lt, cases_eq, cond-true, cond-false, and_parts, and_from, both_ways, false_from_ne_true, ltb-true}
+use Rattle.std.proofs.lemmas.Bool.{cases_lt, cases_eq, cond-true, cond-false, and_parts, and_from, both_ways}
+use Rattle.std.proofs.lemmas.Bool.{false_from_ne_true, ltb-true}
 use Rattle.std.proofs.lemmas.List.{get_or-set_same, get_or-set_other, get_or_past}
 use Rattle.std.proofs.lemmas.List.Elements.{Contains-append_cases, filter-append}
 use Rattle.cpg_base.proofs.Lists.{Contains-cases, Contains-nil, filter_none}
@@ -18,7 +20,8 @@ use Rattle.cpg_tree.specs.Space.{Space, HasAtMostFaults, IsWhole, below_cut, abo
 use Rattle.cpg_tree.specs.Decision.{value_at, low_at, high_at, IsFit, IsGood, HasCuts}
 use Rattle.cpg_tree.specs.Paths.{up_to, above, paths_from, paths_of}
 use Rattle.cpg_tree.specs.Tree.{Path, is_on, IsOnPath}
-use Rattle.cpg_tree.proofs.Forks.{value_below, value_above, low_below, low_above, low_here, high_below, high_above, high_here}
+use Rattle.cpg_tree.proofs.Forks.{value_below, value_above, low_below, low_above, low_here, high_below, high_above}
+use Rattle.cpg_tree.proofs.Forks.{high_here}
 use Rattle.cpg_cube.proofs.Narrowed.{low-other, low-same, high-other, high-same}
 use Rattle.cpg_tree.proofs.Spaces.{number_le_top}
 
@@ -26,7 +29,8 @@ use Rattle.cpg_tree.proofs.Spaces.{number_le_top}
 Reaches : ℕ → Space → Type 0
 Reaches k space = (v : ℕ) → v < 256 → get_or space.high v 0 ≤ top k v
 
-reaches_below : (k : ℕ) (space : Space) (v cut : ℕ) → cut < top k v → Reaches k space → Reaches k (below_cut space v cut)
+reaches_below : (k : ℕ) (space : Space) (v cut : ℕ) → cut < top k v → Reaches k space →
+    Reaches k (below_cut space v cut)
 unfolding Reaches
 reaches_below k space v cut less h u l = by_place (cases_eq u v)
   where
@@ -42,14 +46,24 @@ reaches_below k space v cut less h u l = by_place (cases_eq u v)
 
     by_place : (u ≡ v) ⊎ (u ≢ v) → get_or (slice_set space.high v cut) u 0 ≤ top k u
     by_place (inr n) = omega (arith, get_or-set_other space.high v u cut 0 n, h u l)
-    by_place (inl e) = subst (λ w. get_or (slice_set space.high v cut) w 0 ≤ top k w) (sym e) (at_cut (cases_lt v (length space.high)))
+    by_place (inl e) =
+        subst (λ w. get_or (slice_set space.high v cut) w 0 ≤ top k w) (sym e) (at_cut (cases_lt v (length space.high)))
 
-fits_cuts : {T : Type 0} (k : ℕ) (node : TreeNode T) (space : Space) → Reaches k space → IsFit space node → HasCuts k node
+fits_cuts : {T : Type 0} (k : ℕ) (node : TreeNode T) (space : Space) → Reaches k space → IsFit space node →
+    HasCuts k node
 unfolding Reaches
 fits_cuts k (Leaf x) space h fit = tt
 fits_cuts k (Fork v cut below above) space h fit =
-    let less : cut < top k v = omega (arith, ltb-true cut (get_or space.high v 0) (and_parts (nat_lt cut (get_or space.high v 0)) _ fit.2).0, h v fit.0) in
-    (fit.0, less, fits_cuts k below (below_cut space v cut) (reaches_below k space v cut less h) fit.3, fits_cuts k above (above_cut space v cut) h fit.4)
+    let less : cut < top k v = omega (
+      arith,
+      ltb-true cut (get_or space.high v 0) (and_parts (nat_lt cut (get_or space.high v 0)) _ fit.2).0,
+      h v fit.0,
+    ) in (
+      fit.0,
+      less,
+      fits_cuts k below (below_cut space v cut) (reaches_below k space v cut less h) fit.3,
+      fits_cuts k above (above_cut space v cut) h fit.4,
+    )
 
 whole_reaches : (k : ℕ) (space : Space) → IsWhole k space → Reaches k space
 unfolding Reaches
@@ -73,7 +87,8 @@ module _ (k : ℕ) (cube : List Literal) (tidy : IsTidy k cube) (v cut : ℕ) (l
   tidy_below = record {
     rising = rising-narrowed (up_to v cut) cube tidy.rising;
     within = λ u. elim (cases_eq v u) [
-      | inl e ↦ subst (λ w. high_in k (narrowed_by (up_to v cut) cube) w ≤ top k w) e (omega (arith, high-same k (up_to v cut) cube tidy.rising (omega (arith, less)), less))
+      | inl e ↦ subst (λ w. high_in k (narrowed_by (up_to v cut) cube) w ≤ top k w) e
+          (omega (arith, high-same k (up_to v cut) cube tidy.rising (omega (arith, less)), less))
       | inr n ↦ omega (arith, high-other k (up_to v cut) cube u n, tidy.within u)
     ];
   }
@@ -82,7 +97,8 @@ module _ (k : ℕ) (cube : List Literal) (tidy : IsTidy k cube) (v cut : ℕ) (l
   tidy_above = record {
     rising = rising-narrowed (above k v cut) cube tidy.rising;
     within = λ u. elim (cases_eq v u) [
-      | inl e ↦ subst (λ w. high_in k (narrowed_by (above k v cut) cube) w ≤ top k w) e (omega (arith, high-same k (above k v cut) cube tidy.rising (omega arith)))
+      | inl e ↦ subst (λ w. high_in k (narrowed_by (above k v cut) cube) w ≤ top k w) e
+          (omega (arith, high-same k (above k v cut) cube tidy.rising (omega arith)))
       | inr n ↦ omega (arith, high-other k (above k v cut) cube u n, tidy.within u)
     ];
   }
@@ -95,10 +111,12 @@ module _ {T : Type 0} (k : ℕ) (s : Scenario) where
     pub low : (v : ℕ) → low_in x.0 v ≡ max (low_in cube v) (low_at node s v)
     pub high : (v : ℕ) → high_in k x.0 v ≡ min (high_in k cube v) (high_at k node s v)
 
-  path_below : (cube : List Literal) → IsTidy k cube → (v cut : ℕ) (below : TreeNode T) (upper : TreeNode T) → cut < top k v → (x : Path T) →
+  path_below : (cube : List Literal) → IsTidy k cube → (v cut : ℕ) (below : TreeNode T) (upper : TreeNode T) →
+      cut < top k v → (x : Path T) →
       IsPathOf (narrowed_by (up_to v cut) cube) below x → IsPathOf cube (Fork v cut below upper) x
   path_below cube tidy v cut below upper less x t =
-      let both = and_parts (holds s (up_to v cut)) (matches cube s) (sym (matches-narrowed s (up_to v cut) cube) ∙ t.came) in
+      let both =
+      and_parts (holds s (up_to v cut)) (matches cube s) (sym (matches-narrowed s (up_to v cut) cube) ∙ t.came) in
       let le : number_of s v ≤ cut = holds-high s (up_to v cut) both.0 in
       record {
         came = both.1;
@@ -110,15 +128,27 @@ module _ {T : Type 0} (k : ℕ) (s : Scenario) where
         ];
         high = λ u. elim (cases_eq v u) [
           | inl e ↦ subst (λ w. high_in k x.0 w ≡ min (high_in k cube w) (high_at k (Fork v cut below upper) s w)) e
-              (omega (arith, t.high v, high-same k (up_to v cut) cube tidy.rising (omega (arith, less)), high_here v cut below upper s le k))
-          | inr n ↦ omega (arith, t.high u, high-other k (up_to v cut) cube u n, high_below v cut below upper s le k u (λ i. n (sym i)))
+              (omega (
+                arith,
+                t.high v,
+                high-same k (up_to v cut) cube tidy.rising (omega (arith, less)),
+                high_here v cut below upper s le k,
+              ))
+          | inr n ↦ omega (
+            arith,
+            t.high u,
+            high-other k (up_to v cut) cube u n,
+            high_below v cut below upper s le k u (λ i. n (sym i)),
+          )
         ];
       }
 
-  path_above : (cube : List Literal) → IsTidy k cube → (v cut : ℕ) (below : TreeNode T) (upper : TreeNode T) → cut < top k v → (x : Path T) →
+  path_above : (cube : List Literal) → IsTidy k cube → (v cut : ℕ) (below : TreeNode T) (upper : TreeNode T) →
+      cut < top k v → (x : Path T) →
       IsPathOf (narrowed_by (above k v cut) cube) upper x → IsPathOf cube (Fork v cut below upper) x
   path_above cube tidy v cut below upper less x t =
-      let both = and_parts (holds s (above k v cut)) (matches cube s) (sym (matches-narrowed s (above k v cut) cube) ∙ t.came) in
+      let both = and_parts (holds s (above k v cut)) (matches cube s)
+      (sym (matches-narrowed s (above k v cut) cube) ∙ t.came) in
       let gt : cut < number_of s v = let l = holds-low s (above k v cut) both.0 in omega (arith, l) in
       record {
         came = both.1;
@@ -126,16 +156,30 @@ module _ {T : Type 0} (k : ℕ) (s : Scenario) where
         low = λ u. elim (cases_eq v u) [
           | inl e ↦ subst (λ w. low_in x.0 w ≡ max (low_in cube w) (low_at (Fork v cut below upper) s w)) e
               (omega (arith, t.low v, low-same k (above k v cut) cube tidy.rising, low_here v cut below upper s gt))
-          | inr n ↦ omega (arith, t.low u, low-other k (above k v cut) cube u n, low_above v cut below upper s gt u (λ i. n (sym i)))
+          | inr n ↦ omega (
+            arith,
+            t.low u,
+            low-other k (above k v cut) cube u n,
+            low_above v cut below upper s gt u (λ i. n (sym i)),
+          )
         ];
         high = λ u. elim (cases_eq v u) [
           | inl e ↦ subst (λ w. high_in k x.0 w ≡ min (high_in k cube w) (high_at k (Fork v cut below upper) s w)) e
-              (omega (arith, t.high v, high-same k (above k v cut) cube tidy.rising (omega arith), high_above v cut below upper s gt k v, tidy.within v))
-          | inr n ↦ omega (arith, t.high u, high-other k (above k v cut) cube u n, high_above v cut below upper s gt k u)
+              (omega (
+                arith,
+                t.high v,
+                high-same k (above k v cut) cube tidy.rising (omega arith),
+                high_above v cut below upper s gt k v,
+                tidy.within v,
+              ))
+          | inr n ↦
+              omega (arith, t.high u, high-other k (above k v cut) cube u n, high_above v cut below upper s gt k u)
         ];
       }
 
-  pub is_path : (node : TreeNode T) (cube : List Literal) → IsTidy k cube → HasCuts k node → (x : Path T) → Contains (paths_from k cube node) x → matches x.0 s ≡ true → IsPathOf cube node x
+  pub is_path : (node : TreeNode T) (cube : List Literal) → IsTidy k cube → HasCuts k node → (x : Path T) →
+      Contains (paths_from k cube node) x → matches x.0 s ≡ true →
+      IsPathOf cube node x
   is_path (Leaf y) cube tidy cuts x c m = only (Contains-cases (cube, y) [] x c)
     where
       only : ((cube, y) ≡ x) ⊎ Contains [] x → IsPathOf cube (Leaf y) x
@@ -147,35 +191,47 @@ module _ {T : Type 0} (k : ℕ) (s : Scenario) where
       })
       only (inr none) = absurd (Contains-nil x none)
   is_path (Fork v cut below upper) cube tidy cuts x c m =
-      elim (Contains-append_cases (paths_from k (narrowed_by (up_to v cut) cube) below) (paths_from k (narrowed_by (above k v cut) cube) upper) x c) [
-        | inl i ↦ path_below cube tidy v cut below upper cuts.1 x (is_path below (narrowed_by (up_to v cut) cube) (tidy_below k cube tidy v cut cuts.1) cuts.2 x i m)
-        | inr i ↦ path_above cube tidy v cut below upper cuts.1 x (is_path upper (narrowed_by (above k v cut) cube) (tidy_above k cube tidy v cut cuts.1) cuts.3 x i m)
+      elim (Contains-append_cases (paths_from k (narrowed_by (up_to v cut) cube) below)
+      (paths_from k (narrowed_by (above k v cut) cube) upper) x c) [
+        | inl i ↦ path_below cube tidy v cut below upper cuts.1 x
+            (is_path below (narrowed_by (up_to v cut) cube) (tidy_below k cube tidy v cut cuts.1) cuts.2 x i m)
+        | inr i ↦ path_above cube tidy v cut below upper cuts.1 x
+            (is_path upper (narrowed_by (above k v cut) cube) (tidy_above k cube tidy v cut cuts.1) cuts.3 x i m)
       ]
 
   -- a scenario that the cube doesn't match is on no path
-  none_from : (node : TreeNode T) (cube : List Literal) → IsTidy k cube → HasCuts k node → matches cube s ≡ false → length (filter (is_on s) (paths_from k cube node)) ≡ 0
+  none_from : (node : TreeNode T) (cube : List Literal) → IsTidy k cube → HasCuts k node → matches cube s ≡ false →
+      length (filter (is_on s) (paths_from k cube node)) ≡ 0
   none_from node cube tidy cuts off = ap length
-      (filter_none (is_on s) (paths_from k cube node) (λ x c. false_from_ne_true (matches x.0 s) (λ m. both_ways (matches cube s) off (is_path node cube tidy cuts x c m).came)))
+      (filter_none (is_on s) (paths_from k cube node) (λ x c. false_from_ne_true (matches x.0 s)
+      (λ m. both_ways (matches cube s) off (is_path node cube tidy cuts x c m).came)))
 
   -- one that it matches is on one
-  pub one_from : HasAtMostFaults k s → (node : TreeNode T) (cube : List Literal) → IsTidy k cube → HasCuts k node → matches cube s ≡ true → length (filter (is_on s) (paths_from k cube node)) ≡ 1
+  pub one_from : HasAtMostFaults k s → (node : TreeNode T) (cube : List Literal) → IsTidy k cube → HasCuts k node →
+      matches cube s ≡ true →
+      length (filter (is_on s) (paths_from k cube node)) ≡ 1
   one_from few (Leaf y) cube tidy cuts on = ap length (cond-true (matches cube s) ((cube, y) ∷ []) [] on)
   one_from few (Fork v cut below upper) cube tidy cuts on =
-      ap length (filter-append (is_on s) (paths_from k (narrowed_by (up_to v cut) cube) below) (paths_from k (narrowed_by (above k v cut) cube) upper))
-      ∙ length-append (filter (is_on s) (paths_from k (narrowed_by (up_to v cut) cube) below)) (filter (is_on s) (paths_from k (narrowed_by (above k v cut) cube) upper))
+      ap length (filter-append (is_on s) (paths_from k (narrowed_by (up_to v cut) cube) below)
+      (paths_from k (narrowed_by (above k v cut) cube) upper))
+      ∙ length-append (filter (is_on s) (paths_from k (narrowed_by (up_to v cut) cube) below))
+      (filter (is_on s) (paths_from k (narrowed_by (above k v cut) cube) upper))
       ∙ elim (cases_lt cut (number_of s v)) [
         | inr le ↦ ap₂ ◌+◌
             (one_from few below (narrowed_by (up_to v cut) cube) (tidy_below k cube tidy v cut cuts.1) cuts.2
             (matches-narrowed s (up_to v cut) cube ∙ and_from _ _ (holds-from s (up_to v cut) (omega arith) le) on))
             (none_from upper (narrowed_by (above k v cut) cube) (tidy_above k cube tidy v cut cuts.1) cuts.3
-            (false_from_ne_true _ (λ m. let l = holds-low s (above k v cut) (and_parts (holds s (above k v cut)) (matches cube s) (sym (matches-narrowed s (above k v cut) cube) ∙ m)).0 in
+            (false_from_ne_true _ (λ m. let l = holds-low s (above k v cut) (and_parts (holds s (above k v cut))
+            (matches cube s) (sym (matches-narrowed s (above k v cut) cube) ∙ m)).0 in
             absurd (omega (arith, l, le)))))
         | inl gt ↦ ap₂ ◌+◌
             (none_from below (narrowed_by (up_to v cut) cube) (tidy_below k cube tidy v cut cuts.1) cuts.2
-            (false_from_ne_true _ (λ m. let l = holds-high s (up_to v cut) (and_parts (holds s (up_to v cut)) (matches cube s) (sym (matches-narrowed s (up_to v cut) cube) ∙ m)).0 in
+            (false_from_ne_true _ (λ m. let l = holds-high s (up_to v cut) (and_parts (holds s (up_to v cut))
+            (matches cube s) (sym (matches-narrowed s (up_to v cut) cube) ∙ m)).0 in
             absurd (omega (arith, l, gt)))))
             (one_from few upper (narrowed_by (above k v cut) cube) (tidy_above k cube tidy v cut cuts.1) cuts.3
-            (matches-narrowed s (above k v cut) cube ∙ and_from _ _ (holds-from s (above k v cut) (omega (arith, gt)) (number_le_top k s few v)) on))
+            (matches-narrowed s (above k v cut) cube
+            ∙ and_from _ _ (holds-from s (above k v cut) (omega (arith, gt)) (number_le_top k s few v)) on))
       ]
 
 -- ---- of a whole tree

@@ -13,73 +13,91 @@ use Rattle.cpg_tree.proofs.Flats.{flat-same}
 use Rattle.cpg_tree.proofs.JoinLaws.{fork_is, split_of}
 
 module _ {T : Type 0} (space : Space) (on off : TreeNode T) (old new : List (TreeItem T)) where
-  module _ (v cut : ℕ) (x y n : TreeNode Bool) (items : List (TreeItem Bool)) (is : items ≡ flat (Fork v cut x y)) (are : items ≡ flat n) where
+  module _ (v cut : ℕ) (x y n : TreeNode Bool) (items : List (TreeItem Bool)) (is : items ≡ flat (Fork v cut x y))
+      (are : items ≡ flat n) where
     whole : n ≡ Fork v cut x y
     whole = fork_is space v cut x y n items is are
 
-    pub picks_above : ((s : Scenario) → IsInSpace space s → cut < number_of s v) → AddsTree (IsPicked space y on off) old new → AddsTree (IsPicked space n on off) old new
+    pub picks_above : ((s : Scenario) → IsInSpace space s → cut < number_of s v) →
+        AddsTree (IsPicked space y on off) old new →
+        AddsTree (IsPicked space n on off) old new
     picks_above only p = (
       p.0,
       p.1,
       record {
-        made = two_above_of (λ s b z. z ≡ value_at (picked b on off) s) (λ s b u. low_at (picked b on off) s u) (λ k s b u. high_at k (picked b on off) s u)
+        made = two_above_of (λ s b z. z ≡ value_at (picked b on off) s) (λ s b u. low_at (picked b on off) s u)
+            (λ k s b u. high_at k (picked b on off) s u)
             (IsInSpace space) v cut x y n whole p.0 p.2.made only;
         fit = p.2.fit;
         pass = λ test pass one two. p.2.pass test (passes_parts test v cut x y n whole pass).2 one two;
       },
     )
 
-    pub picks_below : ((s : Scenario) → IsInSpace space s → number_of s v ≤ cut) → AddsTree (IsPicked space x on off) old new → AddsTree (IsPicked space n on off) old new
+    pub picks_below : ((s : Scenario) → IsInSpace space s → number_of s v ≤ cut) →
+        AddsTree (IsPicked space x on off) old new →
+        AddsTree (IsPicked space n on off) old new
     picks_below only p = (
       p.0,
       p.1,
       record {
-        made = two_below_of (λ s b z. z ≡ value_at (picked b on off) s) (λ s b u. low_at (picked b on off) s u) (λ k s b u. high_at k (picked b on off) s u)
+        made = two_below_of (λ s b z. z ≡ value_at (picked b on off) s) (λ s b u. low_at (picked b on off) s u)
+            (λ k s b u. high_at k (picked b on off) s u)
             (IsInSpace space) v cut x y n whole p.0 p.2.made only;
         fit = p.2.fit;
         pass = λ test pass one two. p.2.pass test (passes_parts test v cut x y n whole pass).1 one two;
       },
     )
 
-    module _ (shut upper : Space) (start middle : ℕ) (low high : List (TreeItem T)) (under : is_open_below space v cut ≡ true) (over : is_open_above space v cut ≡ true)
+    module _ (shut upper : Space) (start middle : ℕ) (low high : List (TreeItem T))
+        (under : is_open_below space v cut ≡ true) (over : is_open_above space v cut ≡ true)
         (shut_is : shut ≡ below_cut space v cut) (upper_is : upper ≡ above_cut space v cut)
-        (lies_shut : (s : Scenario) → IsInSpace space s → number_of s v ≤ cut → IsInSpace shut s) (lies_upper : (s : Scenario) → IsInSpace space s → cut < number_of s v → IsInSpace upper s)
+        (lies_shut : (s : Scenario) → IsInSpace space s → number_of s v ≤ cut → IsInSpace shut s)
+        (lies_upper : (s : Scenario) → IsInSpace space s → cut < number_of s v → IsInSpace upper s)
         (first : start ≡ length old) (second : middle ≡ length low)
         (forks : ForksEnd start middle v cut high new) where
-      pub picks_fork : AddsTree (IsPicked shut x on off) old low → AddsTree (IsPicked upper y on off) low high → AddsTree (IsPicked space n on off) old new
+      pub picks_fork : AddsTree (IsPicked shut x on off) old low → AddsTree (IsPicked upper y on off) low high →
+          AddsTree (IsPicked space n on off) old new
       picks_fork one two =
-          let fork = forks old one.0 two.0 (split_of start middle old low high one.0 two.0 one.1 two.1 first second) in (
+          let fork =
+          forks old one.0 two.0 (split_of start middle old low high one.0 two.0 one.1 two.1 first second) in (
             fork.0,
             fork.1,
             record {
-              made = two_fork_of (λ s b z. z ≡ value_at (picked b on off) s) (λ s b u. low_at (picked b on off) s u) (λ k s b u. high_at k (picked b on off) s u) (IsInSpace space) v cut x y n
+              made = two_fork_of (λ s b z. z ≡ value_at (picked b on off) s) (λ s b u. low_at (picked b on off) s u)
+                  (λ k s b u. high_at k (picked b on off) s u) (IsInSpace space) v cut x y n
                   whole fork.0
                   (IsInSpace shut) (IsInSpace upper) one.0 two.0 one.2.made two.2.made fork.2.made lies_shut lies_upper;
-              fit = fork.2.fit space under over (subst (λ r. IsFit r one.0) shut_is one.2.fit) (subst (λ r. IsFit r two.0) upper_is two.2.fit);
-              pass = λ test pass ons offs. let parts = passes_parts test v cut x y n whole pass in fork.2.pass test parts.0 (one.2.pass test parts.1 ons offs) (two.2.pass test parts.2 ons offs);
+              fit = fork.2.fit space under over (subst (λ r. IsFit r one.0) shut_is one.2.fit)
+                  (subst (λ r. IsFit r two.0) upper_is two.2.fit);
+              pass = λ test pass ons offs. let parts = passes_parts test v cut x y n whole pass in
+                  fork.2.pass test parts.0 (one.2.pass test parts.1 ons offs) (two.2.pass test parts.2 ons offs);
             },
           )
 
   -- one value of a chooser
   module _ (n : TreeNode Bool) (items : List (TreeItem Bool)) (are : items ≡ flat n) where
-    pub picks_on : items ≡ flat (Leaf true) → AddsTree (IsRestricted space on) old new → AddsTree (IsPicked space n on off) old new
+    pub picks_on : items ≡ flat (Leaf true) → AddsTree (IsRestricted space on) old new →
+        AddsTree (IsPicked space n on off) old new
     picks_on leaf p = (
       p.0,
       p.1,
       record {
-        made = two_leaf_of (λ s b z. z ≡ value_at (picked b on off) s) (λ s b u. low_at (picked b on off) s u) (λ k s b u. high_at k (picked b on off) s u) (IsInSpace space) true n
+        made = two_leaf_of (λ s b z. z ≡ value_at (picked b on off) s) (λ s b u. low_at (picked b on off) s u)
+            (λ k s b u. high_at k (picked b on off) s u) (IsInSpace space) true n
             (flat-same n (Leaf true) (sym are ∙ leaf)) p.0 p.2.made;
         fit = p.2.fit;
         pass = λ test pass ons offs. p.2.pass test ons;
       },
     )
 
-    pub picks_off : items ≡ flat (Leaf false) → AddsTree (IsRestricted space off) old new → AddsTree (IsPicked space n on off) old new
+    pub picks_off : items ≡ flat (Leaf false) → AddsTree (IsRestricted space off) old new →
+        AddsTree (IsPicked space n on off) old new
     picks_off leaf p = (
       p.0,
       p.1,
       record {
-        made = two_leaf_of (λ s b z. z ≡ value_at (picked b on off) s) (λ s b u. low_at (picked b on off) s u) (λ k s b u. high_at k (picked b on off) s u) (IsInSpace space) false n
+        made = two_leaf_of (λ s b z. z ≡ value_at (picked b on off) s) (λ s b u. low_at (picked b on off) s u)
+            (λ k s b u. high_at k (picked b on off) s u) (IsInSpace space) false n
             (flat-same n (Leaf false) (sym are ∙ leaf)) p.0 p.2.made;
         fit = p.2.fit;
         pass = λ test pass ons offs. p.2.pass test offs;
@@ -87,7 +105,9 @@ module _ {T : Type 0} (space : Space) (on off : TreeNode T) (old new : List (Tre
     )
 
 -- what is picked of parts is picked of the whole trees
-pub picks_whole : {T : Type 0} (space : Space) (n : TreeNode Bool) (on off on_part off_part : TreeNode T) (old new : List (TreeItem T)) → IsPartInSpace space on on_part
+pub picks_whole : {T : Type 0} (space : Space) (n : TreeNode Bool) (on off on_part off_part : TreeNode T)
+    (old new : List (TreeItem T)) →
+    IsPartInSpace space on on_part
     → IsPartInSpace space off off_part →
     AddsTree (IsPicked space n on_part off_part) old new → AddsTree (IsPicked space n on off) old new
 picks_whole space n on off on_part off_part old new ons offs p = (

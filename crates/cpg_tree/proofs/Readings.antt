@@ -1,5 +1,6 @@
 -- A tree whose leaves are read as numbers has the ranges of the tree.
-use Rattle.std.proofs.Common.{ℕ, ◌+◌, ◌≡◌, ◌==◌, max, min, Bool, true, false, if◌then◌else◌, List, [], ◌++◌, map, length, filter, Option, All, arith, refl, sym, ap, ap₂, ◌∙◌, subst}
+use Rattle.std.proofs.Common.{ℕ, ◌+◌, ◌≡◌, ◌==◌, max, min, Bool, true, false, if◌then◌else◌, List, [], ◌++◌, map}
+use Rattle.std.proofs.Common.{length, filter, Option, All, arith, refl, sym, ap, ap₂, ◌∙◌, subst}
 use Rattle.std.specs.Prelude.{nat_le, IsTrue}
 use Rattle.std.proofs.lemmas.List.{length-map, map-append}
 use Rattle.std.proofs.lemmas.List.Elements.{All-map}
@@ -21,7 +22,8 @@ use Rattle.cpg_tree.specs.Tree.{Path, TreeState, is_on, IsOnPath, IsMap, IsAsWid
 use Rattle.cpg_tree.proofs.OnePath.{same_path}
 use Rattle.cpg_tree.proofs.Publics.{state}
 
-either : {T : Type 0} (number : T → ℕ) (b : Bool) (x y : T) (m n : ℕ) → m ≡ number x → n ≡ number y → (if b then m else n) ≡ number (if b then x else y)
+either : {T : Type 0} (number : T → ℕ) (b : Bool) (x y : T) (m n : ℕ) → m ≡ number x → n ≡ number y →
+    (if b then m else n) ≡ number (if b then x else y)
 either number true x y m n e f = e
 either number false x y m n e f = f
 
@@ -29,17 +31,21 @@ module _ {T : Type 0} (number : T → ℕ) where
   pub value_read : (a : TreeNode T) (s : Scenario) → value_at (read_by number a) s ≡ number (value_at a s)
   value_read (Leaf x) s = refl
   value_read (Fork v cut below above) s =
-      either number (nat_le (number_of s v) cut) (value_at below s) (value_at above s) (value_at (read_by number below) s) (value_at (read_by number above) s) (value_read below s) (value_read above s)
+      either number (nat_le (number_of s v) cut) (value_at below s) (value_at above s)
+      (value_at (read_by number below) s) (value_at (read_by number above) s) (value_read below s)
+      (value_read above s)
 
   pub low_read : (a : TreeNode T) (s : Scenario) (u : ℕ) → low_at (read_by number a) s u ≡ low_at a s u
   low_read (Leaf x) s u = refl
   low_read (Fork v cut below above) s u =
-      ap₂ (λ x y. if nat_le (number_of s v) cut then x else if v == u then max (cut + 1) y else y) (low_read below s u) (low_read above s u)
+      ap₂ (λ x y. if nat_le (number_of s v) cut then x else if v == u then max (cut + 1) y else y) (low_read below s u)
+      (low_read above s u)
 
   pub high_read : (k : ℕ) (a : TreeNode T) (s : Scenario) (u : ℕ) → high_at k (read_by number a) s u ≡ high_at k a s u
   high_read k (Leaf x) s u = refl
   high_read k (Fork v cut below above) s u =
-      ap₂ (λ x y. if nat_le (number_of s v) cut then (if v == u then min cut x else x) else y) (high_read k below s u) (high_read k above s u)
+      ap₂ (λ x y. if nat_le (number_of s v) cut then (if v == u then min cut x else x) else y) (high_read k below s u)
+      (high_read k above s u)
 
   pub pass_read : (test : ℕ → Bool) (a : TreeNode T) → DoForksPass test a → DoForksPass test (read_by number a)
   pass_read test (Leaf x) pass = tt
@@ -47,19 +53,24 @@ module _ {T : Type 0} (number : T → ℕ) where
 
   fit_read : (space : Space) (a : TreeNode T) → IsFit space a → IsFit space (read_by number a)
   fit_read space (Leaf x) fit = tt
-  fit_read space (Fork v cut below above) fit = (fit.0, fit.1, fit.2, fit_read (below_cut space v cut) below fit.3, fit_read (above_cut space v cut) above fit.4)
+  fit_read space (Fork v cut below above) fit =
+      (fit.0, fit.1, fit.2, fit_read (below_cut space v cut) below fit.3, fit_read (above_cut space v cut) above fit.4)
 
   pub good_read : (k : ℕ) (a : TreeNode T) → IsGood k a → IsGood k (read_by number a)
   good_read k a good = (good.0, good.1, fit_read good.0 a good.2)
 
-  paths_read : (k : ℕ) (cube : List Literal) (a : TreeNode T) → paths_from k cube (read_by number a) ≡ map (λ (p : Path T). (p.0, number p.1)) (paths_from k cube a)
+  paths_read : (k : ℕ) (cube : List Literal) (a : TreeNode T) →
+      paths_from k cube (read_by number a) ≡ map (λ (p : Path T). (p.0, number p.1)) (paths_from k cube a)
   paths_read k cube (Leaf x) = refl
   paths_read k cube (Fork v cut lower upper) =
-      ap₂ ◌++◌ (paths_read k (narrowed_by (up_to v cut) cube) lower) (paths_read k (narrowed_by (above k v cut) cube) upper)
-      ∙ sym (map-append (λ (q : Path T). (q.0, number q.1)) (paths_from k (narrowed_by (up_to v cut) cube) lower) (paths_from k (narrowed_by (above k v cut) cube) upper))
+      ap₂ ◌++◌ (paths_read k (narrowed_by (up_to v cut) cube) lower)
+      (paths_read k (narrowed_by (above k v cut) cube) upper)
+      ∙ sym (map-append (λ (q : Path T). (q.0, number q.1)) (paths_from k (narrowed_by (up_to v cut) cube) lower)
+      (paths_from k (narrowed_by (above k v cut) cube) upper))
 
   -- the part of a tree that a space comes to, read
-  pub within_read : (space : Space) (a part : TreeNode T) → IsTreeWithin space a part → IsTreeWithin space (read_by number a) (read_by number part)
+  pub within_read : (space : Space) (a part : TreeNode T) → IsTreeWithin space a part →
+      IsTreeWithin space (read_by number a) (read_by number part)
   within_read space a part same = record {
     value = λ s d. value_read part s ∙ ap number (same.value s d) ∙ sym (value_read a s);
     lows = λ s u d. omega (arith, low_read part s u, low_read a s u, same.lows s u d);
@@ -67,7 +78,9 @@ module _ {T : Type 0} (number : T → ℕ) where
   }
 
   -- at least 0 is as it is read
-  pub filled_read : (space : Space) (a : TreeNode T) (r : TreeNode ℕ) → IsFillOf (λ (x : ℕ) (y : T) (z : ℕ). z ≡ max x (number y)) space 0 a r → IsTreeWithin space (read_by number a) r
+  pub filled_read : (space : Space) (a : TreeNode T) (r : TreeNode ℕ) →
+      IsFillOf (λ (x : ℕ) (y : T) (z : ℕ). z ≡ max x (number y)) space 0 a r →
+      IsTreeWithin space (read_by number a) r
   filled_read space a r made = record {
     value = λ s d. omega (arith, made.value s d, value_read a s);
     lows = λ s u d. omega (arith, low_read a s u, made.lows s u d);
@@ -77,26 +90,45 @@ module _ {T : Type 0} (number : T → ℕ) where
   -- and so with the passing of tests
   passes_read : (test : ℕ → Bool) (a : TreeNode T) → DoForksPass test (read_by number a) → DoForksPass test a
   passes_read test (Leaf x) pass = tt
-  passes_read test (Fork v cut below above) pass = (pass.0, passes_read test below pass.1, passes_read test above pass.2)
+  passes_read test (Fork v cut below above) pass =
+      (pass.0, passes_read test below pass.1, passes_read test above pass.2)
 
-  pub part_read : (space : Space) (a part : TreeNode T) → IsPartInSpace space a part → IsPartInSpace space (read_by number a) (read_by number part)
-  part_read space a part is = record { same = within_read space a part is.same; pass = λ test on. pass_read test part (is.pass test (passes_read test a on)) }
+  pub part_read : (space : Space) (a part : TreeNode T) → IsPartInSpace space a part →
+      IsPartInSpace space (read_by number a) (read_by number part)
+  part_read space a part is = record {
+    same = within_read space a part is.same;
+    pass = λ test on. pass_read test part (is.pass test (passes_read test a on));
+  }
 
-  pub kept_read : (space : Space) (a : TreeNode T) (old new : List (TreeItem ℕ)) → AddsTree (IsFilled (λ (x : ℕ) (y : T) (z : ℕ). z ≡ max x (number y)) space 0 a) old new →
+  pub kept_read : (space : Space) (a : TreeNode T) (old new : List (TreeItem ℕ)) →
+      AddsTree (IsFilled (λ (x : ℕ) (y : T) (z : ℕ). z ≡ max x (number y)) space 0 a) old new →
       AddsTree (IsRestricted space (read_by number a)) old new
-  kept_read space a old new p = (p.0, p.1, record { made = filled_read space a p.0 p.2.made; fit = p.2.fit; pass = λ test on. p.2.pass test (passes_read test a on) })
+  kept_read space a old new p = (
+    p.0,
+    p.1,
+    record {
+      made = filled_read space a p.0 p.2.made;
+      fit = p.2.fit;
+      pass = λ test on. p.2.pass test (passes_read test a on);
+    },
+  )
 
-pub state_read : (k delay : ℕ) (a : TreeNode (Option ℕ)) → state k (read_by (time_later delay) a) ≡ later_by delay (state k a)
-state_read k delay a = ap (λ (paths : List (Path ℕ)). record { faults = k; paths = paths }) (paths_read (time_later delay) k [] a)
+pub state_read : (k delay : ℕ) (a : TreeNode (Option ℕ)) →
+    state k (read_by (time_later delay) a) ≡ later_by delay (state k a)
+state_read k delay a =
+    ap (λ (paths : List (Path ℕ)). record { faults = k; paths = paths }) (paths_read (time_later delay) k [] a)
 
-pub later_paths : (delay : ℕ) (t : TreeState (Option ℕ)) (a : TreeNode (Option ℕ)) → t.paths ≡ paths_of t.faults a → (later_by delay t).paths ≡ paths_of t.faults (read_by (time_later delay) a)
-later_paths delay t a paths = ap (λ (ps : List (Path (Option ℕ))). map (later_path delay) ps) paths ∙ sym (ap (λ (u : TreeState ℕ). u.paths) (state_read t.faults delay a))
+pub later_paths : (delay : ℕ) (t : TreeState (Option ℕ)) (a : TreeNode (Option ℕ)) → t.paths ≡ paths_of t.faults a →
+    (later_by delay t).paths ≡ paths_of t.faults (read_by (time_later delay) a)
+later_paths delay t a paths = ap (λ (ps : List (Path (Option ℕ))). map (later_path delay) ps) paths
+    ∙ sym (ap (λ (u : TreeState ℕ). u.paths) (state_read t.faults delay a))
 
 -- ---- the tree of later times
 
 module _ (delay : ℕ) (t : TreeState (Option ℕ)) where
   pub later_pass : (test : ℕ → Bool) → DoPathsPass test t.paths → DoPathsPass test (later_by delay t).paths
-  later_pass test pass = All-map (λ (p : Path ℕ). All (λ (l : Literal). test l.variable ≡ true) p.0) (later_path delay) t.paths pass
+  later_pass test pass =
+      All-map (λ (p : Path ℕ). All (λ (l : Literal). test l.variable ≡ true) p.0) (later_path delay) t.paths pass
 
   module _ (each : HasOnePathEach t.faults t.paths) where
     pub later_each : HasOnePathEach (later_by delay t).faults (later_by delay t).paths
@@ -110,14 +142,21 @@ module _ (delay : ℕ) (t : TreeState (Option ℕ)) where
       faults = refl;
       value = λ s x z few on_x on_z.
           let r = from_later s z on_z in
-          subst (λ (w : Path ℕ). w.1 ≡ time_later delay x.1) r.2 (ap (λ (y : Path (Option ℕ)). time_later delay y.1) (sym (same_path t.faults t.paths each s few x r.0 on_x r.1)));
+          subst (λ (w : Path ℕ). w.1 ≡ time_later delay x.1) r.2 (ap (λ (y : Path (Option ℕ)). time_later delay y.1)
+          (sym (same_path t.faults t.paths each s few x r.0 on_x r.1)));
       ranges = λ s x z few on_x on_z.
           let r = from_later s z on_z in
           subst (λ (w : Path ℕ). IsAsWide t.faults w.0 x.0) r.2
-          (subst (λ (y : Path (Option ℕ)). IsAsWide t.faults y.0 x.0) (same_path t.faults t.paths each s few x r.0 on_x r.1) (record { low = λ v. omega arith; high = λ v. omega arith }));
+          (subst (λ (y : Path (Option ℕ)). IsAsWide t.faults y.0 x.0)
+          (same_path t.faults t.paths each s few x r.0 on_x r.1)
+          (record { low = λ v. omega arith; high = λ v. omega arith }));
     }
       where
-        from_later : (s : Scenario) (z : Path ℕ) → IsOnPath (later_by delay t).paths s z → (x : Path (Option ℕ)) × IsOnPath t.paths s x × (later_path delay x ≡ z)
+        from_later : (s : Scenario) (z : Path ℕ) → IsOnPath (later_by delay t).paths s z →
+            (x : Path (Option ℕ)) × IsOnPath t.paths s x × (later_path delay x ≡ z)
         from_later s z on =
-            let r = Contains-map_parts (later_path delay) t.paths z on.stands in
-            (r.0, record { stands = r.1; matched = subst (λ (w : Path ℕ). IsTrue (is_on s w)) (sym r.2) on.matched }, r.2)
+            let r = Contains-map_parts (later_path delay) t.paths z on.stands in (
+              r.0,
+              record { stands = r.1; matched = subst (λ (w : Path ℕ). IsTrue (is_on s w)) (sym r.2) on.matched },
+              r.2,
+            )

@@ -1,5 +1,6 @@
 -- What a look at the leaves of a tree's list tells.
-use Rattle.std.proofs.Common.{ℕ, ◌≡◌, ◌∙◌, max, min, Bool, true, false, ◌&&◌, List, [], ◌∷◌, ◌++◌, length, arith, refl, sym, ap, append_assoc}
+use Rattle.std.proofs.Common.{ℕ, ◌≡◌, ◌∙◌, max, min, Bool, true, false, ◌&&◌, List, [], ◌∷◌, ◌++◌, length, arith, refl}
+use Rattle.std.proofs.Common.{sym, ap, append_assoc}
 use Rattle.std.specs.Prelude.{nat_le}
 use Rattle.std.proofs.lemmas.Bool.{leb-true}
 use Rattle.std.proofs.lemmas.Bool.Decides.{nat_tests}
@@ -16,7 +17,8 @@ use Rattle.cpg_tree.proofs.Greatness.{least_under, most_over}
 most_of_sides : (a b m : ℕ) → max b (max a m) ≡ max (max a b) m
 most_of_sides a b m = omega arith
 
-most-flat : {T : Type 0} (number : T → ℕ) (n : TreeNode T) (m : ℕ) (rest : List (TreeItem T)) → most_from number m (flat n ++ rest) ≡ most_from number (max (greatest_leaf number n) m) rest
+most-flat : {T : Type 0} (number : T → ℕ) (n : TreeNode T) (m : ℕ) (rest : List (TreeItem T)) →
+    most_from number m (flat n ++ rest) ≡ most_from number (max (greatest_leaf number n) m) rest
 most-flat number (Leaf x) m rest = refl
 most-flat {T} number (Fork v cut x y) m rest =
     let last : List (TreeItem T) = Cut v cut (length (flat x)) ∷ [] in
@@ -25,9 +27,11 @@ most-flat {T} number (Fork v cut x y) m rest =
     ∙ most-flat number y (max (greatest_leaf number x) m) (last ++ rest)
     ∙ ap (λ (k : ℕ). most_from number k rest) (most_of_sides (greatest_leaf number x) (greatest_leaf number y) m)
 
-pub most_is : {T : Type 0} (number : T → ℕ) (items : List (TreeItem T)) (n : TreeNode T) → items ≡ flat n → most_from number 0 items ≡ greatest_leaf number n
+pub most_is : {T : Type 0} (number : T → ℕ) (items : List (TreeItem T)) (n : TreeNode T) → items ≡ flat n →
+    most_from number 0 items ≡ greatest_leaf number n
 most_is number items n are =
-    ap (most_from number 0) (are ∙ sym (append-nil (flat n))) ∙ most-flat number n 0 [] ∙ no_more (greatest_leaf number n)
+    ap (most_from number 0) (are ∙ sym (append-nil (flat n))) ∙ most-flat number n 0 []
+    ∙ no_more (greatest_leaf number n)
   where
     no_more : (m : ℕ) → max m 0 ≡ m
     no_more m = omega arith
@@ -42,23 +46,33 @@ from-flat : {T : Type 0} (number : T → ℕ) (least : ℕ) (n : TreeNode T) (re
 from-flat number least (Leaf x) rest = refl
 from-flat {T} number least (Fork v cut x y) rest =
     let last : List (TreeItem T) = Cut v cut (length (flat x)) ∷ [] in
-    ap (are_from number least) (append_assoc (flat x ++ flat y) last rest ∙ append_assoc (flat x) (flat y) (last ++ rest))
+    ap (are_from number least)
+    (append_assoc (flat x ++ flat y) last rest ∙ append_assoc (flat x) (flat y) (last ++ rest))
     ∙ from-flat number least x (flat y ++ (last ++ rest))
     ∙ ap (λ (b : Bool). nat_le least (least_leaf number x) && b) (from-flat number least y (last ++ rest))
     ∙ from_sides least (least_leaf number x) (least_leaf number y) (are_from number least rest)
 
-pub from_is : {T : Type 0} (number : T → ℕ) (least : ℕ) (items : List (TreeItem T)) (n : TreeNode T) → items ≡ flat n → are_from number least items ≡ nat_le least (least_leaf number n)
+pub from_is : {T : Type 0} (number : T → ℕ) (least : ℕ) (items : List (TreeItem T)) (n : TreeNode T) → items ≡ flat n →
+    are_from number least items ≡ nat_le least (least_leaf number n)
 from_is number least items n are =
-    ap (are_from number least) (are ∙ sym (append-nil (flat n))) ∙ from-flat number least n [] ∙ and_true (nat_le least (least_leaf number n))
+    ap (are_from number least) (are ∙ sym (append-nil (flat n))) ∙ from-flat number least n []
+    ∙ and_true (nat_le least (least_leaf number n))
   where
     and_true : (b : Bool) → (b && true) ≡ b
     and_true true = refl
     and_true false = refl
 
-module _ {T U : Type 0} (number : T → ℕ) (other_number : U → ℕ) (own : List (TreeItem T)) (other : List (TreeItem U)) (n : TreeNode T) (m : TreeNode U) (are : own ≡ flat n) (others : other ≡ flat m)
+module _ {T U : Type 0} (number : T → ℕ) (other_number : U → ℕ) (own : List (TreeItem T)) (other : List (TreeItem U))
+    (n : TreeNode T) (m : TreeNode U) (are : own ≡ flat n) (others : other ≡ flat m)
   where
     pub at_least_is : are_from number (most_from other_number 0 other) own ≡ true → IsAtLeast number other_number n m
     at_least_is h =
         let most : ℕ = most_from other_number 0 other in
         let under : nat_le most (least_leaf number n) ≡ true = sym (from_is number most own n are) ∙ h in
-        λ s t. omega (arith, most_is other_number other m others, most_over other_number m s, least_under number n t, leb-true most (least_leaf number n) under)
+        λ s t. omega (
+          arith,
+          most_is other_number other m others,
+          most_over other_number m s,
+          least_under number n t,
+          leb-true most (least_leaf number n) under,
+        )

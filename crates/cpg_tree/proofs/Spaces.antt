@@ -1,5 +1,6 @@
 -- Which scenarios lie in a space, and on which side of a cut.
-use Rattle.std.proofs.Common.{rules, ℕ, ◌+◌, ◌-◌, ◌<◌, ◌≤◌, ◌≡◌, ◌≢◌, Bool, true, false, ◌||◌, nat_lt, List, get_or, sum_by, length, arith, refl, sym, ap, ◌∙◌, subst, inl, inr, lt-ltb, le-ltb}
+use Rattle.std.proofs.Common.{rules, ℕ, ◌+◌, ◌-◌, ◌<◌, ◌≤◌, ◌≡◌, ◌≢◌, Bool, true, false, ◌||◌, nat_lt, List, get_or}
+use Rattle.std.proofs.Common.{sum_by, length, arith, refl, sym, ap, ◌∙◌, subst, inl, inr, lt-ltb, le-ltb}
 use Rattle.std.specs.Prelude.{nat_le, slice_set}
 use Rattle.std.specs.Bool.{OnFalse}
 use Rattle.std.proofs.lemmas.Bool.{cases_lt, cases_eq, or_parts, cond-true, cond-false, leb-true, le-leb, both_ways}
@@ -43,7 +44,9 @@ module _ (space : Space) (s : Scenario) (lies : IsInSpace space s) (v cut : ℕ)
 -- ---- a list with one number changed
 
 -- with a higher low of one count there are as many fewer faults beyond the lows
-fewer_left : (new old low cut faults left : ℕ) → new + (faults - low) ≡ old + (faults - (cut + 1)) → old ≤ left → low ≤ cut → cut < faults → new ≤ left - (cut + 1 - low)
+fewer_left : (new old low cut faults left : ℕ) → new + (faults - low) ≡ old + (faults - (cut + 1)) → old ≤ left →
+    low ≤ cut → cut < faults →
+    new ≤ left - (cut + 1 - low)
 fewer_left new old low cut faults left changed most below above = omega arith
 
 module _ (xs : List ℕ) (v y u : ℕ) where
@@ -67,7 +70,8 @@ module _ (space : Space) (s : Scenario) (lies : IsInSpace space s) (v cut : ℕ)
     left = lies.left;
   }
 
-  pub lies_above : length space.low ≡ 256 → is_open_below space v cut ≡ true → cut < number_of s v → IsInSpace (above_cut space v cut) s
+  pub lies_above : length space.low ≡ 256 → is_open_below space v cut ≡ true → cut < number_of s v →
+      IsInSpace (above_cut space v cut) s
   lies_above long under h = record {
     low = λ u l. elim (cases_eq u v) [
       | inl e ↦ omega (arith, set_same space.low v (cut + 1) u (omega (arith, long, there)) e, h, ap (number_of s) e)
@@ -76,27 +80,37 @@ module _ (space : Space) (s : Scenario) (lies : IsInSpace space s) (v cut : ℕ)
     high = lies.high;
     left = elim (cases_lt v 128) [
       | inl l ↦
-          let changed = sum_changed (beyond (above_cut space v cut) s) (beyond space s) 128 v l (λ u n. ap (λ m. fault_of s u - m) (set_other space.low v (cut + 1) u n)) in
-          let here = ap (λ m. sum_by (beyond space s) (numbers_below 128) + (fault_of s v - m)) (set_same space.low v (cut + 1) v (omega (arith, long, there)) refl) in
-          subst (λ n. sum_by (beyond (above_cut space v cut) s) (numbers_below 128) ≤ space.left - n) (sym (cond-true (nat_lt v 128) (cut + 1 - get_or space.low v 0) 0 (lt-ltb v 128 l)))
-          (fewer_left _ _ (get_or space.low v 0) cut (fault_of s v) space.left (changed ∙ here) lies.left (leb-true (get_or space.low v 0) cut under) (subst (λ n. cut < n) (number_of-fault s v l) h))
+          let changed = sum_changed (beyond (above_cut space v cut) s) (beyond space s) 128 v l
+          (λ u n. ap (λ m. fault_of s u - m) (set_other space.low v (cut + 1) u n)) in
+          let here = ap (λ m. sum_by (beyond space s) (numbers_below 128) + (fault_of s v - m))
+          (set_same space.low v (cut + 1) v (omega (arith, long, there)) refl) in
+          subst (λ n. sum_by (beyond (above_cut space v cut) s) (numbers_below 128) ≤ space.left - n)
+          (sym (cond-true (nat_lt v 128) (cut + 1 - get_or space.low v 0) 0 (lt-ltb v 128 l)))
+          (fewer_left _ _ (get_or space.low v 0) cut (fault_of s v) space.left (changed ∙ here) lies.left
+          (leb-true (get_or space.low v 0) cut under) (subst (λ n. cut < n) (number_of-fault s v l) h))
       | inr l ↦
           let same = same_sum_by (beyond (above_cut space v cut) s) (beyond space s) (numbers_below 128)
-          (λ u c. ap (λ m. fault_of s u - m) (set_other space.low v (cut + 1) u (λ e. omega (arith, numbers-Contains 128 u c, e, l)))) in
-          subst (λ n. sum_by (beyond (above_cut space v cut) s) (numbers_below 128) ≤ space.left - n) (sym (cond-false (nat_lt v 128) (cut + 1 - get_or space.low v 0) 0 (le-ltb v 128 l)))
+          (λ u c. ap (λ m. fault_of s u - m)
+          (set_other space.low v (cut + 1) u (λ e. omega (arith, numbers-Contains 128 u c, e, l)))) in
+          subst (λ n. sum_by (beyond (above_cut space v cut) s) (numbers_below 128) ≤ space.left - n)
+          (sym (cond-false (nat_lt v 128) (cut + 1 - get_or space.low v 0) 0 (le-ltb v 128 l)))
           (subst (λ n. n ≤ space.left - 0) (sym same) (none_less _ space.left lies.left))
     ];
   }
 
 -- what is above a cut lies in a space that was closed above it, put back and closed below it
-pub lies_reopened : (space shut inner opened upper : Space) (v high cut : ℕ) → below_cut shut v high ≡ space → inner ≡ shut → opened ≡ below_cut inner v high →
+pub lies_reopened : (space shut inner opened upper : Space) (v high cut : ℕ) → below_cut shut v high ≡ space →
+    inner ≡ shut →
+    opened ≡ below_cut inner v high →
     ((s : Scenario) → IsInSpace opened s → cut < number_of s v → IsInSpace upper s) →
     (s : Scenario) → IsInSpace space s → cut < number_of s v → IsInSpace upper s
 lies_reopened space shut inner opened upper v high cut back same put lies_upper s lies h =
     lies_upper s (subst (λ r. IsInSpace r s) (sym (put ∙ ap (λ r. below_cut r v high) same ∙ back)) lies) h
 
 -- what is left above the cut then
-pub above_reopened : (space shut inner opened upper : Space) (v high cut : ℕ) → below_cut shut v high ≡ space → inner ≡ shut → opened ≡ below_cut inner v high → upper ≡ above_cut opened v cut →
+pub above_reopened : (space shut inner opened upper : Space) (v high cut : ℕ) → below_cut shut v high ≡ space →
+    inner ≡ shut → opened ≡ below_cut inner v high →
+    upper ≡ above_cut opened v cut →
     upper ≡ above_cut space v cut
 above_reopened space shut inner opened upper v high cut back same reopened closed =
     closed ∙ ap (λ (r : Space). above_cut r v cut) (reopened ∙ ap (λ (r : Space). below_cut r v high) same ∙ back)
@@ -119,7 +133,9 @@ module _ (k : ℕ) (s : Scenario) (few : HasAtMostFaults k s) where
     )
   ]
 
-  pub lies_whole : (space : Space) → ((v : ℕ) → v < 256 → get_or space.low v 0 ≡ 0) → ((v : ℕ) → v < 128 → get_or space.high v 0 ≡ k) → ((v : ℕ) → 128 ≤ v → v < 256 → get_or space.high v 0 ≡ 1) →
+  pub lies_whole : (space : Space) → ((v : ℕ) → v < 256 → get_or space.low v 0 ≡ 0) →
+      ((v : ℕ) → v < 128 → get_or space.high v 0 ≡ k) →
+      ((v : ℕ) → 128 ≤ v → v < 256 → get_or space.high v 0 ≡ 1) →
       space.left ≡ k → IsInSpace space s
   lies_whole space lows counts values left = record {
     low = λ v l. omega (arith, lows v l);
@@ -132,7 +148,13 @@ module _ (k : ℕ) (s : Scenario) (few : HasAtMostFaults k s) where
         number_of_value-le (get_or s.values (v - 128) false),
       )
     ];
-    left = omega (arith, same_sum_by (beyond space s) (fault_of s) (numbers_below 128) (λ p c. omega (arith, lows p (omega (arith, numbers-Contains 128 p c)))), few, left);
+    left = omega (
+      arith,
+      same_sum_by (beyond space s) (fault_of s) (numbers_below 128)
+          (λ p c. omega (arith, lows p (omega (arith, numbers-Contains 128 p c)))),
+      few,
+      left,
+    );
   }
 
 -- what holds if a test fails

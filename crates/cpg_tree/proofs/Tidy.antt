@@ -15,24 +15,30 @@ use Rattle.cpg_tree.specs.Decision.{IsFit, IsGood}
 use Rattle.cpg_tree.specs.Paths.{up_to, above, paths_from, paths_of}
 use Rattle.cpg_tree.specs.Tree.{Path}
 use Rattle.cpg_cube.proofs.Narrowed.{low-other, low-same, high-other, high-same}
-use Rattle.cpg_tree.proofs.OpenSpaces.{IsOpenSpace, CoversSpace, opens_below, opens_above, covers_below, covers_above, whole_opens, whole_covers, cut_under}
+use Rattle.cpg_tree.proofs.OpenSpaces.{IsOpenSpace, CoversSpace, opens_below, opens_above, covers_below, covers_above}
+use Rattle.cpg_tree.proofs.OpenSpaces.{whole_opens, whole_covers, cut_under}
 
 -- each literal's range is a part of the whole one
 abbrev IsNarrowed : ℕ → List Literal → Type 0
-IsNarrowed k cube = (l : Literal) → Contains cube l → (l.variable < 256) × ((0 < low_in cube l.variable) ⊎ (high_in k cube l.variable < top k l.variable))
+IsNarrowed k cube = (l : Literal) → Contains cube l →
+    (l.variable < 256) × ((0 < low_in cube l.variable) ⊎ (high_in k cube l.variable < top k l.variable))
 
 -- on a variable a cube says less than the whole range
 abbrev Says : ℕ → List Literal → ℕ → Type 0
 Says k cube v = (0 < low_in cube v) ⊎ (high_in k cube v < top k v)
 
-part_narrowed : (k : ℕ) (l : Literal) (cube : List Literal) → l.variable < 256 → Says k (narrowed_by l cube) l.variable → IsNarrowed k cube → IsNarrowed k (narrowed_by l cube)
+part_narrowed : (k : ℕ) (l : Literal) (cube : List Literal) → l.variable < 256 →
+    Says k (narrowed_by l cube) l.variable → IsNarrowed k cube →
+    IsNarrowed k (narrowed_by l cube)
 part_narrowed k l cube there says part x c = elim (cases_eq l.variable x.variable) [
   | inl e ↦ (omega (arith, e, there), subst (Says k (narrowed_by l cube)) e says)
   | inr n ↦ elim (variables_of_narrowed l cube x c) [
     | inl e ↦ absurd (n e)
     | inr r ↦
-        let old = part r.0 r.1 in
-        (omega (arith, r.2, old.0), subst (Says k (narrowed_by l cube)) r.2 (still r.0.variable (λ e. n (e ∙ r.2)) old.1))
+        let old = part r.0 r.1 in (
+          omega (arith, r.2, old.0),
+          subst (Says k (narrowed_by l cube)) r.2 (still r.0.variable (λ e. n (e ∙ r.2)) old.1),
+        )
   ]
 ]
   where
@@ -45,28 +51,41 @@ pub record IsPathAround (k : ℕ) (cube : List Literal) : Type 0 where
   pub space : Space
   pub is : IsOpenSpace k space
   pub covers : CoversSpace k space cube
-  pub part : (l : Literal) → Contains cube l → (l.variable < 256) × ((0 < low_in cube l.variable) ⊎ (high_in k cube l.variable < top k l.variable))
+  pub part : (l : Literal) → Contains cube l →
+      (l.variable < 256) × ((0 < low_in cube l.variable) ⊎ (high_in k cube l.variable < top k l.variable))
 
-pub tidy_paths : {T : Type 0} (k : ℕ) (node : TreeNode T) (space : Space) (cube : List Literal) → IsOpenSpace k space → CoversSpace k space cube → IsNarrowed k cube → IsFit space node → (x : Path T) →
+pub tidy_paths : {T : Type 0} (k : ℕ) (node : TreeNode T) (space : Space) (cube : List Literal) → IsOpenSpace k space →
+    CoversSpace k space cube → IsNarrowed k cube → IsFit space node → (x : Path T) →
     Contains (paths_from k cube node) x → IsPathAround k x.0
 tidy_paths {T} k (Leaf y) space cube is covers part fit x c = elim (Contains-cases (cube, y) [] x c) [
-  | inl e ↦ subst (λ (z : Path T). IsPathAround k z.0) e (record { space = space; is = is; covers = covers; part = part })
+  | inl e ↦
+      subst (λ (z : Path T). IsPathAround k z.0) e (record { space = space; is = is; covers = covers; part = part })
   | inr none ↦ absurd (Contains-nil x none)
 ]
 tidy_paths k (Fork v cut below upper) space cube is covers part fit x c =
-    elim (Contains-append_cases (paths_from k (narrowed_by (up_to v cut) cube) below) (paths_from k (narrowed_by (above k v cut) cube) upper) x c) [
-      | inl i ↦ tidy_paths k below (below_cut space v cut) (narrowed_by (up_to v cut) cube) (opens_below k space is v cut fit.0 fit.1 fit.2)
+    elim (Contains-append_cases (paths_from k (narrowed_by (up_to v cut) cube) below)
+    (paths_from k (narrowed_by (above k v cut) cube) upper) x c) [
+      | inl i ↦ tidy_paths k below (below_cut space v cut) (narrowed_by (up_to v cut) cube)
+          (opens_below k space is v cut fit.0 fit.1 fit.2)
           (covers_below k space is v cut fit.0 fit.1 fit.2 cube covers)
           (part_narrowed k (up_to v cut) cube fit.0
-          (inr (omega (arith, high-same k (up_to v cut) cube covers.rising (omega (arith, cut_under k space is v cut fit.0 fit.1 fit.2)), cut_under k space is v cut fit.0 fit.1 fit.2))) part)
+          (inr (omega (
+            arith,
+            high-same k (up_to v cut) cube covers.rising (omega (arith, cut_under k space is v cut fit.0 fit.1 fit.2)),
+            cut_under k space is v cut fit.0 fit.1 fit.2,
+          ))) part)
           fit.3 x i
-      | inr i ↦ tidy_paths k upper (above_cut space v cut) (narrowed_by (above k v cut) cube) (opens_above k space is v cut fit.0 fit.1 fit.2)
+      | inr i ↦ tidy_paths k upper (above_cut space v cut) (narrowed_by (above k v cut) cube)
+          (opens_above k space is v cut fit.0 fit.1 fit.2)
           (covers_above k space is v cut fit.0 fit.1 fit.2 cube covers)
-          (part_narrowed k (above k v cut) cube fit.0 (inl (omega (arith, low-same k (above k v cut) cube covers.rising))) part) fit.4 x i
+          (part_narrowed k (above k v cut) cube fit.0
+          (inl (omega (arith, low-same k (above k v cut) cube covers.rising))) part) fit.4 x i
     ]
 
-pub tidy_of : {T : Type 0} (k : ℕ) (node : TreeNode T) → IsGood k node → (x : Path T) → Contains (paths_of k node) x → IsPathAround k x.0
-tidy_of k node good = tidy_paths k node good.0 [] (whole_opens k good.0 good.1) (whole_covers k good.0 good.1) (λ l c. absurd (Contains-nil l c)) good.2
+pub tidy_of : {T : Type 0} (k : ℕ) (node : TreeNode T) → IsGood k node → (x : Path T) → Contains (paths_of k node) x →
+    IsPathAround k x.0
+tidy_of k node good = tidy_paths k node good.0 [] (whole_opens k good.0 good.1) (whole_covers k good.0 good.1)
+    (λ l c. absurd (Contains-nil l c)) good.2
 
 -- ---- so it has no whole literal, and none past the whole range
 

@@ -1,5 +1,6 @@
 -- What each path of a tree that fits is, in the words that callers read.
-use Rattle.std.proofs.Common.{ℕ, zero, suc, ◌+◌, ◌-◌, ◌<◌, ◌≤◌, ◌≡◌, true, false, nat_lt, get_or, map, List, Contains, arith, refl, ap, ◌∙◌, inl, inr, lt-ltb, le-ltb}
+use Rattle.std.proofs.Common.{ℕ, zero, suc, ◌+◌, ◌-◌, ◌<◌, ◌≤◌, ◌≡◌, true, false, nat_lt, get_or, map, List, Contains}
+use Rattle.std.proofs.Common.{arith, refl, ap, ◌∙◌, inl, inr, lt-ltb, le-ltb}
 use Rattle.std.specs.Prelude.{All}
 use Rattle.std.proofs.lemmas.Bool.{cases_lt, cond-true, cond-false}
 use Rattle.std.proofs.lemmas.List.Elements.{Contains-get_or}
@@ -40,23 +41,28 @@ lowest_faults : (space : Space) (p : ℕ) → p < 128 → fault_of (lowest space
 unfolding lowest
 lowest_faults space p l = get_or-map-below (λ p. get_or space.low p 0) 128 p 0 l
 
-lowest_values : (space : Space) (v : ℕ) → 128 ≤ v → v < 256 → get_or space.low v 0 ≤ 1 → number_of_value (get_or (lowest space).values (v - 128) false) ≡ get_or space.low v 0
+lowest_values : (space : Space) (v : ℕ) → 128 ≤ v → v < 256 → get_or space.low v 0 ≤ 1 →
+    number_of_value (get_or (lowest space).values (v - 128) false) ≡ get_or space.low v 0
 unfolding lowest
 lowest_values space v m l h =
-    ap number_of_value (get_or-map-below (λ c. nat_lt 0 (get_or space.low (128 + c) 0)) 128 (v - 128) false (omega (arith, m, l)))
+    ap number_of_value
+    (get_or-map-below (λ c. nat_lt 0 (get_or space.low (128 + c) 0)) 128 (v - 128) false (omega (arith, m, l)))
     ∙ ap (λ u. number_of_value (nat_lt 0 (get_or space.low u 0))) (back v m)
     ∙ bit (get_or space.low v 0) h
 
 module _ (k : ℕ) (space : Space) (is : IsOpenSpace k space) where
   lowest_is : (v : ℕ) → v < 256 → number_of (lowest space) v ≡ get_or space.low v 0
   lowest_is v l = elim (cases_lt v 128) [
-    | inl m ↦ cond-true (nat_lt v 128) (fault_of (lowest space) v) (number_of_value (get_or (lowest space).values (v - 128) false)) (lt-ltb v 128 m) ∙ lowest_faults space v m
-    | inr m ↦ cond-false (nat_lt v 128) (fault_of (lowest space) v) (number_of_value (get_or (lowest space).values (v - 128) false)) (le-ltb v 128 m)
+    | inl m ↦ cond-true (nat_lt v 128) (fault_of (lowest space) v)
+        (number_of_value (get_or (lowest space).values (v - 128) false)) (lt-ltb v 128 m) ∙ lowest_faults space v m
+    | inr m ↦ cond-false (nat_lt v 128) (fault_of (lowest space) v)
+        (number_of_value (get_or (lowest space).values (v - 128) false)) (le-ltb v 128 m)
         ∙ lowest_values space v m l (omega (arith, is.opens v l, is.tops v l, top_of_value k v m))
   ]
 
   lowest_few : HasAtMostFaults k (lowest space)
-  lowest_few = fewer _ _ space.left (same_sum_by (fault_of (lowest space)) (λ p. get_or space.low p 0) (numbers_below 128) (λ p c. lowest_faults space p (omega (arith, numbers-Contains 128 p c))))
+  lowest_few = fewer _ _ space.left (same_sum_by (fault_of (lowest space)) (λ p. get_or space.low p 0)
+      (numbers_below 128) (λ p c. lowest_faults space p (omega (arith, numbers-Contains 128 p c))))
       is.budget
     where
       fewer : (new old left : ℕ) → new ≡ old → old + left ≤ k → new ≤ k

@@ -1,5 +1,6 @@
 -- What is added of two trees where a chooser is true.
-use Rattle.std.proofs.Common.{ℕ, ◌<◌, ◌≤◌, ◌≡◌, List, [], ◌∷◌, ◌++◌, length, Bool, true, false, refl, sym, ap, ◌∙◌, subst}
+use Rattle.std.proofs.Common.{ℕ, ◌<◌, ◌≤◌, ◌≡◌, List, [], ◌∷◌, ◌++◌, length, Bool, true, false, refl, sym, ap, ◌∙◌}
+use Rattle.std.proofs.Common.{subst}
 use Rattle.cpg_base.specs.Scenario.{Scenario, number_of}
 use Rattle.cpg_tree.specs.Added.{AddsTree, ForksEnd}
 use Rattle.cpg_tree.specs.AddedInBoth.{IsJoinedIn, IsJoinedWhere}
@@ -15,10 +16,12 @@ use Rattle.cpg_tree.proofs.Forks.{passes_parts}
 use Rattle.cpg_tree.proofs.JoinLaws.{split_of}
 use Rattle.cpg_tree.proofs.Where.{where_above, where_below, where_fork, where_off, where_on}
 
-module _ {T U V : Type 0} (answers : T → U → V → Type 0) (none : V) (spaces : SpacePair) (c : TreeNode Bool) (items : List (TreeItem Bool)) (are : items ≡ flat c) (n : TreeNode T) (m : TreeNode U)
+module _ {T U V : Type 0} (answers : T → U → V → Type 0) (none : V) (spaces : SpacePair) (c : TreeNode Bool)
+    (items : List (TreeItem Bool)) (are : items ≡ flat c) (n : TreeNode T) (m : TreeNode U)
     (old new : List (TreeItem V)) where
   -- one value
-  pub where_value_on : items ≡ flat (Leaf true) → AddsTree (IsJoinedIn answers spaces n m) old new → AddsTree (IsJoinedWhere answers none spaces c n m) old new
+  pub where_value_on : items ≡ flat (Leaf true) → AddsTree (IsJoinedIn answers spaces n m) old new →
+      AddsTree (IsJoinedWhere answers none spaces c n m) old new
   where_value_on is p = (
     p.0,
     p.1,
@@ -29,7 +32,8 @@ module _ {T U V : Type 0} (answers : T → U → V → Type 0) (none : V) (space
     },
   )
 
-  pub where_value_off : items ≡ flat (Leaf false) → new ≡ old ++ (Value none ∷ []) → AddsTree (IsJoinedWhere answers none spaces c n m) old new
+  pub where_value_off : items ≡ flat (Leaf false) → new ≡ old ++ (Value none ∷ []) →
+      AddsTree (IsJoinedWhere answers none spaces c n m) old new
   where_value_off is added = (
     Leaf none,
     added,
@@ -45,7 +49,8 @@ module _ {T U V : Type 0} (answers : T → U → V → Type 0) (none : V) (space
     fork_is : c ≡ Fork v cut x y
     fork_is = flat-same c (Fork v cut x y) (sym are ∙ is)
 
-    pub where_side_below : ((s : Scenario) → IsInSpace spaces.asked s → number_of s v ≤ cut) → AddsTree (IsJoinedWhere answers none spaces x n m) old new
+    pub where_side_below : ((s : Scenario) → IsInSpace spaces.asked s → number_of s v ≤ cut) →
+        AddsTree (IsJoinedWhere answers none spaces x n m) old new
         → AddsTree (IsJoinedWhere answers none spaces c n m) old new
     where_side_below only p = (
       p.0,
@@ -57,7 +62,8 @@ module _ {T U V : Type 0} (answers : T → U → V → Type 0) (none : V) (space
       },
     )
 
-    pub where_side_above : ((s : Scenario) → IsInSpace spaces.asked s → cut < number_of s v) → AddsTree (IsJoinedWhere answers none spaces y n m) old new
+    pub where_side_above : ((s : Scenario) → IsInSpace spaces.asked s → cut < number_of s v) →
+        AddsTree (IsJoinedWhere answers none spaces y n m) old new
         → AddsTree (IsJoinedWhere answers none spaces c n m) old new
     where_side_above only p = (
       p.0,
@@ -69,19 +75,26 @@ module _ {T U V : Type 0} (answers : T → U → V → Type 0) (none : V) (space
       },
     )
 
-    module _ (shut upper : SpacePair) (under : is_open_below spaces.asked v cut ≡ true) (over : is_open_above spaces.asked v cut ≡ true) (shut_is : shut.asked ≡ below_cut spaces.asked v cut)
-        (upper_is : upper.asked ≡ above_cut spaces.asked v cut) (lies_shut : (s : Scenario) → IsInBothSpaces spaces s → number_of s v ≤ cut → IsInBothSpaces shut s)
+    module _ (shut upper : SpacePair) (under : is_open_below spaces.asked v cut ≡ true)
+        (over : is_open_above spaces.asked v cut ≡ true) (shut_is : shut.asked ≡ below_cut spaces.asked v cut)
+        (upper_is : upper.asked ≡ above_cut spaces.asked v cut)
+        (lies_shut : (s : Scenario) → IsInBothSpaces spaces s → number_of s v ≤ cut → IsInBothSpaces shut s)
         (lies_upper : (s : Scenario) → IsInBothSpaces spaces s → cut < number_of s v → IsInBothSpaces upper s)
-        (start middle : ℕ) (lower higher : List (TreeItem V)) (first : start ≡ length old) (second : middle ≡ length lower) (forks : ForksEnd start middle v cut higher new) where
-      pub where_both_sides : AddsTree (IsJoinedWhere answers none shut x n m) old lower → AddsTree (IsJoinedWhere answers none upper y n m) lower higher
+        (start middle : ℕ) (lower higher : List (TreeItem V)) (first : start ≡ length old)
+        (second : middle ≡ length lower) (forks : ForksEnd start middle v cut higher new) where
+      pub where_both_sides : AddsTree (IsJoinedWhere answers none shut x n m) old lower →
+          AddsTree (IsJoinedWhere answers none upper y n m) lower higher
           → AddsTree (IsJoinedWhere answers none spaces c n m) old new
       where_both_sides one two =
-          let fork = forks old one.0 two.0 (split_of start middle old lower higher one.0 two.0 one.1 two.1 first second) in (
+          let fork =
+          forks old one.0 two.0 (split_of start middle old lower higher one.0 two.0 one.1 two.1 first second) in (
             fork.0,
             fork.1,
             record {
-              made = where_fork answers none spaces n m v cut x y c fork_is fork.0 shut upper one.0 two.0 one.2.made two.2.made fork.2.made lies_shut lies_upper;
-              fit = fork.2.fit spaces.asked under over (subst (λ (space : Space). IsFit space one.0) shut_is one.2.fit) (subst (λ (space : Space). IsFit space two.0) upper_is two.2.fit);
+              made = where_fork answers none spaces n m v cut x y c fork_is fork.0 shut upper one.0 two.0 one.2.made
+                  two.2.made fork.2.made lies_shut lies_upper;
+              fit = fork.2.fit spaces.asked under over (subst (λ (space : Space). IsFit space one.0) shut_is one.2.fit)
+                  (subst (λ (space : Space). IsFit space two.0) upper_is two.2.fit);
               pass = λ test chooser own other.
                   let parts = passes_parts test v cut x y c fork_is chooser in
                   fork.2.pass test parts.0 (one.2.pass test parts.1 own other) (two.2.pass test parts.2 own other);

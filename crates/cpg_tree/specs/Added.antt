@@ -20,19 +20,22 @@ pub record IsForked {T : Type 0} (v cut : ℕ) (below above r : TreeNode T) : Ty
   pub pass : (test : ℕ → Bool) → test v ≡ true → DoForksPass test below → DoForksPass test above → DoForksPass test r
 
 -- a list that ends in the lists of two trees, from a start and a middle on
-pub record IsSplit {T : Type 0} (start middle : ℕ) (items before : List (TreeItem T)) (below above : TreeNode T) : Type 0 where
+pub record IsSplit {T : Type 0} (start middle : ℕ) (items before : List (TreeItem T))
+    (below above : TreeNode T) : Type 0 where
   pub is : items ≡ before ++ flat below ++ flat above
   pub first : start ≡ length before
   pub second : middle ≡ length before + length (flat below)
 
 -- in the place of two trees at the end of a list, wherever it is split, a fork of them
 abbrev pub ForksEnd : {T : Type 0} → ℕ → ℕ → ℕ → ℕ → List (TreeItem T) → List (TreeItem T) → Type 0
-ForksEnd {T} start middle v cut old new = (before : List (TreeItem T)) (below above : TreeNode T) → IsSplit start middle old before below above →
+ForksEnd {T} start middle v cut old new =
+    (before : List (TreeItem T)) (below above : TreeNode T) → IsSplit start middle old before below above →
     AddsTree (IsForked v cut below above) before new
 
 -- the side below again, as the side below of a fork on the same variable farther up
 abbrev pub RepeatsBelow : {T : Type 0} → List (TreeItem T) → List (TreeItem T) → ℕ → ℕ → Type 0
-RepeatsBelow {T} below above v cut = (far : ℕ) × (rest : List (TreeItem T)) × (cut < far) × (above ≡ below ++ rest ++ (Cut v far (length below) ∷ []))
+RepeatsBelow {T} below above v cut =
+    (far : ℕ) × (rest : List (TreeItem T)) × (cut < far) × (above ≡ below ++ rest ++ (Cut v far (length below) ∷ []))
 
 -- the answers of a function to the values of a tree
 pub record IsMapped {T U : Type 0} (answers : T → U → Type 0) (a : TreeNode T) (r : TreeNode U) : Type 0 where
@@ -56,13 +59,15 @@ pub record IsRestricted {T : Type 0} (space : Space) (a r : TreeNode T) : Type 0
   pub pass : (test : ℕ → Bool) → DoForksPass test a → DoForksPass test r
 
 -- the answers of a function to a value and the values of a tree, for the scenarios of a space
-pub record IsFilled {T U V : Type 0} (answers : T → U → V → Type 0) (space : Space) (x : T) (b : TreeNode U) (r : TreeNode V) : Type 0 where
+pub record IsFilled {T U V : Type 0} (answers : T → U → V → Type 0) (space : Space) (x : T) (b : TreeNode U)
+    (r : TreeNode V) : Type 0 where
   pub made : IsFillOf answers space x b r
   pub fit : IsFit space r
   pub pass : (test : ℕ → Bool) → DoForksPass test b → DoForksPass test r
 
 -- the answers of a function to the values of two trees, for the scenarios of a space
-pub record IsJoined {T U V : Type 0} (answers : T → U → V → Type 0) (space : Space) (a : TreeNode T) (b : TreeNode U) (r : TreeNode V) : Type 0 where
+pub record IsJoined {T U V : Type 0} (answers : T → U → V → Type 0) (space : Space) (a : TreeNode T) (b : TreeNode U)
+    (r : TreeNode V) : Type 0 where
   pub made : IsJoinOf answers space a b r
   pub fit : IsFit space r
   pub pass : (test : ℕ → Bool) → DoForksPass test a → DoForksPass test b → DoForksPass test r
@@ -71,4 +76,5 @@ pub record IsJoined {T U V : Type 0} (answers : T → U → V → Type 0) (space
 pub record IsPicked {T : Type 0} (space : Space) (chooser : TreeNode Bool) (on off r : TreeNode T) : Type 0 where
   pub made : IsPickOf space chooser on off r
   pub fit : IsFit space r
-  pub pass : (test : ℕ → Bool) → DoForksPass test chooser → DoForksPass test on → DoForksPass test off → DoForksPass test r
+  pub pass : (test : ℕ → Bool) → DoForksPass test chooser → DoForksPass test on → DoForksPass test off →
+      DoForksPass test r

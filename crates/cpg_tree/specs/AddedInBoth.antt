@@ -13,16 +13,19 @@ use Rattle.cpg_tree.specs.declared.item.TreeItem.{TreeItem}
 
 -- the list of the part of a tree that a space comes to, and the spans of its forks if the tree's spans are given
 abbrev pub IsBoundedPartList : {T : Type 0} → Space → TreeNode T → List Span → List (TreeItem T) → List Span → Type 0
-IsBoundedPartList {T} space a bounds part spans = (r : TreeNode T) × (part ≡ flat r) × IsPartInSpace space a r × ((number : T → ℕ) → bounds ≡ bounds_in number a → spans ≡ bounds_in number r)
+IsBoundedPartList {T} space a bounds part spans = (r : TreeNode T) × (part ≡ flat r) × IsPartInSpace space a r ×
+    ((number : T → ℕ) → bounds ≡ bounds_in number a → spans ≡ bounds_in number r)
 
 -- the answers of a function to the values of two trees
-pub record IsJoinedIn {T U V : Type 0} (answers : T → U → V → Type 0) (spaces : SpacePair) (a : TreeNode T) (b : TreeNode U) (r : TreeNode V) : Type 0 where
+pub record IsJoinedIn {T U V : Type 0} (answers : T → U → V → Type 0) (spaces : SpacePair) (a : TreeNode T)
+    (b : TreeNode U) (r : TreeNode V) : Type 0 where
   pub made : IsJoinIn answers (IsInBothSpaces spaces) a b r
   pub fit : IsFit spaces.asked r
   pub pass : (test : ℕ → Bool) → DoForksPass test a → DoForksPass test b → DoForksPass test r
 
 -- such answers where a chooser is true, and one value elsewhere
-pub record IsJoinedWhere {T U V : Type 0} (answers : T → U → V → Type 0) (none : V) (spaces : SpacePair) (chooser : TreeNode Bool) (a : TreeNode T) (b : TreeNode U) (r : TreeNode V) : Type 0 where
+pub record IsJoinedWhere {T U V : Type 0} (answers : T → U → V → Type 0) (none : V) (spaces : SpacePair)
+    (chooser : TreeNode Bool) (a : TreeNode T) (b : TreeNode U) (r : TreeNode V) : Type 0 where
   pub made : IsJoinWhereOf answers none (IsInBothSpaces spaces) chooser a b r
   pub fit : IsFit spaces.asked r
   pub pass : (test : ℕ → Bool) → DoForksPass test chooser → DoForksPass test a → DoForksPass test b → DoForksPass test r

@@ -24,4 +24,5 @@ IsBounded {T} number items bounds = (n : TreeNode T) × (items ≡ flat n) × (b
 
 -- the spans of both sides of a fork: the first `forks` of them are those of the side below
 abbrev pub AreSpansOfSides : List Span → ℕ → List Span → List Span → Type 0
-AreSpansOfSides bounds forks below above = (front back : List Span) (fork : Span) → bounds ≡ front ++ back ++ (fork ∷ []) → forks ≡ length front → (below ≡ front) × (above ≡ back)
+AreSpansOfSides bounds forks below above = (front back : List Span) (fork : Span) →
+    bounds ≡ front ++ back ++ (fork ∷ []) → forks ≡ length front → (below ≡ front) × (above ≡ back)

@@ -25,7 +25,8 @@ high_at k (Fork u cut below above) s v = if nat_le (number_of s u) cut
 -- each side of each fork is met by some scenario of the space that comes there
 abbrev pub IsFit : {T : Type 0} → Space → TreeNode T → Type 0
 IsFit space (Leaf x) = Unit {0}
-IsFit space (Fork v cut below above) = (v < 256) × (is_open_below space v cut ≡ true) × (is_open_above space v cut ≡ true) ×
+IsFit space (Fork v cut below above) =
+    (v < 256) × (is_open_below space v cut ≡ true) × (is_open_above space v cut ≡ true) ×
     IsFit (below_cut space v cut) below × IsFit (above_cut space v cut) above
 
 -- each side of each fork is met by some scenario of at most k faults that comes there

@@ -17,7 +17,8 @@ IsFlat {T} items = (n : TreeNode T) × (items ≡ flat n)
 -- the top of the tree that a list is of
 abbrev pub ShowsTop : {T : Type 0} → List (TreeItem T) → Top T → Type 0
 ShowsTop items (TopValue x) = items ≡ flat (Leaf x)
-ShowsTop {T} items (TopCut v cut below above) = (x : TreeNode T) × (y : TreeNode T) × (below.now ≡ flat x) × (above.now ≡ flat y) × (items ≡ flat (Fork v cut x y))
+ShowsTop {T} items (TopCut v cut below above) =
+    (x : TreeNode T) × (y : TreeNode T) × (below.now ≡ flat x) × (above.now ≡ flat y) × (items ≡ flat (Fork v cut x y))
 
 -- the lists of the sides are shorter
 abbrev pub IsLess : {T : Type 0} → List (TreeItem T) → Top T → Type 0

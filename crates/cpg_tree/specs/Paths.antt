@@ -16,7 +16,8 @@ above k v cut = record { variable = v; low = cut + 1; high = top k v }
 -- the paths on from a cube
 abbrev pub paths_from : {T : Type 0} → ℕ → List Literal → TreeNode T → List (List Literal × T)
 paths_from k cube (Leaf x) = (cube, x) ∷ []
-paths_from k cube (Fork v cut lower upper) = paths_from k (narrowed_by (up_to v cut) cube) lower ++ paths_from k (narrowed_by (above k v cut) cube) upper
+paths_from k cube (Fork v cut lower upper) =
+    paths_from k (narrowed_by (up_to v cut) cube) lower ++ paths_from k (narrowed_by (above k v cut) cube) upper
 
 -- all paths
 abbrev pub paths_of : {T : Type 0} → ℕ → TreeNode T → List (List Literal × T)

@@ -18,7 +18,8 @@ pub record IsForkOf {T : Type 0} (v cut : ℕ) (below above r : TreeNode T) : Ty
   pub high_above : (k : ℕ) (s : Scenario) (u : ℕ) → cut < number_of s v → high_at k above s u ≤ high_at k r s u
 
 -- in the scenarios of a domain the tree's value has a fact, and its range of each variable contains a given one
-pub record IsResultTree {T : Type 0} (domain : Scenario → Type 0) (fact : Scenario → T → Type 0) (low : Scenario → ℕ → ℕ)
+pub record IsResultTree {T : Type 0} (domain : Scenario → Type 0) (fact : Scenario → T → Type 0)
+    (low : Scenario → ℕ → ℕ)
     (high : ℕ → Scenario → ℕ → ℕ) (r : TreeNode T) : Type 0 where
   pub value : (s : Scenario) → domain s → fact s (value_at r s)
   pub lows : (s : Scenario) (v : ℕ) → domain s → low_at r s v ≤ low s v
@@ -34,7 +35,8 @@ IsTreeWithin space a r = IsResultTree (IsInSpace space) (λ s z. z ≡ value_at 
 
 -- a tree of a function's answers to a value and the values of a tree
 abbrev pub IsFillOf : {T U V : Type 0} → (T → U → V → Type 0) → Space → T → TreeNode U → TreeNode V → Type 0
-IsFillOf answers space x b r = IsResultTree (IsInSpace space) (λ s z. answers x (value_at b s) z) (low_at b) (λ k. high_at k b) r
+IsFillOf answers space x b r =
+    IsResultTree (IsInSpace space) (λ s z. answers x (value_at b s) z) (low_at b) (λ k. high_at k b) r
 
 -- a tree of a function's answers to the values of two
 abbrev pub IsJoinOf : {T U V : Type 0} → (T → U → V → Type 0) → Space → TreeNode T → TreeNode U → TreeNode V → Type 0
@@ -42,7 +44,8 @@ IsJoinOf answers space a b r = IsResultTree (IsInSpace space) (λ s z. answers (
     (λ s v. max (low_at a s v) (low_at b s v)) (λ k s v. min (high_at k a s v) (high_at k b s v)) r
 
 -- a tree of a function's answers to the values of two, in the scenarios of a domain
-abbrev pub IsJoinIn : {T U V : Type 0} → (T → U → V → Type 0) → (Scenario → Type 0) → TreeNode T → TreeNode U → TreeNode V → Type 0
+abbrev pub IsJoinIn : {T U V : Type 0} → (T → U → V → Type 0) → (Scenario → Type 0) → TreeNode T → TreeNode U →
+    TreeNode V → Type 0
 IsJoinIn answers domain a b r = IsResultTree domain (λ s z. answers (value_at a s) (value_at b s) z)
     (λ s v. max (low_at a s v) (low_at b s v)) (λ k s v. min (high_at k a s v) (high_at k b s v)) r
 
@@ -52,10 +55,13 @@ HoldsIfChosen true fact none z = fact
 HoldsIfChosen false fact none z = z ≡ none
 
 -- a tree of a function's answers to the values of two where a chooser is true, and of one value elsewhere
-abbrev pub IsJoinWhereOf : {T U V : Type 0} → (T → U → V → Type 0) → V → (Scenario → Type 0) → TreeNode Bool → TreeNode T → TreeNode U → TreeNode V → Type 0
-IsJoinWhereOf answers none domain chooser a b r = IsResultTree domain (λ s z. HoldsIfChosen (value_at chooser s) (answers (value_at a s) (value_at b s) z) none z)
+abbrev pub IsJoinWhereOf : {T U V : Type 0} → (T → U → V → Type 0) → V → (Scenario → Type 0) → TreeNode Bool →
+    TreeNode T → TreeNode U → TreeNode V → Type 0
+IsJoinWhereOf answers none domain chooser a b r =
+    IsResultTree domain (λ s z. HoldsIfChosen (value_at chooser s) (answers (value_at a s) (value_at b s) z) none z)
     (λ s v. max (low_at chooser s v) (if value_at chooser s then max (low_at a s v) (low_at b s v) else 0))
-    (λ k s v. min (high_at k chooser s v) (if value_at chooser s then min (high_at k a s v) (high_at k b s v) else top k v)) r
+    (λ k s v.
+    min (high_at k chooser s v) (if value_at chooser s then min (high_at k a s v) (high_at k b s v) else top k v)) r
 
 -- the tree that a chooser picks
 abbrev pub picked : {T : Type 0} → Bool → TreeNode T → TreeNode T → TreeNode T
@@ -63,6 +69,7 @@ picked b on off = if b then on else off
 
 -- the values of the tree that a chooser picks in each scenario
 abbrev pub IsPickOf : {T : Type 0} → Space → TreeNode Bool → TreeNode T → TreeNode T → TreeNode T → Type 0
-IsPickOf space chooser on off r = IsResultTree (IsInSpace space) (λ s z. z ≡ value_at (picked (value_at chooser s) on off) s)
+IsPickOf space chooser on off r =
+    IsResultTree (IsInSpace space) (λ s z. z ≡ value_at (picked (value_at chooser s) on off) s)
     (λ s v. max (low_at chooser s v) (low_at (picked (value_at chooser s) on off) s v))
     (λ k s v. min (high_at k chooser s v) (high_at k (picked (value_at chooser s) on off) s v)) r

@@ -1,5 +1,7 @@
--- The scenarios that come to a place of a tree: a range for each variable, and how many faults there may be beyond the lows.
-use Rattle.std.specs.Prelude.{ℕ, ◌+◌, ◌-◌, ◌≤◌, ◌<◌, ◌≡◌, Bool, ◌&&◌, ◌||◌, nat_le, nat_lt, if◌then◌else◌, get_or, slice_set, sum_by, length}
+-- The scenarios that come to a place of a tree: a range for each variable, and how many faults there may be beyond the
+-- lows.
+use Rattle.std.specs.Prelude.{ℕ, ◌+◌, ◌-◌, ◌≤◌, ◌<◌, ◌≡◌, Bool, ◌&&◌, ◌||◌, nat_le, nat_lt, if◌then◌else◌, get_or}
+use Rattle.std.specs.Prelude.{slice_set, sum_by, length}
 use Rattle.cpg_base.specs.Numbers.{numbers_below}
 use Rattle.cpg_base.specs.Scenario.{Scenario, number_of, fault_of}
 use Rattle.cpg_cube.specs.declared.literal.Literal.{Literal}
@@ -26,7 +28,8 @@ is_open_below space v cut = nat_le (get_or space.low v 0) cut
 
 -- whether a number above the cut is in range, and the faults that are left allow it
 abbrev pub is_open_above : Space → ℕ → ℕ → Bool
-is_open_above space v cut = nat_lt cut (get_or space.high v 0) && (nat_le 128 v || nat_lt cut (get_or space.low v 0 + space.left))
+is_open_above space v cut =
+    nat_lt cut (get_or space.high v 0) && (nat_le 128 v || nat_lt cut (get_or space.low v 0 + space.left))
 
 -- how many faults a count of a variable is: a value is none
 abbrev pub faults_of : ℕ → ℕ → ℕ
@@ -42,7 +45,11 @@ below_cut space v cut = record { low = space.low; high = slice_set space.high v 
 
 -- with the numbers above it
 abbrev pub above_cut : Space → ℕ → ℕ → Space
-above_cut space v cut = record { low = slice_set space.low v (cut + 1); high = space.high; left = space.left - faults_of v (cut + 1 - get_or space.low v 0) }
+above_cut space v cut = record {
+  low = slice_set space.low v (cut + 1);
+  high = space.high;
+  left = space.left - faults_of v (cut + 1 - get_or space.low v 0);
+}
 
 -- with a low and the faults left as they were
 abbrev pub reopened_below : Space → ℕ → Lifted → Space

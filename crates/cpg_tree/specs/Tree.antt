@@ -1,5 +1,6 @@
 -- What callers see of a tree: its paths, each a cube and a value; and what the operations answer.
-use Rattle.std.specs.Prelude.{ℕ, ◌≡◌, ◌≢◌, ◌≤◌, max, min, Bool, true, false, List, [], ◌∷◌, All, length, filter, IsTrue, Contains, if◌then◌else◌}
+use Rattle.std.specs.Prelude.{ℕ, ◌≡◌, ◌≢◌, ◌≤◌, max, min, Bool, true, false, List, [], ◌∷◌, All, length, filter, IsTrue}
+use Rattle.std.specs.Prelude.{Contains, if◌then◌else◌}
 use Rattle.cpg_base.specs.Scenario.{Scenario, number_of}
 use Rattle.cpg_cube.specs.declared.literal.Literal.{Literal}
 use Rattle.cpg_cube.specs.Cube.{IsRising, matches, low_in, high_in, is_whole}
@@ -28,8 +29,8 @@ pub record IsOnPath {T : Type 0} (paths : List (Path T)) (s : Scenario) (path : 
 abbrev pub HasOnePathEach : {T : Type 0} → ℕ → List (Path T) → Type 0
 HasOnePathEach k paths = (s : Scenario) → HasAtMostFaults k s → length (filter (is_on s) paths) ≡ 1
 
--- a path whose literals' variables rise, of which each literal's range is a part of the whole one and not all of it, and which
--- some scenario of at most k faults is on
+-- a path whose literals' variables rise, of which each literal's range is a part of the whole one and not all of it,
+-- and which some scenario of at most k faults is on
 pub record IsTidyPath {T : Type 0} (k : ℕ) (path : Path T) : Type 0 where
   pub rising : IsRising path.0
   pub not_whole : All (λ (l : Literal). is_whole k l ≡ false) path.0
@@ -66,38 +67,56 @@ IsConstant x k r = r ≡ record { faults = k; paths = ([], x) ∷ [] }
 -- in each scenario an answer of the function to the value there
 pub record IsMap {T U : Type 0} (answers : T → U → Type 0) (a : TreeState T) (r : TreeState U) : Type 0 where
   pub faults : r.faults ≡ a.faults
-  pub value : (s : Scenario) (x : Path T) (z : Path U) → HasAtMostFaults a.faults s → IsOnPath a.paths s x → IsOnPath r.paths s z → answers x.1 z.1
-  pub ranges : (s : Scenario) (x : Path T) (z : Path U) → HasAtMostFaults a.faults s → IsOnPath a.paths s x → IsOnPath r.paths s z → IsAsWide a.faults z.0 x.0
+  pub value : (s : Scenario) (x : Path T) (z : Path U) → HasAtMostFaults a.faults s → IsOnPath a.paths s x →
+      IsOnPath r.paths s z → answers x.1 z.1
+  pub ranges : (s : Scenario) (x : Path T) (z : Path U) → HasAtMostFaults a.faults s → IsOnPath a.paths s x →
+      IsOnPath r.paths s z →
+      IsAsWide a.faults z.0 x.0
 
 -- in each scenario an answer of the function to the values there
-pub record IsJoin {T U V : Type 0} (answers : T → U → V → Type 0) (a : TreeState T) (b : TreeState U) (r : TreeState V) : Type 0 where
+pub record IsJoin {T U V : Type 0} (answers : T → U → V → Type 0) (a : TreeState T) (b : TreeState U)
+    (r : TreeState V) : Type 0 where
   pub faults : r.faults ≡ a.faults
-  pub value : (s : Scenario) (x : Path T) (y : Path U) (z : Path V) → HasAtMostFaults a.faults s → IsOnPath a.paths s x → IsOnPath b.paths s y →
+  pub value : (s : Scenario) (x : Path T) (y : Path U) (z : Path V) → HasAtMostFaults a.faults s →
+      IsOnPath a.paths s x →
+      IsOnPath b.paths s y →
       IsOnPath r.paths s z → answers x.1 y.1 z.1
-  pub ranges : (s : Scenario) (x : Path T) (y : Path U) (z : Path V) → HasAtMostFaults a.faults s → IsOnPath a.paths s x → IsOnPath b.paths s y →
+  pub ranges : (s : Scenario) (x : Path T) (y : Path U) (z : Path V) → HasAtMostFaults a.faults s →
+      IsOnPath a.paths s x →
+      IsOnPath b.paths s y →
       IsOnPath r.paths s z → IsAsWideAsBoth a.faults z.0 x.0 y.0
 
 -- in each scenario the value of the tree that the chooser picks there
 pub record IsPick {T : Type 0} (chooser : TreeState Bool) (on off r : TreeState T) : Type 0 where
   pub faults : r.faults ≡ chooser.faults
-  pub value : (s : Scenario) (c : Path Bool) (x z : Path T) → HasAtMostFaults chooser.faults s → IsOnPath chooser.paths s c →
+  pub value : (s : Scenario) (c : Path Bool) (x z : Path T) → HasAtMostFaults chooser.faults s →
+      IsOnPath chooser.paths s c →
       IsOnPath (if c.1 then on.paths else off.paths) s x → IsOnPath r.paths s z → z.1 ≡ x.1
-  pub ranges : (s : Scenario) (c : Path Bool) (x z : Path T) → HasAtMostFaults chooser.faults s → IsOnPath chooser.paths s c →
-      IsOnPath (if c.1 then on.paths else off.paths) s x → IsOnPath r.paths s z → IsAsWideAsBoth chooser.faults z.0 c.0 x.0
+  pub ranges : (s : Scenario) (c : Path Bool) (x z : Path T) → HasAtMostFaults chooser.faults s →
+      IsOnPath chooser.paths s c →
+      IsOnPath (if c.1 then on.paths else off.paths) s x → IsOnPath r.paths s z →
+      IsAsWideAsBoth chooser.faults z.0 c.0 x.0
 
 -- in each scenario an answer of the function to the values there where a chooser is true, and one value elsewhere
-pub record IsJoinWhere {T U V : Type 0} (answers : T → U → V → Type 0) (none : V) (chooser : TreeState Bool) (a : TreeState T) (b : TreeState U) (r : TreeState V) : Type 0 where
+pub record IsJoinWhere {T U V : Type 0} (answers : T → U → V → Type 0) (none : V) (chooser : TreeState Bool)
+    (a : TreeState T) (b : TreeState U) (r : TreeState V) : Type 0 where
   pub faults : r.faults ≡ chooser.faults
-  pub on : (s : Scenario) (c : Path Bool) (x : Path T) (y : Path U) (z : Path V) → HasAtMostFaults chooser.faults s → IsOnPath chooser.paths s c → c.1 ≡ true →
+  pub on : (s : Scenario) (c : Path Bool) (x : Path T) (y : Path U) (z : Path V) → HasAtMostFaults chooser.faults s →
+      IsOnPath chooser.paths s c → c.1 ≡ true →
       IsOnPath a.paths s x → IsOnPath b.paths s y → IsOnPath r.paths s z → answers x.1 y.1 z.1
-  pub on_ranges : (s : Scenario) (c : Path Bool) (x : Path T) (y : Path U) (z : Path V) → HasAtMostFaults chooser.faults s → IsOnPath chooser.paths s c → c.1 ≡ true →
+  pub on_ranges : (s : Scenario) (c : Path Bool) (x : Path T) (y : Path U) (z : Path V) →
+      HasAtMostFaults chooser.faults s → IsOnPath chooser.paths s c → c.1 ≡ true →
       IsOnPath a.paths s x → IsOnPath b.paths s y → IsOnPath r.paths s z → IsAsWideAsAll chooser.faults z.0 c.0 x.0 y.0
-  pub off : (s : Scenario) (c : Path Bool) (z : Path V) → HasAtMostFaults chooser.faults s → IsOnPath chooser.paths s c → c.1 ≡ false → IsOnPath r.paths s z → z.1 ≡ none
-  pub off_ranges : (s : Scenario) (c : Path Bool) (z : Path V) → HasAtMostFaults chooser.faults s → IsOnPath chooser.paths s c → c.1 ≡ false → IsOnPath r.paths s z → IsAsWide chooser.faults z.0 c.0
+  pub off : (s : Scenario) (c : Path Bool) (z : Path V) → HasAtMostFaults chooser.faults s →
+      IsOnPath chooser.paths s c → c.1 ≡ false → IsOnPath r.paths s z → z.1 ≡ none
+  pub off_ranges : (s : Scenario) (c : Path Bool) (z : Path V) → HasAtMostFaults chooser.faults s →
+      IsOnPath chooser.paths s c → c.1 ≡ false → IsOnPath r.paths s z →
+      IsAsWide chooser.faults z.0 c.0
 
 -- in each scenario the number of a variable, by forks on that variable alone
 pub record IsNumber {T : Type 0} (v k : ℕ) (number : T → ℕ) (t : TreeState T) : Type 0 where
   pub faults : t.faults ≡ k
   pub value : (s : Scenario) (x : Path T) → HasAtMostFaults k s → IsOnPath t.paths s x → number x.1 ≡ number_of s v
   pub low : (s : Scenario) (x : Path T) (u : ℕ) → HasAtMostFaults k s → IsOnPath t.paths s x → u ≢ v → low_in x.0 u ≡ 0
-  pub high : (s : Scenario) (x : Path T) (u : ℕ) → HasAtMostFaults k s → IsOnPath t.paths s x → u ≢ v → high_in k x.0 u ≡ top k u
+  pub high : (s : Scenario) (x : Path T) (u : ℕ) → HasAtMostFaults k s → IsOnPath t.paths s x → u ≢ v →
+      high_in k x.0 u ≡ top k u

@@ -1,5 +1,6 @@
 -- The columns of a tree whose forks stand along an order stand by their least scenarios.
-use Rattle.std.proofs.Common.{ℕ, ◌<◌, ◌≤◌, ◌≡◌, ◌≢◌, false, Option, None, Some, List, [], ◌∷◌, get_or, Contains, arith, sym, ap, ap₂, ◌∙◌, subst, inl, inr}
+use Rattle.std.proofs.Common.{ℕ, ◌<◌, ◌≤◌, ◌≡◌, ◌≢◌, false, Option, None, Some, List, [], ◌∷◌, get_or, Contains, arith}
+use Rattle.std.proofs.Common.{sym, ap, ap₂, ◌∙◌, subst, inl, inr}
 use Rattle.std.specs.List.{AllPairs}
 use Rattle.std.proofs.lemmas.Bool.{cases_eq}
 use Rattle.std.proofs.lemmas.List.Elements.{Contains-append_cases, Contains-append_left, Contains-append_right}
@@ -35,12 +36,24 @@ only {T} cube y x c = elim (Contains-cases (cube, y) [] x c) [
 
 -- ---- ranges only shrink on the way down
 
-rises : {T : Type 0} (k : ℕ) (node : TreeNode T) (cube : List Literal) → IsRising cube → (x : Path T) → Contains (paths_from k cube node) x → (u : ℕ) → low_in cube u ≤ low_in x.0 u
+rises : {T : Type 0} (k : ℕ) (node : TreeNode T) (cube : List Literal) → IsRising cube → (x : Path T) →
+    Contains (paths_from k cube node) x → (u : ℕ) →
+    low_in cube u ≤ low_in x.0 u
 rises k (Leaf y) cube rising x c u = omega (arith, ap (λ z. low_in z u) (only cube y x c))
-rises k (Fork v cut below upper) cube rising x c u = elim (Contains-append_cases (paths_from k (narrowed_by (up_to v cut) cube) below) (paths_from k (narrowed_by (above k v cut) cube) upper) x c) [
-  | inl i ↦ omega (arith, step (up_to v cut), rises k below (narrowed_by (up_to v cut) cube) (rising-narrowed (up_to v cut) cube rising) x i u)
-  | inr i ↦ omega (arith, step (above k v cut), rises k upper (narrowed_by (above k v cut) cube) (rising-narrowed (above k v cut) cube rising) x i u)
-]
+rises k (Fork v cut below upper) cube rising x c u =
+    elim (Contains-append_cases (paths_from k (narrowed_by (up_to v cut) cube) below)
+    (paths_from k (narrowed_by (above k v cut) cube) upper) x c) [
+      | inl i ↦ omega (
+        arith,
+        step (up_to v cut),
+        rises k below (narrowed_by (up_to v cut) cube) (rising-narrowed (up_to v cut) cube rising) x i u,
+      )
+      | inr i ↦ omega (
+        arith,
+        step (above k v cut),
+        rises k upper (narrowed_by (above k v cut) cube) (rising-narrowed (above k v cut) cube rising) x i u,
+      )
+    ]
   where
     step : (l : Literal) → low_in cube u ≤ low_in (narrowed_by l cube) u
     step l = elim (cases_eq l.variable u) [
@@ -48,33 +61,49 @@ rises k (Fork v cut below upper) cube rising x c u = elim (Contains-append_cases
       | inr n ↦ omega (arith, low-other k l cube u n)
     ]
 
-falls : {T : Type 0} (k : ℕ) (node : TreeNode T) (cube : List Literal) → IsRising cube → HasCuts k node → (x : Path T) → Contains (paths_from k cube node) x → (u : ℕ) →
+falls : {T : Type 0} (k : ℕ) (node : TreeNode T) (cube : List Literal) → IsRising cube → HasCuts k node → (x : Path T) →
+    Contains (paths_from k cube node) x → (u : ℕ) →
     high_in k x.0 u ≤ high_in k cube u
 falls k (Leaf y) cube rising cuts x c u = omega (arith, ap (λ z. high_in k z u) (only cube y x c))
 falls k (Fork v cut below upper) cube rising cuts x c u =
-    elim (Contains-append_cases (paths_from k (narrowed_by (up_to v cut) cube) below) (paths_from k (narrowed_by (above k v cut) cube) upper) x c) [
-      | inl i ↦ omega (arith, step (up_to v cut) (omega (arith, cuts.1)), falls k below (narrowed_by (up_to v cut) cube) (rising-narrowed (up_to v cut) cube rising) cuts.2 x i u)
-      | inr i ↦ omega (arith, step (above k v cut) (omega arith), falls k upper (narrowed_by (above k v cut) cube) (rising-narrowed (above k v cut) cube rising) cuts.3 x i u)
+    elim (Contains-append_cases (paths_from k (narrowed_by (up_to v cut) cube) below)
+    (paths_from k (narrowed_by (above k v cut) cube) upper) x c) [
+      | inl i ↦ omega (
+        arith,
+        step (up_to v cut) (omega (arith, cuts.1)),
+        falls k below (narrowed_by (up_to v cut) cube) (rising-narrowed (up_to v cut) cube rising) cuts.2 x i u,
+      )
+      | inr i ↦ omega (
+        arith,
+        step (above k v cut) (omega arith),
+        falls k upper (narrowed_by (above k v cut) cube) (rising-narrowed (above k v cut) cube rising) cuts.3 x i u,
+      )
     ]
   where
     step : (l : Literal) → l.high ≤ top k l.variable → high_in k (narrowed_by l cube) u ≤ high_in k cube u
     step l within = elim (cases_eq l.variable u) [
-      | inl e ↦ subst (λ w. high_in k (narrowed_by l cube) w ≤ high_in k cube w) e (omega (arith, high-same k l cube rising within))
+      | inl e ↦ subst (λ w. high_in k (narrowed_by l cube) w ≤ high_in k cube w) e
+          (omega (arith, high-same k l cube rising within))
       | inr n ↦ omega (arith, high-other k l cube u n)
     ]
 
 -- ---- the lows of variables that stand before all forks stay
 
 module _ (places : List ℕ) where
-  stays : {T : Type 0} (k left : ℕ) (node : TreeNode T) (cube : List Literal) → AreForksAlong places left node → (x : Path T) → Contains (paths_from k cube node) x → (u : ℕ)
+  stays : {T : Type 0} (k left : ℕ) (node : TreeNode T) (cube : List Literal) → AreForksAlong places left node →
+      (x : Path T) → Contains (paths_from k cube node) x → (u : ℕ)
       → left < get_or places u 0 →
       low_in x.0 u ≡ low_in cube u
   stays k left (Leaf y) cube along x c u l = ap (λ z. low_in z u) (only cube y x c)
   stays k left (Fork v cut below upper) cube along x c u l =
       let other : v ≢ u = λ e. omega (arith, along.0, l, ap (λ w. get_or places w 0) e) in
-      elim (Contains-append_cases (paths_from k (narrowed_by (up_to v cut) cube) below) (paths_from k (narrowed_by (above k v cut) cube) upper) x c) [
-        | inl i ↦ stays k (get_or places v 0) below (narrowed_by (up_to v cut) cube) along.2 x i u (omega (arith, along.0, l)) ∙ low-other k (up_to v cut) cube u other
-        | inr i ↦ stays k (get_or places v 0) upper (narrowed_by (above k v cut) cube) along.3 x i u (omega (arith, along.0, l)) ∙ low-other k (above k v cut) cube u other
+      elim (Contains-append_cases (paths_from k (narrowed_by (up_to v cut) cube) below)
+      (paths_from k (narrowed_by (above k v cut) cube) upper) x c) [
+        | inl i ↦
+            stays k (get_or places v 0) below (narrowed_by (up_to v cut) cube) along.2 x i u (omega (arith, along.0, l))
+            ∙ low-other k (up_to v cut) cube u other
+        | inr i ↦ stays k (get_or places v 0) upper (narrowed_by (above k v cut) cube) along.3 x i u
+            (omega (arith, along.0, l)) ∙ low-other k (above k v cut) cube u other
       ]
 
 -- ---- so the first fork that parts two paths tells which stands first
@@ -87,9 +116,12 @@ module _ (g : Graph) (order places : List ℕ) (are : ArePlaces (variables_along
   abbrev HasNumbers : {T : Type 0} → List (Path T) → Type 0
   HasNumbers {T} paths = (x : Path T) → Contains paths x → (u : ℕ) → u < 256 → low_in x.0 u ≤ high_in k x.0 u
 
-  sorted_paths : {T : Type 0} (left : ℕ) (node : TreeNode T) (cube : List Literal) → IsRising cube → HasCuts k node → AreForksAlong places left node → HasNumbers (paths_from k cube node) →
+  sorted_paths : {T : Type 0} (left : ℕ) (node : TreeNode T) (cube : List Literal) → IsRising cube → HasCuts k node →
+      AreForksAlong places left node →
+      HasNumbers (paths_from k cube node) →
       AllPairs (λ (x y : Path T). Stands x.0 y.0) (paths_from k cube node)
-  sorted_paths {T} left (Leaf y) cube rising cuts along numbers = AllPairs-cons_by (λ (x z : Path T). Stands x.0 z.0) (cube, y) [] (λ z c. absurd (Contains-nil z c))
+  sorted_paths {T} left (Leaf y) cube rising cuts along numbers =
+      AllPairs-cons_by (λ (x z : Path T). Stands x.0 z.0) (cube, y) [] (λ z c. absurd (Contains-nil z c))
       (AllPairs-nil (λ (x z : Path T). Stands x.0 z.0))
   sorted_paths {T} left (Fork v cut below upper) cube rising cuts along numbers =
       let lower = narrowed_by (up_to v cut) cube in
@@ -99,13 +131,16 @@ module _ (g : Graph) (order places : List ℕ) (are : ArePlaces (variables_along
       let rising_low = rising-narrowed (up_to v cut) cube rising in
       let rising_high = rising-narrowed (above k v cut) cube rising in
       AllPairs-append (λ (x y : Path T). Stands x.0 y.0) xs ys
-      (sorted_paths (get_or places v 0) below lower rising_low cuts.2 along.2 (λ x c. numbers x (Contains-append_left xs ys x c)))
-      (sorted_paths (get_or places v 0) upper higher rising_high cuts.3 along.3 (λ x c. numbers x (Contains-append_right xs ys x c)))
+      (sorted_paths (get_or places v 0) below lower rising_low cuts.2 along.2
+      (λ x c. numbers x (Contains-append_left xs ys x c)))
+      (sorted_paths (get_or places v 0) upper higher rising_high cuts.3 along.3
+      (λ x c. numbers x (Contains-append_right xs ys x c)))
       (λ x y c d. first_differ g order places are x.0 y.0 v along.1
       (λ u l.
       let other : v ≢ u = λ e. omega (arith, l, ap (λ w. get_or places w 0) e) in
       stays places k (get_or places v 0) below lower along.2 x c u l ∙ low-other k (up_to v cut) cube u other
-      ∙ sym (low-other k (above k v cut) cube u other) ∙ sym (stays places k (get_or places v 0) upper higher along.3 y d u l))
+      ∙ sym (low-other k (above k v cut) cube u other)
+      ∙ sym (stays places k (get_or places v 0) upper higher along.3 y d u l))
       (omega (
         arith,
         numbers x (Contains-append_left xs ys x c) v cuts.0,
@@ -116,18 +151,25 @@ module _ (g : Graph) (order places : List ℕ) (are : ArePlaces (variables_along
       )))
 
   -- the columns of paths that stand so
-  columns_stand : (paths : List (Path (Option ℕ))) → AllPairs (λ (x y : Path (Option ℕ)). Stands x.0 y.0) paths → AreByLows (λ (c : Column). c.cube) g order (columns_of_paths paths)
-  columns_stand paths stand = AllPairs-flat_map_in (λ (x y : Path (Option ℕ)). Stands x.0 y.0) (λ (c d : Column). Stands c.cube d.cube) (λ (p : Path (Option ℕ)). column_of p.0 p.1) paths
+  columns_stand : (paths : List (Path (Option ℕ))) → AllPairs (λ (x y : Path (Option ℕ)). Stands x.0 y.0) paths →
+      AreByLows (λ (c : Column). c.cube) g order (columns_of_paths paths)
+  columns_stand paths stand = AllPairs-flat_map_in (λ (x y : Path (Option ℕ)). Stands x.0 y.0)
+      (λ (c d : Column). Stands c.cube d.cube) (λ (p : Path (Option ℕ)). column_of p.0 p.1) paths
       (λ x c. alone x.0 x.1)
-      (λ x y c d i j h m n. ap₂ (λ a b. is_below (lows_along g order (low_in b)) (lows_along g order (low_in a))) (sym (of_column x.0 x.1 c m)) (sym (of_column y.0 y.1 d n)) ∙ h)
+      (λ x y c d i j h m n. ap₂ (λ a b. is_below (lows_along g order (low_in b)) (lows_along g order (low_in a)))
+      (sym (of_column x.0 x.1 c m)) (sym (of_column y.0 y.1 d n)) ∙ h)
       stand
     where
-      alone : (cube : List Literal) (x : Option ℕ) → AllPairs (λ (c d : Column). Stands c.cube d.cube) (column_of cube x)
+      alone : (cube : List Literal) (x : Option ℕ) →
+          AllPairs (λ (c d : Column). Stands c.cube d.cube) (column_of cube x)
       alone cube None = AllPairs-nil (λ (c d : Column). Stands c.cube d.cube)
-      alone cube (Some t) = AllPairs-cons_by (λ (c d : Column). Stands c.cube d.cube) (record { time = t; cube = cube }) [] (λ z c. absurd (Contains-nil z c))
+      alone cube (Some t) = AllPairs-cons_by (λ (c d : Column). Stands c.cube d.cube)
+          (record { time = t; cube = cube }) [] (λ z c. absurd (Contains-nil z c))
           (AllPairs-nil (λ (c d : Column). Stands c.cube d.cube))
 
-  pub sorted_columns : (node : TreeNode (Option ℕ)) → IsGood k node → AreForksAlong places 256 node → AreByLows (λ (c : Column). c.cube) g order (columns_of_paths (paths_of k node))
+  pub sorted_columns : (node : TreeNode (Option ℕ)) → IsGood k node → AreForksAlong places 256 node →
+      AreByLows (λ (c : Column). c.cube) g order (columns_of_paths (paths_of k node))
   sorted_columns node good along = columns_stand (paths_of k node)
       (sorted_paths 256 node [] (λ i j d l m. absurd (omega (arith, m))) (good_cuts k node good) along
-      (λ x c u l. let covers = tidy_of k node good x c in omega (arith, covers.covers.low u l, covers.is.opens u l, covers.covers.high u l)))
+      (λ x c u l. let covers = tidy_of k node good x c in
+      omega (arith, covers.covers.low u l, covers.is.opens u l, covers.covers.high u l)))

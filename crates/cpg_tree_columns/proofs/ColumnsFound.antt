@@ -1,5 +1,6 @@
 -- The columns that are found on the way down a tree that fits are those of its paths.
-use Rattle.std.proofs.Common.{ℕ, ◌+◌, ◌<◌, ◌≤◌, ◌≡◌, max, min, ◌==◌, nat_lt, true, List, [], ◌∷◌, ◌++◌, Some, Option, arith, sym, ap, ap₂, ◌∙◌, subst, inl, inr, eq-eqb, ne_eqb}
+use Rattle.std.proofs.Common.{ℕ, ◌+◌, ◌<◌, ◌≤◌, ◌≡◌, max, min, ◌==◌, nat_lt, true, List, [], ◌∷◌, ◌++◌, Some, Option}
+use Rattle.std.proofs.Common.{arith, sym, ap, ap₂, ◌∙◌, subst, inl, inr, eq-eqb, ne_eqb}
 use Rattle.std.proofs.Common.{lt-ltb, le-ltb, append_assoc}
 use Rattle.std.specs.Option.{option_map_or}
 use Rattle.std.proofs.lemmas.Bool.{cases_eq, cases_lt, cond-true, cond-false, le-leb}
@@ -21,31 +22,40 @@ use Rattle.cpg_cube.specs.Undo.{IsUndo, restored}
 use Rattle.cpg_tree.specs.Decision.{HasCuts, IsFit, IsGood}
 use Rattle.cpg_tree.specs.Paths.{up_to, above, paths_from}
 use Rattle.cpg_tree.specs.Tree.{Path}
-use Rattle.cpg_tree.proofs.OpenSpaces.{IsOpenSpace, CoversSpace, low_at_most, cut_less, cut_under, opens_below, opens_above, covers_below, covers_above, whole_opens, whole_covers}
+use Rattle.cpg_tree.proofs.OpenSpaces.{IsOpenSpace, CoversSpace, low_at_most, cut_less, cut_under, opens_below}
+use Rattle.cpg_tree.proofs.OpenSpaces.{opens_above, covers_below, covers_above, whole_opens, whole_covers}
 use Rattle.cpg_tree_columns.specs.Columns.{column_of, columns_of_paths, columns_from}
 
 -- the range of a literal's variable after narrowing
 range_low : (l : Literal) (cube : List Literal) → (range_left l cube).low ≡ max l.low (low_in cube l.variable)
 range_low l [] = omega arith
 range_low l (m ∷ ms) = elim (cases_eq l.variable m.variable) [
-  | inl e ↦ ap (λ (x : Literal). x.low) (cond-true (l.variable == m.variable) (meet_literal l m) (range_left l ms) (eq-eqb _ _ e)) ∙
+  | inl e ↦ ap (λ (x : Literal). x.low)
+      (cond-true (l.variable == m.variable) (meet_literal l m) (range_left l ms) (eq-eqb _ _ e)) ∙
       ap (max l.low) (sym (cond-true (m.variable == l.variable) m.low (low_in ms l.variable) (eq-eqb _ _ (sym e))))
-  | inr n ↦ ap (λ (x : Literal). x.low) (cond-false (l.variable == m.variable) (meet_literal l m) (range_left l ms) (ne_eqb _ _ n)) ∙ range_low l ms
-      ∙ ap (max l.low) (sym (cond-false (m.variable == l.variable) m.low (low_in ms l.variable) (ne_eqb _ _ (λ e. n (sym e)))))
+  | inr n ↦ ap (λ (x : Literal). x.low)
+      (cond-false (l.variable == m.variable) (meet_literal l m) (range_left l ms) (ne_eqb _ _ n)) ∙ range_low l ms
+      ∙ ap (max l.low)
+      (sym (cond-false (m.variable == l.variable) m.low (low_in ms l.variable) (ne_eqb _ _ (λ e. n (sym e)))))
 ]
 
-range_high : (k : ℕ) (l : Literal) (cube : List Literal) → l.high ≤ top k l.variable → (range_left l cube).high ≡ min l.high (high_in k cube l.variable)
+range_high : (k : ℕ) (l : Literal) (cube : List Literal) → l.high ≤ top k l.variable →
+    (range_left l cube).high ≡ min l.high (high_in k cube l.variable)
 range_high k l [] h = omega (arith, h)
 range_high k l (m ∷ ms) h = elim (cases_eq l.variable m.variable) [
-  | inl e ↦ ap (λ (x : Literal). x.high) (cond-true (l.variable == m.variable) (meet_literal l m) (range_left l ms) (eq-eqb _ _ e)) ∙
+  | inl e ↦ ap (λ (x : Literal). x.high)
+      (cond-true (l.variable == m.variable) (meet_literal l m) (range_left l ms) (eq-eqb _ _ e)) ∙
       ap (min l.high) (sym (cond-true (m.variable == l.variable) m.high (high_in k ms l.variable) (eq-eqb _ _ (sym e))))
-  | inr n ↦ ap (λ (x : Literal). x.high) (cond-false (l.variable == m.variable) (meet_literal l m) (range_left l ms) (ne_eqb _ _ n)) ∙ range_high k l ms h
-      ∙ ap (min l.high) (sym (cond-false (m.variable == l.variable) m.high (high_in k ms l.variable) (ne_eqb _ _ (λ e. n (sym e)))))
+  | inr n ↦ ap (λ (x : Literal). x.high)
+      (cond-false (l.variable == m.variable) (meet_literal l m) (range_left l ms) (ne_eqb _ _ n)) ∙ range_high k l ms h
+      ∙ ap (min l.high)
+      (sym (cond-false (m.variable == l.variable) m.high (high_in k ms l.variable) (ne_eqb _ _ (λ e. n (sym e)))))
 ]
 
 -- ---- neither side's range is empty
 
-module _ (k : ℕ) (space : Space) (is : IsOpenSpace k space) (v cut : ℕ) (there : v < 256) (below : is_open_below space v cut ≡ true) (upper : is_open_above space v cut ≡ true) (cube : List Literal)
+module _ (k : ℕ) (space : Space) (is : IsOpenSpace k space) (v cut : ℕ) (there : v < 256)
+    (below : is_open_below space v cut ≡ true) (upper : is_open_above space v cut ≡ true) (cube : List Literal)
     (covers : CoversSpace k space cube) where
   pub some_below : with_literal (up_to v cut) cube ≡ Some (narrowed_by (up_to v cut) cube)
   some_below = cond-true _ _ _ (le-leb (range_left (up_to v cut) cube).low (range_left (up_to v cut) cube).high
@@ -78,30 +88,45 @@ module _ (k : ℕ) (space : Space) (is : IsOpenSpace k space) (v cut : ℕ) (the
 flat_both : (xs ys : List (Path (Option ℕ))) → columns_of_paths (xs ++ ys) ≡ columns_of_paths xs ++ columns_of_paths ys
 flat_both xs ys = flat_map-append (λ (p : Path (Option ℕ)). column_of p.0 p.1) xs ys
 
-pub columns_are : (k : ℕ) (node : TreeNode (Option ℕ)) (space : Space) (cube : List Literal) → IsOpenSpace k space → CoversSpace k space cube → IsFit space node →
+pub columns_are : (k : ℕ) (node : TreeNode (Option ℕ)) (space : Space) (cube : List Literal) → IsOpenSpace k space →
+    CoversSpace k space cube →
+    IsFit space node →
     columns_from k cube node ≡ columns_of_paths (paths_from k cube node)
 columns_are k (Leaf x) space cube is covers fit = sym (append-nil (column_of cube x))
 columns_are k (Fork v cut below upper) space cube is covers fit =
     ap₂ ◌++◌
-    (ap (λ (o : Option (List Literal)). option_map_or (λ c. columns_from k c below) o []) (some_below k space is v cut fit.0 fit.1 fit.2 cube covers)
-    ∙ columns_are k below (below_cut space v cut) (narrowed_by (up_to v cut) cube) (opens_below k space is v cut fit.0 fit.1 fit.2) (covers_below k space is v cut fit.0 fit.1 fit.2 cube covers) fit.3)
-    (ap (λ (o : Option (List Literal)). option_map_or (λ c. columns_from k c upper) o []) (some_above k space is v cut fit.0 fit.1 fit.2 cube covers)
-    ∙ columns_are k upper (above_cut space v cut) (narrowed_by (above k v cut) cube) (opens_above k space is v cut fit.0 fit.1 fit.2) (covers_above k space is v cut fit.0 fit.1 fit.2 cube covers)
+    (ap (λ (o : Option (List Literal)). option_map_or (λ c. columns_from k c below) o [])
+    (some_below k space is v cut fit.0 fit.1 fit.2 cube covers)
+    ∙ columns_are k below (below_cut space v cut) (narrowed_by (up_to v cut) cube)
+    (opens_below k space is v cut fit.0 fit.1 fit.2)
+    (covers_below k space is v cut fit.0 fit.1 fit.2 cube covers) fit.3)
+    (ap (λ (o : Option (List Literal)). option_map_or (λ c. columns_from k c upper) o [])
+    (some_above k space is v cut fit.0 fit.1 fit.2 cube covers)
+    ∙ columns_are k upper (above_cut space v cut) (narrowed_by (above k v cut) cube)
+    (opens_above k space is v cut fit.0 fit.1 fit.2) (covers_above k space is v cut fit.0 fit.1 fit.2 cube covers)
     fit.4)
-    ∙ sym (flat_both (paths_from k (narrowed_by (up_to v cut) cube) below) (paths_from k (narrowed_by (above k v cut) cube) upper))
+    ∙ sym (flat_both (paths_from k (narrowed_by (up_to v cut) cube) below)
+    (paths_from k (narrowed_by (above k v cut) cube) upper))
 
-pub all_columns : (k : ℕ) (node : TreeNode (Option ℕ)) → IsGood k node → columns_from k [] node ≡ columns_of_paths (paths_from k [] node)
-all_columns k node good = columns_are k node good.0 [] (whole_opens k good.0 good.1) (whole_covers k good.0 good.1) good.2
+pub all_columns : (k : ℕ) (node : TreeNode (Option ℕ)) → IsGood k node →
+    columns_from k [] node ≡ columns_of_paths (paths_from k [] node)
+all_columns k node good =
+    columns_are k node good.0 [] (whole_opens k good.0 good.1) (whole_covers k good.0 good.1) good.2
 
 -- the columns that are found from the root of a tree on are those of its paths
-pub columns_seen : (k : ℕ) (node : TreeNode (Option ℕ)) → IsGood k node → (paths : List (Path (Option ℕ))) → paths ≡ paths_from k [] node → (faults : ℕ) → faults ≡ k → (whole : List Literal) →
+pub columns_seen : (k : ℕ) (node : TreeNode (Option ℕ)) → IsGood k node → (paths : List (Path (Option ℕ))) →
+    paths ≡ paths_from k [] node → (faults : ℕ) → faults ≡ k →
+    (whole : List Literal) →
     whole ≡ [] → columns_from faults whole node ≡ columns_of_paths paths
-columns_seen k node good paths seen faults same whole none = ap₂ (λ (m : ℕ) (cube : List Literal). columns_from m cube node) same none ∙ all_columns k node good ∙ ap columns_of_paths (sym seen)
+columns_seen k node good paths seen faults same whole none =
+    ap₂ (λ (m : ℕ) (cube : List Literal). columns_from m cube node) same none ∙ all_columns k node good
+    ∙ ap columns_of_paths (sym seen)
 
 -- ---- on the way down a list
 
 -- a side of a fork whose cuts leave numbers above them
-pub side_cuts : (k : ℕ) (items : List (TreeItem (Option ℕ))) (x n : TreeNode (Option ℕ)) → items ≡ flat x → HasCuts k x → items ≡ flat n → HasCuts k n
+pub side_cuts : (k : ℕ) (items : List (TreeItem (Option ℕ))) (x n : TreeNode (Option ℕ)) → items ≡ flat x →
+    HasCuts k x → items ≡ flat n → HasCuts k n
 side_cuts k items x n is cuts are = subst (HasCuts k) (flat-same x n (sym is ∙ are)) cuts
 
 pub cut_fits : (k v cut : ℕ) → k < 256 → cut < top k v → cut + 1 < 256
@@ -111,28 +136,42 @@ cut_fits k v cut small less = elim (cases_lt v 128) [
 ]
 
 -- the column of a leaf
-pub leaf_columns : (k : ℕ) (cube : List Literal) (items : List (TreeItem (Option ℕ))) (n : TreeNode (Option ℕ)) (x : Option ℕ) (old new : List Column) → items ≡ flat (Leaf x) → items ≡ flat n →
+pub leaf_columns : (k : ℕ) (cube : List Literal) (items : List (TreeItem (Option ℕ))) (n : TreeNode (Option ℕ))
+    (x : Option ℕ) (old new : List Column) → items ≡ flat (Leaf x) →
+    items ≡ flat n →
     new ≡ old ++ column_of cube x → new ≡ old ++ columns_from k cube n
-leaf_columns k cube items n x old new is are added = added ∙ ap (λ (m : TreeNode (Option ℕ)). old ++ columns_from k cube m) (flat-same (Leaf x) n (sym is ∙ are))
+leaf_columns k cube items n x old new is are added =
+    added ∙ ap (λ (m : TreeNode (Option ℕ)). old ++ columns_from k cube m) (flat-same (Leaf x) n (sym is ∙ are))
 
-module _ (k : ℕ) (cube : List Literal) (v cut : ℕ) (x y n : TreeNode (Option ℕ)) (items : List (TreeItem (Option ℕ))) (is : items ≡ flat (Fork v cut x y)) (are : items ≡ flat n) where
+module _ (k : ℕ) (cube : List Literal) (v cut : ℕ) (x y n : TreeNode (Option ℕ)) (items : List (TreeItem (Option ℕ)))
+    (is : items ≡ flat (Fork v cut x y)) (are : items ≡ flat n) where
   -- those of the side below, and then those of the side above
-  pub fork_columns : (low high : Option (List Literal)) → with_literal (up_to v cut) cube ≡ low → with_literal (above k v cut) cube ≡ high → (old mid new : List Column) →
-      mid ≡ old ++ option_map_or (λ c. columns_from k c x) low [] → new ≡ mid ++ option_map_or (λ c. columns_from k c y) high [] → new ≡ old ++ columns_from k cube n
+  pub fork_columns : (low high : Option (List Literal)) → with_literal (up_to v cut) cube ≡ low →
+      with_literal (above k v cut) cube ≡ high →
+      (old mid new : List Column) →
+      mid ≡ old ++ option_map_or (λ c. columns_from k c x) low [] →
+      new ≡ mid ++ option_map_or (λ c. columns_from k c y) high [] → new ≡ old ++ columns_from k cube n
   fork_columns low high below_is above_is old mid new of_below of_above =
       let lows = option_map_or (λ c. columns_from k c x) low [] in
       let highs = option_map_or (λ c. columns_from k c y) high [] in
       of_above ∙ ap (λ (cs : List Column). cs ++ highs) of_below ∙ append_assoc old lows highs
-      ∙ ap₂ (λ (a b : Option (List Literal)). old ++ (option_map_or (λ c. columns_from k c x) a [] ++ option_map_or (λ c. columns_from k c y) b [])) (sym below_is) (sym above_is)
+      ∙ ap₂ (λ (a b : Option (List Literal)). old ++ (option_map_or (λ c. columns_from k c x) a []
+      ++ option_map_or (λ c. columns_from k c y) b [])) (sym below_is) (sym above_is)
       ∙ ap (λ (m : TreeNode (Option ℕ)). old ++ columns_from k cube m) (flat-same (Fork v cut x y) n (sym is ∙ are))
 
 -- a cube narrowed above a cut
-pub above_of : (k v cut most : ℕ) (cube old : List Literal) (high : Option (List Literal)) → most ≡ top k v → old ≡ cube →
-    with_literal (record { variable = v; low = cut + 1; high = most }) old ≡ high → with_literal (above k v cut) cube ≡ high
+pub above_of : (k v cut most : ℕ) (cube old : List Literal) (high : Option (List Literal)) → most ≡ top k v →
+    old ≡ cube →
+    with_literal (record { variable = v; low = cut + 1; high = most }) old ≡ high →
+    with_literal (above k v cut) cube ≡ high
 above_of k v cut most cube old high whole same narrowed =
-    ap₂ (λ (h : ℕ) (ls : List Literal). let l : Literal = record { variable = v; low = cut + 1; high = h } in with_literal l ls) (sym whole) (sym same) ∙ narrowed
+    ap₂ (λ (h : ℕ) (ls : List Literal). let l : Literal = record { variable = v; low = cut + 1; high = h } in
+    with_literal l ls) (sym whole) (sym same) ∙ narrowed
 
 -- as it stood before it was narrowed up to the cut
-pub above_again : (k v cut most : ℕ) (n : Narrowing) (cube low after : List Literal) (high : Option (List Literal)) → most ≡ top k v → IsUndo n low cube → after ≡ low →
-    with_literal (record { variable = v; low = cut + 1; high = most }) (restored n after) ≡ high → with_literal (above k v cut) cube ≡ high
-above_again k v cut most n cube low after high whole undo same exchanged = above_of k v cut most cube (restored n after) high whole (ap (restored n) same ∙ undo.back) exchanged
+pub above_again : (k v cut most : ℕ) (n : Narrowing) (cube low after : List Literal) (high : Option (List Literal)) →
+    most ≡ top k v → IsUndo n low cube → after ≡ low →
+    with_literal (record { variable = v; low = cut + 1; high = most }) (restored n after) ≡ high →
+    with_literal (above k v cut) cube ≡ high
+above_again k v cut most n cube low after high whole undo same exchanged =
+    above_of k v cut most cube (restored n after) high whole (ap (restored n) same ∙ undo.back) exchanged

@@ -1,5 +1,6 @@
 -- If the columns of paths stand by their least scenarios, the first with a time has the least scenario with it.
-use Rattle.std.proofs.Common.{ℕ, ◌+◌, ◌≤◌, ◌≡◌, ◌≢◌, ◌==◌, Bool, true, false, List, [], ◌∷◌, ◌++◌, get_or, Option, Some, None, unwrap_or, option_map, All, Contains, IsPermutation, refl, sym}
+use Rattle.std.proofs.Common.{ℕ, ◌+◌, ◌≤◌, ◌≡◌, ◌≢◌, ◌==◌, Bool, true, false, List, [], ◌∷◌, ◌++◌, get_or, Option, Some}
+use Rattle.std.proofs.Common.{None, unwrap_or, option_map, All, Contains, IsPermutation, refl, sym}
 use Rattle.std.proofs.Common.{ap, ap₂, ◌∙◌, subst, inl, inr, eq-eqb, ne_eqb}
 use Rattle.std.specs.Bool.{OnFalse, OnTrue}
 use Rattle.std.specs.Option.{IfNone, IfSome, is_some, option_map_or}
@@ -56,14 +57,16 @@ module _ (wanted : ℕ) where
 
   -- ---- of two lists, one after the other
 
-  pub first_left : (xs ys : List Column) (cube : List Literal) → first_with wanted xs ≡ Some cube → first_with wanted (xs ++ ys) ≡ Some cube
+  pub first_left : (xs ys : List Column) (cube : List Literal) → first_with wanted xs ≡ Some cube →
+      first_with wanted (xs ++ ys) ≡ Some cube
   first_left [] ys cube e = absurd (none-some cube e)
   first_left (x ∷ xs) ys cube e = elim (cases_eq x.time wanted) [
     | inl same ↦ at_first x (xs ++ ys) same ∙ sym (at_first x xs same) ∙ e
     | inr differs ↦ past_first x (xs ++ ys) differs ∙ first_left xs ys cube (sym (past_first x xs differs) ∙ e)
   ]
 
-  pub first_right : (xs ys : List Column) → first_with wanted xs ≡ None → first_with wanted (xs ++ ys) ≡ first_with wanted ys
+  pub first_right : (xs ys : List Column) → first_with wanted xs ≡ None →
+      first_with wanted (xs ++ ys) ≡ first_with wanted ys
   first_right [] ys e = refl
   first_right (x ∷ xs) ys e = elim (cases_eq x.time wanted) [
     | inl same ↦ absurd (none-some x.cube (sym e ∙ at_first x xs same))
@@ -72,35 +75,48 @@ module _ (wanted : ℕ) where
 
   -- ---- on the way down
 
-  module _ (k : ℕ) (cube : List Literal) (v cut : ℕ) (below upper node : TreeNode (Option ℕ)) (is : node ≡ Fork v cut below upper) where
-    of_below : (low : List Literal) → with_literal (up_to v cut) cube ≡ Some low → option_map_or (λ c. columns_from k c below) (with_literal (up_to v cut) cube) [] ≡ columns_from k low below
+  module _ (k : ℕ) (cube : List Literal) (v cut : ℕ) (below upper node : TreeNode (Option ℕ))
+      (is : node ≡ Fork v cut below upper) where
+    of_below : (low : List Literal) → with_literal (up_to v cut) cube ≡ Some low →
+        option_map_or (λ c. columns_from k c below) (with_literal (up_to v cut) cube) [] ≡ columns_from k low below
     of_below low e = ap (λ (o : Option (List Literal)). option_map_or (λ c. columns_from k c below) o []) e
 
     -- the first is below the cut
-    pub fork_below : (low found : List Literal) → with_literal (up_to v cut) cube ≡ Some low → first_with wanted (columns_from k low below) ≡ Some found →
+    pub fork_below : (low found : List Literal) → with_literal (up_to v cut) cube ≡ Some low →
+        first_with wanted (columns_from k low below) ≡ Some found →
         first_with wanted (columns_from k cube node) ≡ Some found
     fork_below low found e first =
         ap (λ (n : TreeNode (Option ℕ)). first_with wanted (columns_from k cube n)) is
-        ∙ first_left (option_map_or (λ c. columns_from k c below) (with_literal (up_to v cut) cube) []) (option_map_or (λ c. columns_from k c upper) (with_literal (above k v cut) cube) []) found
+        ∙ first_left (option_map_or (λ c. columns_from k c below) (with_literal (up_to v cut) cube) [])
+        (option_map_or (λ c. columns_from k c upper) (with_literal (above k v cut) cube) []) found
         (ap (first_with wanted) (of_below low e) ∙ first)
 
     -- none is below the cut: then it is the first above, once the cube is narrowed to that
-    pub fork_above : (n : Narrowing) (most : ℕ) (low after : List Literal) (high found : Option (List Literal)) → most ≡ top k v → with_literal (up_to v cut) cube ≡ Some low → IsUndo n low cube →
+    pub fork_above : (n : Narrowing) (most : ℕ) (low after : List Literal) (high found : Option (List Literal)) →
+        most ≡ top k v → with_literal (up_to v cut) cube ≡ Some low →
+        IsUndo n low cube →
         first_with wanted (columns_from k low below) ≡ None →
-        after ≡ low → with_literal (record { variable = v; low = cut + 1; high = most }) (restored n after) ≡ high → first_with wanted (option_map_or (λ c. columns_from k c upper) high []) ≡ found →
+        after ≡ low → with_literal (record { variable = v; low = cut + 1; high = most }) (restored n after) ≡ high →
+        first_with wanted (option_map_or (λ c. columns_from k c upper) high []) ≡ found →
         first_with wanted (columns_from k cube node) ≡ found
     fork_above n most low after high found whole e undo none same exchanged first =
         let i = above_again k v cut most n cube low after high whole undo same exchanged in
         ap (λ (n : TreeNode (Option ℕ)). first_with wanted (columns_from k cube n)) is
-        ∙ first_right (option_map_or (λ c. columns_from k c below) (with_literal (up_to v cut) cube) []) (option_map_or (λ c. columns_from k c upper) (with_literal (above k v cut) cube) [])
-        (ap (first_with wanted) (of_below low e) ∙ none) ∙ ap (λ (o : Option (List Literal)). first_with wanted (option_map_or (λ c. columns_from k c upper) o [])) i ∙ first
+        ∙ first_right (option_map_or (λ c. columns_from k c below) (with_literal (up_to v cut) cube) [])
+        (option_map_or (λ c. columns_from k c upper) (with_literal (above k v cut) cube) [])
+        (ap (first_with wanted) (of_below low e) ∙ none)
+        ∙ ap (λ (o : Option (List Literal)). first_with wanted (option_map_or (λ c. columns_from k c upper) o [])) i
+        ∙ first
 
     -- nor does the cube leave numbers below the cut
-    pub fork_only_above : (high found : Option (List Literal)) → with_literal (up_to v cut) cube ≡ None → with_literal (above k v cut) cube ≡ high →
-        first_with wanted (option_map_or (λ c. columns_from k c upper) high []) ≡ found → first_with wanted (columns_from k cube node) ≡ found
+    pub fork_only_above : (high found : Option (List Literal)) → with_literal (up_to v cut) cube ≡ None →
+        with_literal (above k v cut) cube ≡ high →
+        first_with wanted (option_map_or (λ c. columns_from k c upper) high []) ≡ found →
+        first_with wanted (columns_from k cube node) ≡ found
     fork_only_above high found e i first =
         ap (λ (n : TreeNode (Option ℕ)). first_with wanted (columns_from k cube n)) is
-        ∙ ap₂ (λ (a b : Option (List Literal)). first_with wanted (option_map_or (λ c. columns_from k c below) a [] ++ option_map_or (λ c. columns_from k c upper) b [])) e i ∙ first
+        ∙ ap₂ (λ (a b : Option (List Literal)). first_with wanted (option_map_or (λ c. columns_from k c below) a []
+        ++ option_map_or (λ c. columns_from k c upper) b [])) e i ∙ first
 
   -- ---- at a leaf
 
@@ -111,11 +127,13 @@ module _ (wanted : ℕ) where
     pub leaf_first : is_some (if_wanted wanted x) ≡ true → first_with wanted (columns_from k cube node) ≡ Some cube
     leaf_first on = leaf_is ∙ by_value x on
       where
-        by_value : (o : Option ℕ) → is_some (if_wanted wanted o) ≡ true → first_with wanted (column_of cube o) ≡ Some cube
+        by_value : (o : Option ℕ) → is_some (if_wanted wanted o) ≡ true →
+            first_with wanted (column_of cube o) ≡ Some cube
         by_value None h = cc
         by_value (Some time) h = elim (cases_eq time wanted) [
           | inl same ↦ cond-true (time == wanted) (Some cube) None (eq-eqb _ _ same)
-          | inr differs ↦ absurd (both_ways (is_some (if_wanted wanted (Some time))) (ap is_some (cond-false (time == wanted) (Some time) None (ne_eqb _ _ differs))) h)
+          | inr differs ↦ absurd (both_ways (is_some (if_wanted wanted (Some time)))
+              (ap is_some (cond-false (time == wanted) (Some time) None (ne_eqb _ _ differs))) h)
         ]
 
     pub leaf_none : is_some (if_wanted wanted x) ≡ false → first_with wanted (columns_from k cube node) ≡ None
@@ -124,7 +142,8 @@ module _ (wanted : ℕ) where
         by_value : (o : Option ℕ) → is_some (if_wanted wanted o) ≡ false → first_with wanted (column_of cube o) ≡ None
         by_value None h = refl
         by_value (Some time) h = elim (cases_eq time wanted) [
-          | inl same ↦ absurd (both_ways (is_some (if_wanted wanted (Some time))) h (ap is_some (cond-true (time == wanted) (Some time) None (eq-eqb _ _ same))))
+          | inl same ↦ absurd (both_ways (is_some (if_wanted wanted (Some time))) h
+              (ap is_some (cond-true (time == wanted) (Some time) None (eq-eqb _ _ same))))
           | inr differs ↦ cond-false (time == wanted) (Some cube) None (ne_eqb _ _ differs)
         ]
 
@@ -133,7 +152,8 @@ module _ (wanted : ℕ) where
   is_there : (xs : List Column) (cube : List Literal) → first_with wanted xs ≡ Some cube → Contains xs (With cube)
   is_there [] cube e = absurd (none-some cube e)
   is_there (x ∷ xs) cube e = elim (cases_eq x.time wanted) [
-    | inl same ↦ subst (Contains (x ∷ xs)) (ap₂ (λ (t : ℕ) (c : List Literal). let d : Column = record { time = t; cube = c } in d) same
+    | inl same ↦ subst (Contains (x ∷ xs))
+        (ap₂ (λ (t : ℕ) (c : List Literal). let d : Column = record { time = t; cube = c } in d) same
         (ap (λ (o : Option (List Literal)). unwrap_or o cube) (sym (at_first x xs same) ∙ e))) (Contains-first x xs)
     | inr differs ↦ Contains-rest x xs (With cube) (is_there xs cube (sym (past_first x xs differs) ∙ e))
   ]
@@ -153,50 +173,61 @@ module _ (wanted : ℕ) where
     Stands c d = is_below (lows_along g order (low_in d.cube)) (lows_along g order (low_in c.cube)) ≡ false
 
     -- no other with the time stands before the first
-    none_before : (xs : List Column) → AreByLows (λ (c : Column). c.cube) g order xs → (cube : List Literal) → first_with wanted xs ≡ Some cube → (d : Column) → Contains xs d → d.time ≡ wanted →
+    none_before : (xs : List Column) → AreByLows (λ (c : Column). c.cube) g order xs → (cube : List Literal) →
+        first_with wanted xs ≡ Some cube → (d : Column) → Contains xs d →
+        d.time ≡ wanted →
         Stands (With cube) d
     none_before [] stand cube e d c t = absurd (Contains-nil d c)
     none_before (x ∷ xs) stand cube e d c t = elim (cases_eq x.time wanted) [
-      | inl same ↦ subst (λ (b : List Literal). Stands (With b) d) (ap (λ (o : Option (List Literal)). unwrap_or o cube) (sym (at_first x xs same) ∙ e)) (elim (Contains-cases x xs d c) [
-        | inl is ↦ subst (Stands x) is (below_irreflexive (lows_along g order (low_in x.cube)))
-        | inr later ↦ AllPairs-first Stands x xs stand d later
-      ])
+      | inl same ↦ subst (λ (b : List Literal). Stands (With b) d) (ap (λ (o : Option (List Literal)). unwrap_or o cube)
+          (sym (at_first x xs same) ∙ e)) (elim (Contains-cases x xs d c) [
+            | inl is ↦ subst (Stands x) is (below_irreflexive (lows_along g order (low_in x.cube)))
+            | inr later ↦ AllPairs-first Stands x xs stand d later
+          ])
       | inr differs ↦ elim (Contains-cases x xs d c) [
         | inl is ↦ absurd (differs (ap (λ (y : Column). y.time) is ∙ t))
-        | inr later ↦ none_before xs (AllPairs-rest Stands x xs stand) cube (sym (past_first x xs differs) ∙ e) d later t
+        | inr later ↦
+            none_before xs (AllPairs-rest Stands x xs stand) cube (sym (past_first x xs differs) ∙ e) d later t
       ]
     ]
 
 -- ---- the scenarios of paths
 
 module _ (g : Graph) (paths : List (Path (Option ℕ))) (wanted : ℕ) where
-  no_path : first_with wanted (columns_of_paths paths) ≡ None → (p : Path (Option ℕ)) → Contains paths p → p.1 ≢ Some wanted
+  no_path : first_with wanted (columns_of_paths paths) ≡ None → (p : Path (Option ℕ)) → Contains paths p →
+      p.1 ≢ Some wanted
   no_path none p c e = nowhere wanted (columns_of_paths paths) none (record { time = wanted; cube = p.0 })
       (column_there paths (columns_of_paths paths) (IsPermutation-refl (columns_of_paths paths)) p wanted c e) refl
 
   -- if no column has the number, no path has it
-  pub none_first : (o : Option Scenario) → o ≡ option_map (lows g) (first_with wanted (columns_of_paths paths)) → IfNone o (All (λ (p : Path (Option ℕ)). p.1 ≢ Some wanted) paths)
+  pub none_first : (o : Option Scenario) → o ≡ option_map (lows g) (first_with wanted (columns_of_paths paths)) →
+      IfNone o (All (λ (p : Path (Option ℕ)). p.1 ≢ Some wanted) paths)
   none_first o e = by_value (first_with wanted (columns_of_paths paths)) refl o e
     where
-      by_value : (f : Option (List Literal)) → first_with wanted (columns_of_paths paths) ≡ f → (r : Option Scenario) → r ≡ option_map (lows g) f →
+      by_value : (f : Option (List Literal)) → first_with wanted (columns_of_paths paths) ≡ f → (r : Option Scenario) →
+          r ≡ option_map (lows g) f →
           IfNone r (All (λ (p : Path (Option ℕ)). p.1 ≢ Some wanted) paths)
       by_value f k (Some s) e = tt
       by_value None k None e = λ i d l. no_path k (get_or paths i d) (Contains-get_or paths i d l)
       by_value (Some cube) k None e = absurd (none-some (lows g cube) e)
 
-  pub some_sorted : (order : List ℕ) → IsPermutation (numbers_below (process_count g)) order → AreByLows (λ (c : Column). c.cube) g order (columns_of_paths paths) →
-      (o : Option Scenario) → IfSome o (IsLeastWhereSorted g paths wanted) → IfSome o (IsLeast g order (HasValueAt paths (Some wanted)))
+  pub some_sorted : (order : List ℕ) → IsPermutation (numbers_below (process_count g)) order →
+      AreByLows (λ (c : Column). c.cube) g order (columns_of_paths paths) →
+      (o : Option Scenario) → IfSome o (IsLeastWhereSorted g paths wanted) →
+      IfSome o (IsLeast g order (HasValueAt paths (Some wanted)))
   some_sorted order all stand None h = tt
   some_sorted order all stand (Some s) h = h order all stand
 
-module _ (g : Graph) (few : process_count g ≤ 128) (k : ℕ) (node : TreeNode (Option ℕ)) (good : IsGood k node) (paths : List (Path (Option ℕ))) (seen : paths ≡ paths_of k node) (same : k ≡ g.faults)
+module _ (g : Graph) (few : process_count g ≤ 128) (k : ℕ) (node : TreeNode (Option ℕ)) (good : IsGood k node)
+    (paths : List (Path (Option ℕ))) (seen : paths ≡ paths_of k node) (same : k ≡ g.faults)
     (known : All (λ (p : Path (Option ℕ)). IsKnown g p.0) paths)
     (wanted : ℕ) (cube : List Literal) (first : first_with wanted (columns_of_paths paths) ≡ Some cube) where
   tidy : All (IsTidyColumn g) (columns_of_paths paths)
   tidy =
       let is : paths ≡ paths_of g.faults node = seen ∙ ap (λ (m : ℕ). paths_of m node) same in
       subst (λ (ps : List (Path (Option ℕ))). All (IsTidyColumn g) (columns_of_paths ps)) (sym is)
-      (tidy_columns g few node (subst (λ (m : ℕ). IsGood m node) same good) (subst (All (λ (p : Path (Option ℕ)). IsKnown g p.0)) is known) (columns_of_paths (paths_of g.faults node))
+      (tidy_columns g few node (subst (λ (m : ℕ). IsGood m node) same good)
+      (subst (All (λ (p : Path (Option ℕ)). IsKnown g p.0)) is known) (columns_of_paths (paths_of g.faults node))
       (IsPermutation-refl (columns_of_paths (paths_of g.faults node))))
 
   tidy_at : (d : Column) → Contains (columns_of_paths paths) d → IsTidyColumn g d
@@ -221,12 +252,20 @@ module _ (g : Graph) (few : process_count g ≤ 128) (k : ℕ) (node : TreeNode 
       let x = path_there paths xs (IsPermutation-refl xs) column here in
       record {
         lawful = least.lawful;
-        holds = (x.0, record { stands = x.1; matched = subst (λ (ls : List Literal). matches ls (lows g cube) ≡ true) (sym x.3) least.holds }, x.2);
+        holds = (
+          x.0,
+          record {
+            stands = x.1;
+            matched = subst (λ (ls : List Literal). matches ls (lows g cube) ≡ true) (sym x.3) least.holds;
+          },
+          x.2,
+        );
         least = λ u law h.
             let d : Column = record { time = wanted; cube = h.0.0 } in
             let there = column_there paths xs (IsPermutation-refl xs) h.0 wanted h.1.stands h.2 in
             not_before_transitive g order (lows g cube) (lows g h.0.0) u
-            (ap₂ is_below (sym (lows_are_key g few h.0.0 (tidy_at d there).met order all)) (sym (lows_are_key g few cube (tidy_at column here).met order all)) ∙
+            (ap₂ is_below (sym (lows_are_key g few h.0.0 (tidy_at d there).met order all))
+            (sym (lows_are_key g few cube (tidy_at column here).met order all)) ∙
             none_before wanted g order xs stand cube first d there refl)
             ((lows-least g few h.0.0 (tidy_at d there).cube (tidy_at d there).met order).least u law h.1.matched);
       }

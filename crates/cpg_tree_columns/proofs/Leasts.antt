@@ -1,11 +1,13 @@
 -- The column with the first lows has the least scenario with a number.
-use Rattle.std.proofs.Common.{ℕ, ◌≤◌, ◌≡◌, true, false, List, [], get_or, Option, Some, None, All, Contains, IsPermutation, refl, sym, ap, ap₂, ◌∙◌, subst, inl, inr}
+use Rattle.std.proofs.Common.{ℕ, ◌≤◌, ◌≡◌, true, false, List, [], get_or, Option, Some, None, All, Contains}
+use Rattle.std.proofs.Common.{IsPermutation, refl, sym, ap, ap₂, ◌∙◌, subst, inl, inr}
 use Rattle.std.proofs.lemmas.List.{get_or_default}
 use Rattle.std.proofs.lemmas.List.Elements.{All-contains, Contains-get_or}
 use Rattle.std.proofs.lemmas.List.Sorted.{IsPermutation-sym, Contains-permutation}
 use Rattle.cpg_base.specs.Numbers.{numbers_below, is_below}
 use Rattle.cpg_base.specs.Graph.{Graph, process_count}
-use Rattle.cpg_base.proofs.Lists.{Contains-first, Contains-cases, Contains-nil, Contains-flat_map, Contains-flat_map_parts}
+use Rattle.cpg_base.proofs.Lists.{Contains-first, Contains-cases, Contains-nil, Contains-flat_map}
+use Rattle.cpg_base.proofs.Lists.{Contains-flat_map_parts}
 use Rattle.cpg_base.specs.Scenario.{Scenario, IsScenario, IsLeast, is_before}
 use Rattle.cpg_base.proofs.ScenarioOrder.{not_before_transitive}
 use Rattle.cpg_cube.specs.declared.literal.Literal.{Literal}
@@ -19,7 +21,8 @@ use Rattle.cpg_tree_columns.specs.Columns.{column_of, columns_of_paths, IsTidyCo
 use Rattle.cpg_tree.specs.Tree.{Path}
 use Rattle.cpg_tree_columns.specs.Greatest.{HasNumberAt}
 
-least_of_column : (g : Graph) → process_count g ≤ 128 → (c : Column) → IsTidyColumn g c → (order : List ℕ) → IsLeast g order (λ s. matches c.cube s ≡ true) (lows g c.cube)
+least_of_column : (g : Graph) → process_count g ≤ 128 → (c : Column) → IsTidyColumn g c → (order : List ℕ) →
+    IsLeast g order (λ s. matches c.cube s ≡ true) (lows g c.cube)
 least_of_column g few c tidy order = lows-least g few c.cube tidy.cube tidy.met order
 
 -- ---- paths and columns
@@ -27,22 +30,27 @@ least_of_column g few c tidy order = lows-least g few c.cube tidy.cube tidy.met 
 of_time : (cube : List Literal) (time : ℕ) → Contains (column_of cube (Some time)) (record { time = time; cube = cube })
 of_time cube time = Contains-first (record { time = time; cube = cube }) []
 
-from_time : (cube : List Literal) (x : Option ℕ) (c : Column) → Contains (column_of cube x) c → (x ≡ Some c.time) × (cube ≡ c.cube)
+from_time : (cube : List Literal) (x : Option ℕ) (c : Column) → Contains (column_of cube x) c →
+    (x ≡ Some c.time) × (cube ≡ c.cube)
 from_time cube None c j = absurd (Contains-nil c j)
 from_time cube (Some t) c j = elim (Contains-cases (record { time = t; cube = cube }) [] c j) [
   | inl e ↦ (ap (λ (d : Column). Some d.time) e, ap (λ (d : Column). d.cube) e)
   | inr n ↦ absurd (Contains-nil c n)
 ]
 
-module _ (paths : List (Path (Option ℕ))) (columns : List Column) (p : IsPermutation (columns_of_paths paths) columns) where
-  pub column_there : (x : Path (Option ℕ)) (time : ℕ) → Contains paths x → x.1 ≡ Some time → Contains columns (record { time = time; cube = x.0 })
+module _ (paths : List (Path (Option ℕ))) (columns : List Column)
+    (p : IsPermutation (columns_of_paths paths) columns) where
+  pub column_there : (x : Path (Option ℕ)) (time : ℕ) → Contains paths x → x.1 ≡ Some time →
+      Contains columns (record { time = time; cube = x.0 })
   column_there x time j e = Contains-permutation (columns_of_paths paths) columns (record { time = time; cube = x.0 }) p
       (Contains-flat_map (λ (p : Path (Option ℕ)). column_of p.0 p.1) paths x (record { time = time; cube = x.0 }) j
       (subst (λ o. Contains (column_of x.0 o) (record { time = time; cube = x.0 })) (sym e) (of_time x.0 time)))
 
-  pub path_there : (c : Column) → Contains columns c → (x : Path (Option ℕ)) × Contains paths x × (x.1 ≡ Some c.time) × (x.0 ≡ c.cube)
+  pub path_there : (c : Column) → Contains columns c →
+      (x : Path (Option ℕ)) × Contains paths x × (x.1 ≡ Some c.time) × (x.0 ≡ c.cube)
   path_there c j =
-      let back = Contains-permutation columns (columns_of_paths paths) c (IsPermutation-sym (columns_of_paths paths) columns p) j in
+      let back = Contains-permutation columns (columns_of_paths paths) c
+      (IsPermutation-sym (columns_of_paths paths) columns p) j in
       let f = Contains-flat_map_parts (λ (p : Path (Option ℕ)). column_of p.0 p.1) paths c back in
       let is = from_time f.0.0 f.0.1 c f.2 in
       (f.0, f.1, is.0, is.1)
@@ -52,10 +60,13 @@ module _ (paths : List (Path (Option ℕ))) (columns : List Column) (p : IsPermu
     where
       by_value : (o : Option ℕ) → x.1 ≡ o → o ≡ None
       by_value None e = refl
-      by_value (Some t) e = absurd (Contains-nil (record { time = t; cube = x.0 }) (subst (λ (cs : List Column). Contains cs (record { time = t; cube = x.0 })) none (column_there x t j e)))
+      by_value (Some t) e = absurd (Contains-nil (record { time = t; cube = x.0 })
+          (subst (λ (cs : List Column). Contains cs (record { time = t; cube = x.0 })) none (column_there x t j e)))
 
-  module _ (g : Graph) (few : process_count g ≤ 128) (order : List ℕ) (all : IsPermutation (numbers_below (process_count g)) order) (tidy : All (IsTidyColumn g) columns)
-      (at : ℕ) (first : IsFirstByLows (λ (c : Column). c.cube) g order columns at) (c : Column) (is : get_or columns at c ≡ c) where
+  module _ (g : Graph) (few : process_count g ≤ 128) (order : List ℕ)
+      (all : IsPermutation (numbers_below (process_count g)) order) (tidy : All (IsTidyColumn g) columns)
+      (at : ℕ) (first : IsFirstByLows (λ (c : Column). c.cube) g order columns at) (c : Column)
+      (is : get_or columns at c ≡ c) where
     here : Contains columns c
     here = subst (Contains columns) is (Contains-get_or columns at c first.there)
 
@@ -66,15 +77,20 @@ module _ (paths : List (Path (Option ℕ))) (columns : List Column) (p : IsPermu
     column_met = (tidy_at c here).met
 
     -- a scenario of a column is not before the column's least
-    not_earlier : (u : Scenario) → IsScenario g u → (d : Column) → Contains columns d → matches d.cube u ≡ true → is_before g order u (lows g c.cube) ≡ false
+    not_earlier : (u : Scenario) → IsScenario g u → (d : Column) → Contains columns d → matches d.cube u ≡ true →
+        is_before g order u (lows g c.cube) ≡ false
     not_earlier u law d k m =
         let below : is_below (lows_along g order (low_in d.cube)) (lows_along g order (low_in c.cube)) ≡ false =
-        subst (λ (b : Column). is_below (lows_along g order (low_in b.cube)) (lows_along g order (low_in c.cube)) ≡ false) k.2
-        (subst (λ (b : Column). is_below (lows_along g order (low_in (get_or columns k.0 d).cube)) (lows_along g order (low_in b.cube)) ≡ false) (get_or_default columns at d c first.there ∙ is)
+        subst (λ (b : Column).
+        is_below (lows_along g order (low_in b.cube)) (lows_along g order (low_in c.cube)) ≡ false) k.2
+        (subst (λ (b : Column). is_below (lows_along g order (low_in (get_or columns k.0 d).cube))
+        (lows_along g order (low_in b.cube)) ≡ false) (get_or_default columns at d c first.there ∙ is)
         (first.first k.0 d k.1)) in
         let order_of : is_before g order (lows g d.cube) (lows g c.cube) ≡ false =
-        ap₂ is_below (sym (lows_are_key g few d.cube (tidy_at d k).met order all)) (sym (lows_are_key g few c.cube (tidy_at c here).met order all)) ∙ below in
-        not_before_transitive g order (lows g c.cube) (lows g d.cube) u order_of ((least_of_column g few d (tidy_at d k) order).least u law m)
+        ap₂ is_below (sym (lows_are_key g few d.cube (tidy_at d k).met order all))
+        (sym (lows_are_key g few c.cube (tidy_at c here).met order all)) ∙ below in
+        not_before_transitive g order (lows g c.cube) (lows g d.cube) u order_of
+        ((least_of_column g few d (tidy_at d k) order).least u law m)
 
     pub least_of_columns : IsLeast g order (HasNumberAt paths) (lows g c.cube)
     least_of_columns = record {
@@ -83,7 +99,16 @@ module _ (paths : List (Path (Option ℕ))) (columns : List Column) (p : IsPermu
           let x = path_there c here in
           record {
             number = c.time;
-            has = (x.0, record { stands = x.1; matched = subst (λ (ls : List Literal). matches ls (lows g c.cube) ≡ true) (sym x.3) (least_of_column g few c (tidy_at c here) order).holds }, x.2);
+            has = (
+              x.0,
+              record {
+                stands = x.1;
+                matched = subst (λ (ls : List Literal). matches ls (lows g c.cube) ≡ true) (sym x.3)
+                    (least_of_column g few c (tidy_at c here) order).holds;
+              },
+              x.2,
+            );
           };
-      least = λ u law h. not_earlier u law (record { time = h.number; cube = h.has.0.0 }) (column_there h.has.0 h.number h.has.1.stands h.has.2) h.has.1.matched;
+      least = λ u law h. not_earlier u law (record { time = h.number; cube = h.has.0.0 })
+          (column_there h.has.0 h.number h.has.1.stands h.has.2) h.has.1.matched;
     }

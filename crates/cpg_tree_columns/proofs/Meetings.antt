@@ -1,5 +1,6 @@
 -- A scenario that two trees come to in a space, and the greatest number of the one where the other is true.
-use Rattle.std.proofs.Common.{ℕ, ◌+◌, ◌-◌, ◌<◌, ◌≤◌, ◌≡◌, Bool, true, false, nat_lt, Option, Some, None, List, unwrap_or, get_or, length, sum_by, arith, refl, sym, ap, ◌∙◌, subst, inl, inr, ◌⊎◌}
+use Rattle.std.proofs.Common.{ℕ, ◌+◌, ◌-◌, ◌<◌, ◌≤◌, ◌≡◌, Bool, true, false, nat_lt, Option, Some, None, List}
+use Rattle.std.proofs.Common.{unwrap_or, get_or, length, sum_by, arith, refl, sym, ap, ◌∙◌, subst, inl, inr, ◌⊎◌}
 use Rattle.std.proofs.Common.{le-ltb, lt-ltb}
 use Rattle.std.specs.Prelude.{nat_le}
 use Rattle.std.specs.Option.{IfNone, IfSome}
@@ -19,10 +20,12 @@ use Rattle.cpg_tree.specs.TreeNode.{TreeNode, Leaf, Fork}
 use Rattle.cpg_tree.specs.declared.item.TreeItem.{TreeItem}
 use Rattle.cpg_tree.specs.Flat.{flat}
 use Rattle.cpg_tree.specs.Decision.{value_at, IsGood}
-use Rattle.cpg_tree_columns.specs.Meeting.{AreForksOf, AreOf, ComesTo, HasWhere, IsFoundIn, IsMetIn, IsMostInSpace, IsMostWhere, IsNowhere, IsReachedWhere, IsOpenSpaceOf, IsUpTo}
+use Rattle.cpg_tree_columns.specs.Meeting.{AreForksOf, AreOf, ComesTo, HasWhere, IsFoundIn, IsMetIn, IsMostInSpace}
+use Rattle.cpg_tree_columns.specs.Meeting.{IsMostWhere, IsNowhere, IsReachedWhere, IsOpenSpaceOf, IsUpTo}
 use Rattle.cpg_tree.specs.Paths.{paths_of}
 use Rattle.cpg_tree.specs.declared.space.Space.{Space}
-use Rattle.cpg_tree.specs.Space.{IsInSpace, HasAtMostFaults, IsWhole, beyond, is_open_below, is_open_above, below_cut, above_cut}
+use Rattle.cpg_tree.specs.Space.{IsInSpace, HasAtMostFaults, IsWhole, beyond, is_open_below, is_open_above, below_cut}
+use Rattle.cpg_tree.specs.Space.{above_cut}
 use Rattle.cpg_tree.specs.Tree.{TreeState}
 use Rattle.cpg_tree.specs.Variables.{is_variable}
 use Rattle.cpg_tree.proofs.Flats.{flat-same}
@@ -56,10 +59,17 @@ module _ (g : Graph) (few : process_count g ≤ 128) (space : Space) (is : IsOpe
   -- a number that is no variable is 0
   other_number : (v : ℕ) → (IsVariable g v → ⊥) → number_of lowest v ≡ 0
   other_number v none = elim (cases_lt v 128) [
-    | inl l ↦ number_of-fault lowest v l ∙ get_or_past lowest.faults v 0 (elim (cases_lt v (process_count g)) [ inl k ↦ absurd (none (inl k)) | inr k ↦ omega (arith, k, lawful.faults) ])
-    | inr l ↦ cond-false (nat_lt v 128) (fault_of lowest v) (number_of_value (get_or lowest.values (v - 128) false)) (le-ltb v 128 l)
+    | inl l ↦ number_of-fault lowest v l ∙ get_or_past lowest.faults v 0 (elim (cases_lt v (process_count g)) [
+      | inl k ↦ absurd (none (inl k))
+      | inr k ↦ omega (arith, k, lawful.faults)
+    ])
+    | inr l ↦ cond-false (nat_lt v 128) (fault_of lowest v) (number_of_value (get_or lowest.values (v - 128) false))
+        (le-ltb v 128 l)
         ∙ ap number_of_value (get_or_past lowest.values (v - 128) false
-        (elim (cases_lt v (128 + condition_count g)) [ inl k ↦ absurd (none (inr (l, k))) | inr k ↦ omega (arith, k, l, lawful.values) ]))
+        (elim (cases_lt v (128 + condition_count g)) [
+          | inl k ↦ absurd (none (inr (l, k)))
+          | inr k ↦ omega (arith, k, l, lawful.values)
+        ]))
   ]
 
   number_is : (v : ℕ) → v < 256 → number_of lowest v ≡ low v
@@ -78,7 +88,9 @@ module _ (g : Graph) (few : process_count g ≤ 128) (space : Space) (is : IsOpe
     left = omega (
       arith,
       sum_by_zeros (beyond space lowest) (numbers_below 128)
-          (λ p c. let l = numbers-Contains 128 p c in nothing_beyond (fault_of lowest p) (low p) (number_of lowest p) (number_of-fault lowest p l) (number_is p (omega (arith, l)))),
+          (λ p c. let l = numbers-Contains 128 p c in
+          nothing_beyond (fault_of lowest p) (low p) (number_of lowest p) (number_of-fault lowest p l)
+          (number_is p (omega (arith, l)))),
     );
   }
 
@@ -89,11 +101,14 @@ module _ (g : Graph) (few : process_count g ≤ 128) (space : Space) (is : IsOpe
 -- ---- the parts of a space
 
 -- with a lower low there are as many faults more beyond it
-more_left : (new old low cut faults left : ℕ) → new + (faults - (cut + 1)) ≡ old + (faults - low) → old ≤ left - (cut + 1 - low) → low ≤ cut → cut < faults → cut + 1 - low ≤ left → new ≤ left
+more_left : (new old low cut faults left : ℕ) → new + (faults - (cut + 1)) ≡ old + (faults - low) →
+    old ≤ left - (cut + 1 - low) → low ≤ cut → cut < faults → cut + 1 - low ≤ left → new ≤ left
 more_left new old low cut faults left changed most below above allows = omega arith
 
-module _ (space : Space) (lows : length space.low ≡ 256) (highs : length space.high ≡ 256) (v cut : ℕ) (there : v < 256) where
-  pub lies_in_below : cut ≤ get_or space.high v 0 → (s : Scenario) → IsInSpace (below_cut space v cut) s → IsInSpace space s × (number_of s v ≤ cut)
+module _ (space : Space) (lows : length space.low ≡ 256) (highs : length space.high ≡ 256) (v cut : ℕ)
+    (there : v < 256) where
+  pub lies_in_below : cut ≤ get_or space.high v 0 → (s : Scenario) → IsInSpace (below_cut space v cut) s →
+      IsInSpace space s × (number_of s v ≤ cut)
   lies_in_below under s lies = (
     record {
       low = lies.low;
@@ -109,7 +124,9 @@ module _ (space : Space) (lows : length space.low ≡ 256) (highs : length space
       at : number_of s v ≤ cut
       at = omega (arith, lies.high v there, set_same space.high v cut v (omega (arith, highs, there)) refl)
 
-  pub lies_in_above : get_or space.low v 0 ≤ cut → (v < 128 → cut + 1 - get_or space.low v 0 ≤ space.left) → (s : Scenario) → IsInSpace (above_cut space v cut) s
+  pub lies_in_above : get_or space.low v 0 ≤ cut → (v < 128 → cut + 1 - get_or space.low v 0 ≤ space.left) →
+      (s : Scenario) →
+      IsInSpace (above_cut space v cut) s
       → IsInSpace space s × (cut < number_of s v)
   lies_in_above under allows s lies = (
     record {
@@ -120,16 +137,22 @@ module _ (space : Space) (lows : length space.low ≡ 256) (highs : length space
       high = lies.high;
       left = elim (cases_lt v 128) [
         | inl l ↦
-            let changed = sum_changed (beyond space s) (beyond (above_cut space v cut) s) 128 v l (λ u n. ap (λ m. fault_of s u - m) (sym (set_other space.low v (cut + 1) u n))) in
-            let here = ap (λ m. fault_of s v - m) (set_same space.low v (cut + 1) v (omega (arith, lows, there)) refl) in
-            more_left (sum_by (beyond space s) (numbers_below 128)) (sum_by (beyond (above_cut space v cut) s) (numbers_below 128)) (get_or space.low v 0) cut (fault_of s v) space.left
-            (turned _ _ _ _ _ changed here) (subst (λ n. sum_by (beyond (above_cut space v cut) s) (numbers_below 128) ≤ space.left - n)
+            let changed = sum_changed (beyond space s) (beyond (above_cut space v cut) s) 128 v l
+            (λ u n. ap (λ m. fault_of s u - m) (sym (set_other space.low v (cut + 1) u n))) in
+            let here =
+            ap (λ m. fault_of s v - m) (set_same space.low v (cut + 1) v (omega (arith, lows, there)) refl) in
+            more_left (sum_by (beyond space s) (numbers_below 128)) (sum_by (beyond (above_cut space v cut) s)
+            (numbers_below 128)) (get_or space.low v 0) cut (fault_of s v) space.left
+            (turned _ _ _ _ _ changed here)
+            (subst (λ n. sum_by (beyond (above_cut space v cut) s) (numbers_below 128) ≤ space.left - n)
             (cond-true (nat_lt v 128) (cut + 1 - get_or space.low v 0) 0 (lt-ltb v 128 l)) lies.left)
             under (subst (λ n. cut < n) (number_of-fault s v l) at) (allows l)
         | inr l ↦
             let same = same_sum_by (beyond space s) (beyond (above_cut space v cut) s) (numbers_below 128)
-            (λ u c. ap (λ m. fault_of s u - m) (sym (set_other space.low v (cut + 1) u (λ e. absurd (omega (arith, numbers-Contains 128 u c, e, l)))))) in
-            as_much _ _ _ _ same lies.left (cond-false (nat_lt v 128) (cut + 1 - get_or space.low v 0) 0 (le-ltb v 128 l))
+            (λ u c. ap (λ m. fault_of s u - m) (sym
+            (set_other space.low v (cut + 1) u (λ e. absurd (omega (arith, numbers-Contains 128 u c, e, l)))))) in
+            as_much _ _ _ _ same lies.left
+            (cond-false (nat_lt v 128) (cut + 1 - get_or space.low v 0) 0 (le-ltb v 128 l))
       ];
     },
     at,
@@ -146,16 +169,18 @@ module _ (space : Space) (lows : length space.low ≡ 256) (highs : length space
 
 -- ---- the sides of a fork
 
-module _ (g : Graph) (space : Space) (v cut : ℕ) (there : v < 256) (known : IsVariable g v) (is : IsOpenSpaceOf g space) (under : is_open_below space v cut ≡ true)
+module _ (g : Graph) (space : Space) (v cut : ℕ) (there : v < 256) (known : IsVariable g v) (is : IsOpenSpaceOf g space)
+    (under : is_open_below space v cut ≡ true)
     (over : is_open_above space v cut ≡ true) where
   at_low : get_or space.low v 0 ≤ cut
   at_low = leb-true (get_or space.low v 0) cut under
 
   allowed : v < 128 → cut + 1 - get_or space.low v 0 ≤ space.left
-  allowed l = elim (or_cases (nat_le 128 v) (nat_lt cut (get_or space.low v 0 + space.left)) (and_parts (nat_lt cut (get_or space.high v 0)) _ over).1) [
-    | inl h ↦ absurd (omega (arith, leb-true 128 v h, l))
-    | inr h ↦ omega (arith, ltb-true cut (get_or space.low v 0 + space.left) h)
-  ]
+  allowed l = elim (or_cases (nat_le 128 v) (nat_lt cut (get_or space.low v 0 + space.left))
+      (and_parts (nat_lt cut (get_or space.high v 0)) _ over).1) [
+        | inl h ↦ absurd (omega (arith, leb-true 128 v h, l))
+        | inr h ↦ omega (arith, ltb-true cut (get_or space.low v 0 + space.left) h)
+      ]
 
   open_of_below : IsOpenSpaceOf g (below_cut space v cut)
   open_of_below =
@@ -171,20 +196,25 @@ module _ (g : Graph) (space : Space) (v cut : ℕ) (there : v < 256) (known : Is
         opens = r.opens;
         tops = r.tops;
         budget = r.budget;
-        known = λ u none. set_other space.low v (cut + 1) u (λ e. none (subst (IsVariable g) (sym e) known)) ∙ is.known u none;
+        known = λ u none. set_other space.low v (cut + 1) u (λ e. none (subst (IsVariable g) (sym e) known))
+            ∙ is.known u none;
       }
 
   in_below : (s : Scenario) → IsInSpace (below_cut space v cut) s → IsInSpace space s × (number_of s v ≤ cut)
-  in_below = lies_in_below space is.lows is.highs v cut there (omega (arith, ltb-true cut (get_or space.high v 0) (and_parts (nat_lt cut (get_or space.high v 0)) _ over).0))
+  in_below = lies_in_below space is.lows is.highs v cut there
+      (omega (arith, ltb-true cut (get_or space.high v 0) (and_parts (nat_lt cut (get_or space.high v 0)) _ over).0))
 
   in_above : (s : Scenario) → IsInSpace (above_cut space v cut) s → IsInSpace space s × (cut < number_of s v)
   in_above = lies_in_above space is.lows is.highs v cut there at_low allowed
 
 -- a scenario of a side is one of the whole
-module _ {T U V W : Type 0} (node : TreeNode T) (other : TreeNode U) (part : TreeNode V) (rest : TreeNode W) (space : Space) (v cut : ℕ) (there : v < 256)
+module _ {T U V W : Type 0} (node : TreeNode T) (other : TreeNode U) (part : TreeNode V) (rest : TreeNode W)
+    (space : Space) (v cut : ℕ) (there : v < 256)
     (parts : (g : Graph) → AreForksOf g node other → IsVariable g v × AreForksOf g part rest)
     (fact inner : Scenario → Type 0) where
-  met_below : is_open_below space v cut ≡ true → is_open_above space v cut ≡ true → ((s : Scenario) → number_of s v ≤ cut → inner s → fact s) → IsMetIn (below_cut space v cut) part rest inner →
+  met_below : is_open_below space v cut ≡ true → is_open_above space v cut ≡ true →
+      ((s : Scenario) → number_of s v ≤ cut → inner s → fact s) →
+      IsMetIn (below_cut space v cut) part rest inner →
       IsMetIn space node other fact
   met_below under over follows met g forks is =
       let p = parts g forks in
@@ -192,7 +222,9 @@ module _ {T U V W : Type 0} (node : TreeNode T) (other : TreeNode U) (part : Tre
       let l = in_below g space v cut there p.0 is under over r.0 r.2 in
       (r.0, r.1, l.0, follows r.0 l.1 r.3)
 
-  met_above : is_open_below space v cut ≡ true → is_open_above space v cut ≡ true → ((s : Scenario) → cut < number_of s v → inner s → fact s) → IsMetIn (above_cut space v cut) part rest inner →
+  met_above : is_open_below space v cut ≡ true → is_open_above space v cut ≡ true →
+      ((s : Scenario) → cut < number_of s v → inner s → fact s) →
+      IsMetIn (above_cut space v cut) part rest inner →
       IsMetIn space node other fact
   met_above under over follows met g forks is =
       let p = parts g forks in
@@ -201,7 +233,8 @@ module _ {T U V W : Type 0} (node : TreeNode T) (other : TreeNode U) (part : Tre
       (r.0, r.1, l.0, follows r.0 l.1 r.3)
 
   -- if the other side is closed
-  met_same : ((s : Scenario) → IsInSpace space s → inner s → fact s) → IsMetIn space part rest inner → IsMetIn space node other fact
+  met_same : ((s : Scenario) → IsInSpace space s → inner s → fact s) → IsMetIn space part rest inner →
+      IsMetIn space node other fact
   met_same follows met g forks is =
       let r = met g (parts g forks).1 is in
       (r.0, r.1, r.2, follows r.0 r.2 r.3)
@@ -221,15 +254,19 @@ true_leaf space node b is on g forks of_g =
 
 -- as a call answers it
 module _ (space : Space) where
-  pub leaf_met : (b : Bool) (items : List (TreeItem Bool)) → items ≡ flat (Leaf b) → OnTrue b ((n : TreeNode Bool) → items ≡ flat n → IsTrueIn space n)
+  pub leaf_met : (b : Bool) (items : List (TreeItem Bool)) → items ≡ flat (Leaf b) →
+      OnTrue b ((n : TreeNode Bool) → items ≡ flat n → IsTrueIn space n)
   leaf_met true items is = λ n are. true_leaf space n true (flat-same n (Leaf true) (sym are ∙ is)) refl
   leaf_met false items is = tt
 
-  pub leaf_never : (b : Bool) (items : List (TreeItem Bool)) → items ≡ flat (Leaf b) → OnFalse b ((n : TreeNode Bool) → items ≡ flat n → IsNeverIn space n)
+  pub leaf_never : (b : Bool) (items : List (TreeItem Bool)) → items ≡ flat (Leaf b) →
+      OnFalse b ((n : TreeNode Bool) → items ≡ flat n → IsNeverIn space n)
   leaf_never true items is = tt
-  leaf_never false items is = λ n are s lies. ap (λ (m : TreeNode Bool). value_at m s) (flat-same n (Leaf false) (sym are ∙ is))
+  leaf_never false items is =
+      λ n are s lies. ap (λ (m : TreeNode Bool). value_at m s) (flat-same n (Leaf false) (sym are ∙ is))
 
-module _ (v cut : ℕ) (there : v < 256) (low high node : TreeNode Bool) (is : node ≡ Fork v cut low high) (space : Space) where
+module _ (v cut : ℕ) (there : v < 256) (low high node : TreeNode Bool) (is : node ≡ Fork v cut low high)
+    (space : Space) where
   low_is : (s : Scenario) → number_of s v ≤ cut → value_at node s ≡ value_at low s
   low_is s h = ap (λ (n : TreeNode Bool). value_at n s) is ∙ value_below v cut low high s h
 
@@ -248,26 +285,33 @@ module _ (v cut : ℕ) (there : v < 256) (low high node : TreeNode Bool) (is : n
 
   -- one side is closed
   pub true_low : ((s : Scenario) → IsInSpace space s → number_of s v ≤ cut) → IsTrueIn space low → IsTrueIn space node
-  true_low only = met_same node node low low space v cut there low_parts (λ s. value_at node s ≡ true) (λ s. value_at low s ≡ true) (λ s lies e. low_is s (only s lies) ∙ e)
+  true_low only = met_same node node low low space v cut there low_parts (λ s. value_at node s ≡ true)
+      (λ s. value_at low s ≡ true) (λ s lies e. low_is s (only s lies) ∙ e)
 
   pub true_high : ((s : Scenario) → IsInSpace space s → cut < number_of s v) → IsTrueIn space high → IsTrueIn space node
-  true_high only = met_same node node high high space v cut there high_parts (λ s. value_at node s ≡ true) (λ s. value_at high s ≡ true) (λ s lies e. high_is s (only s lies) ∙ e)
+  true_high only = met_same node node high high space v cut there high_parts (λ s. value_at node s ≡ true)
+      (λ s. value_at high s ≡ true) (λ s lies e. high_is s (only s lies) ∙ e)
 
-  pub never_low : ((s : Scenario) → IsInSpace space s → number_of s v ≤ cut) → IsNeverIn space low → IsNeverIn space node
+  pub never_low : ((s : Scenario) → IsInSpace space s → number_of s v ≤ cut) → IsNeverIn space low →
+      IsNeverIn space node
   never_low only none s lies = low_is s (only s lies) ∙ none s lies
 
-  pub never_high : ((s : Scenario) → IsInSpace space s → cut < number_of s v) → IsNeverIn space high → IsNeverIn space node
+  pub never_high : ((s : Scenario) → IsInSpace space s → cut < number_of s v) → IsNeverIn space high →
+      IsNeverIn space node
   never_high only none s lies = high_is s (only s lies) ∙ none s lies
 
   -- both sides are open
   module _ (under : is_open_below space v cut ≡ true) (over : is_open_above space v cut ≡ true) where
     pub true_below : IsTrueIn (below_cut space v cut) low → IsTrueIn space node
-    true_below = met_below node node low low space v cut there low_parts (λ s. value_at node s ≡ true) (λ s. value_at low s ≡ true) under over (λ s h e. low_is s h ∙ e)
+    true_below = met_below node node low low space v cut there low_parts (λ s. value_at node s ≡ true)
+        (λ s. value_at low s ≡ true) under over (λ s h e. low_is s h ∙ e)
 
     pub true_above : IsTrueIn (above_cut space v cut) high → IsTrueIn space node
-    true_above = met_above node node high high space v cut there high_parts (λ s. value_at node s ≡ true) (λ s. value_at high s ≡ true) under over (λ s h e. high_is s h ∙ e)
+    true_above = met_above node node high high space v cut there high_parts (λ s. value_at node s ≡ true)
+        (λ s. value_at high s ≡ true) under over (λ s h e. high_is s h ∙ e)
 
-  pub never_both : ((s : Scenario) → IsInSpace space s → number_of s v ≤ cut → value_at low s ≡ false) → ((s : Scenario) → IsInSpace space s → cut < number_of s v → value_at high s ≡ false)
+  pub never_both : ((s : Scenario) → IsInSpace space s → number_of s v ≤ cut → value_at low s ≡ false) →
+      ((s : Scenario) → IsInSpace space s → cut < number_of s v → value_at high s ≡ false)
       → IsNeverIn space node
   never_both none_low none_high s lies = elim (cases_lt cut (number_of s v)) [
     | inl h ↦ high_is s h ∙ none_high s lies h
@@ -279,7 +323,9 @@ module _ (v cut : ℕ) (there : v < 256) (low high node : TreeNode Bool) (is : n
 not_both : true ≡ false → ⊥
 not_both e = cc
 
-pub most_never : (space : Space) (node : TreeNode (Option ℕ)) (wanted : TreeNode Bool) (best : Option ℕ) → IsNeverIn space wanted → IsMostInSpace space node wanted best best
+pub most_never : (space : Space) (node : TreeNode (Option ℕ)) (wanted : TreeNode Bool) (best : Option ℕ) →
+    IsNeverIn space wanted →
+    IsMostInSpace space node wanted best best
 most_never space node wanted best none = record {
   above = λ s n lies comes. absurd (not_both (sym comes.1 ∙ none s lies));
   from = λ n h. h;
@@ -287,7 +333,9 @@ most_never space node wanted best none = record {
 }
 
 -- a leaf whose number is no greater than the best
-pub most_least : (space : Space) (node : TreeNode (Option ℕ)) (wanted : TreeNode Bool) (x best : Option ℕ) → node ≡ Leaf x → ((n : ℕ) → x ≡ Some n → IsUpTo best n)
+pub most_least : (space : Space) (node : TreeNode (Option ℕ)) (wanted : TreeNode Bool) (x best : Option ℕ) →
+    node ≡ Leaf x →
+    ((n : ℕ) → x ≡ Some n → IsUpTo best n)
     → IsMostInSpace space node wanted best best
 most_least space node wanted x best is none = record {
   above = λ s n lies comes. none n (sym (ap (λ (m : TreeNode (Option ℕ)). value_at m s) is) ∙ comes.0);
@@ -296,7 +344,9 @@ most_least space node wanted x best is none = record {
 }
 
 -- a leaf whose number is greater than the best
-pub most_leaf : (space : Space) (node : TreeNode (Option ℕ)) (wanted : TreeNode Bool) (x best : Option ℕ) → node ≡ Leaf x → ((n : ℕ) → IsUpTo best n → IsUpTo x n) → IsTrueIn space wanted →
+pub most_leaf : (space : Space) (node : TreeNode (Option ℕ)) (wanted : TreeNode Bool) (x best : Option ℕ) →
+    node ≡ Leaf x → ((n : ℕ) → IsUpTo best n → IsUpTo x n) →
+    IsTrueIn space wanted →
     IsMostInSpace space node wanted best x
 most_leaf space node wanted None None is some met = record {
   above = λ s n lies comes. absurd (none-some n (sym (ap (λ (m : TreeNode (Option ℕ)). value_at m s) is) ∙ comes.0));
@@ -315,7 +365,8 @@ most_leaf space node wanted (Some number) best is some met = record {
     same_up : (m n : ℕ) → Some m ≡ Some n → n ≤ m
     same_up m n e = omega (arith, ap (λ o. unwrap_or o 0) e)
 
-module _ (v cut : ℕ) (there : v < 256) (low high node : TreeNode (Option ℕ)) (is : node ≡ Fork v cut low high) (wanted : TreeNode Bool) (space : Space) where
+module _ (v cut : ℕ) (there : v < 256) (low high node : TreeNode (Option ℕ)) (is : node ≡ Fork v cut low high)
+    (wanted : TreeNode Bool) (space : Space) where
   low_value : (s : Scenario) → number_of s v ≤ cut → value_at node s ≡ value_at low s
   low_value s h = ap (λ (n : TreeNode (Option ℕ)). value_at n s) is ∙ value_below v cut low high s h
 
@@ -333,7 +384,9 @@ module _ (v cut : ℕ) (there : v < 256) (low high node : TreeNode (Option ℕ))
       (variable_from g v r.0, record { few = forks.few; first = r.2; second = forks.second })
 
   -- if one side is closed
-  pub most_low : (best most : Option ℕ) → ((s : Scenario) → IsInSpace space s → number_of s v ≤ cut) → IsMostInSpace space low wanted best most → IsMostInSpace space node wanted best most
+  pub most_low : (best most : Option ℕ) → ((s : Scenario) → IsInSpace space s → number_of s v ≤ cut) →
+      IsMostInSpace space low wanted best most →
+      IsMostInSpace space node wanted best most
   most_low best most only of_low = record {
     above = λ s n lies comes. of_low.above s n lies (sym (low_value s (only s lies)) ∙ comes.0, comes.1);
     from = of_low.from;
@@ -342,9 +395,12 @@ module _ (v cut : ℕ) (there : v < 256) (low high node : TreeNode (Option ℕ))
     where
       go : (o : Option ℕ) → IsFoundIn space low wanted o → IsFoundIn space node wanted o
       go None f = absurd f
-      go (Some n) f = met_same node wanted low wanted space v cut there low_forks (ComesTo node wanted n) (ComesTo low wanted n) (λ s lies c. (low_value s (only s lies) ∙ c.0, c.1)) f
+      go (Some n) f = met_same node wanted low wanted space v cut there low_forks (ComesTo node wanted n)
+          (ComesTo low wanted n) (λ s lies c. (low_value s (only s lies) ∙ c.0, c.1)) f
 
-  pub most_high : (best most : Option ℕ) → ((s : Scenario) → IsInSpace space s → cut < number_of s v) → IsMostInSpace space high wanted best most → IsMostInSpace space node wanted best most
+  pub most_high : (best most : Option ℕ) → ((s : Scenario) → IsInSpace space s → cut < number_of s v) →
+      IsMostInSpace space high wanted best most →
+      IsMostInSpace space node wanted best most
   most_high best most only of_high = record {
     above = λ s n lies comes. of_high.above s n lies (sym (high_value s (only s lies)) ∙ comes.0, comes.1);
     from = of_high.from;
@@ -353,13 +409,15 @@ module _ (v cut : ℕ) (there : v < 256) (low high node : TreeNode (Option ℕ))
     where
       go : (o : Option ℕ) → IsFoundIn space high wanted o → IsFoundIn space node wanted o
       go None f = absurd f
-      go (Some n) f = met_same node wanted high wanted space v cut there high_forks (ComesTo node wanted n) (ComesTo high wanted n) (λ s lies c. (high_value s (only s lies) ∙ c.0, c.1)) f
+      go (Some n) f = met_same node wanted high wanted space v cut there high_forks (ComesTo node wanted n)
+          (ComesTo high wanted n) (λ s lies c. (high_value s (only s lies) ∙ c.0, c.1)) f
 
   -- one side after the other
   pub most_both : (best mid most : Option ℕ) → is_open_below space v cut ≡ true → is_open_above space v cut ≡ true →
       ((s : Scenario) → IsInSpace space s → number_of s v ≤ cut → IsInSpace (below_cut space v cut) s)
       → ((s : Scenario) → IsInSpace space s → cut < number_of s v → IsInSpace (above_cut space v cut) s) →
-      IsMostInSpace (below_cut space v cut) low wanted best mid → IsMostInSpace (above_cut space v cut) high wanted mid most → IsMostInSpace space node wanted best most
+      IsMostInSpace (below_cut space v cut) low wanted best mid →
+      IsMostInSpace (above_cut space v cut) high wanted mid most → IsMostInSpace space node wanted best most
   most_both best mid most under over in_low in_high of_low of_high = record {
     above = λ s n lies comes. elim (cases_lt cut (number_of s v)) [
       | inl h ↦ of_high.above s n (in_high s lies h) (sym (high_value s h) ∙ comes.0, comes.1)
@@ -377,11 +435,13 @@ module _ (v cut : ℕ) (there : v < 256) (low high node : TreeNode (Option ℕ))
     where
       go_low : (o : Option ℕ) → IsFoundIn (below_cut space v cut) low wanted o → IsFoundIn space node wanted o
       go_low None f = absurd f
-      go_low (Some n) f = met_below node wanted low wanted space v cut there low_forks (ComesTo node wanted n) (ComesTo low wanted n) under over (λ s h c. (low_value s h ∙ c.0, c.1)) f
+      go_low (Some n) f = met_below node wanted low wanted space v cut there low_forks (ComesTo node wanted n)
+          (ComesTo low wanted n) under over (λ s h c. (low_value s h ∙ c.0, c.1)) f
 
       go_high : (o : Option ℕ) → IsFoundIn (above_cut space v cut) high wanted o → IsFoundIn space node wanted o
       go_high None f = absurd f
-      go_high (Some n) f = met_above node wanted high wanted space v cut there high_forks (ComesTo node wanted n) (ComesTo high wanted n) under over (λ s h c. (high_value s h ∙ c.0, c.1)) f
+      go_high (Some n) f = met_above node wanted high wanted space v cut there high_forks (ComesTo node wanted n)
+          (ComesTo high wanted n) under over (λ s h c. (high_value s h ∙ c.0, c.1)) f
 
 -- ---- as what a call answers
 
@@ -389,14 +449,23 @@ module _ (v cut : ℕ) (there : v < 256) (low high node : TreeNode (Option ℕ))
 whole_of : (g : Graph) (space : Space) → IsWhole g.faults space → IsOpenSpaceOf g space
 whole_of g space whole =
     let r = whole_opens g.faults space whole in
-    record { lows = r.lows; highs = r.highs; opens = r.opens; tops = r.tops; budget = r.budget; known = λ v none. low_zero v (cases_lt v 256) }
+    record {
+      lows = r.lows;
+      highs = r.highs;
+      opens = r.opens;
+      tops = r.tops;
+      budget = r.budget;
+      known = λ v none. low_zero v (cases_lt v 256);
+    }
   where
     low_zero : (v : ℕ) → (v < 256) ⊎ (256 ≤ v) → get_or space.low v 0 ≡ 0
     low_zero v (inl l) = whole.lows v l
     low_zero v (inr l) = get_or_past space.low v 0 (omega (arith, l, whole.long))
 
-module _ (k : ℕ) (node : TreeNode (Option ℕ)) (wanted : TreeNode Bool) (good : IsGood k node) (good_too : IsGood k wanted) (space : Space) (whole : IsWhole k space)
-    (all : (s : Scenario) → HasAtMostFaults k s → IsInSpace space s) (o : Option ℕ) (most : IsMostInSpace space node wanted None o) where
+module _ (k : ℕ) (node : TreeNode (Option ℕ)) (wanted : TreeNode Bool) (good : IsGood k node)
+    (good_too : IsGood k wanted) (space : Space) (whole : IsWhole k space)
+    (all : (s : Scenario) → HasAtMostFaults k s → IsInSpace space s) (o : Option ℕ)
+    (most : IsMostInSpace space node wanted None o) where
   abbrev tree : TreeState (Option ℕ)
   tree = state k node
 
@@ -404,13 +473,19 @@ module _ (k : ℕ) (node : TreeNode (Option ℕ)) (wanted : TreeNode Bool) (good
   chooser = state k wanted
 
   comes : (s : Scenario) (n : ℕ) → HasWhere tree chooser n s → ComesTo node wanted n s
-  comes s n w = ((value_path k node good s).of_path w.has.0 w.has.1 ∙ w.has.2, (value_path k wanted good_too s).of_path w.there.0 w.there.1 ∙ w.there.2)
+  comes s n w = (
+    (value_path k node good s).of_path w.has.0 w.has.1 ∙ w.has.2,
+    (value_path k wanted good_too s).of_path w.there.0 w.there.1 ∙ w.there.2,
+  )
 
   seen : (s : Scenario) (n : ℕ) → HasAtMostFaults k s → ComesTo node wanted n s → HasWhere tree chooser n s
   seen s n few c =
       let x = the_path k (paths_of k node) (one_path k node good) s few in
       let y = the_path k (paths_of k wanted) (one_path k wanted good_too) s few in
-      record { has = (x.0, x.1, sym ((value_path k node good s).of_path x.0 x.1) ∙ c.0); there = (y.0, y.1, sym ((value_path k wanted good_too s).of_path y.0 y.1) ∙ c.1) }
+      record {
+        has = (x.0, x.1, sym ((value_path k node good s).of_path x.0 x.1) ∙ c.0);
+        there = (y.0, y.1, sym ((value_path k wanted good_too s).of_path y.0 y.1) ∙ c.1);
+      }
 
   pub no_number : o ≡ None → IsNowhere tree chooser
   no_number e s n few w = subst (λ x. IsUpTo x n) e (most.above s n (all s few) (comes s n w))
@@ -424,17 +499,26 @@ module _ (k : ℕ) (node : TreeNode (Option ℕ)) (wanted : TreeNode Bool) (good
     ];
   }
     where
-      reach : (g : Graph) → AreOf g tree chooser → IsFoundIn space node wanted (Some number) → IsReachedWhere g tree chooser number
+      reach : (g : Graph) → AreOf g tree chooser → IsFoundIn space node wanted (Some number) →
+          IsReachedWhere g tree chooser number
       reach g of f =
-          let r = f g (record { few = of.few; first = forks_of_paths (is_variable g) k node of.known; second = forks_of_paths (is_variable g) k wanted of.known_too })
+          let r =
+          f g (record { few = of.few; first = forks_of_paths (is_variable g) k node of.known; second = forks_of_paths (is_variable g) k wanted of.known_too })
           (whole_of g space (subst (λ n. IsWhole n space) of.faults whole)) in
-          record { scenario = r.0; lawful = r.1; has = seen r.0 number (subst (λ n. HasAtMostFaults n r.0) (sym of.faults) (scenario_few g r.0 r.1)) r.3 }
+          record {
+            scenario = r.0;
+            lawful = r.1;
+            has = seen r.0 number (subst (λ n. HasAtMostFaults n r.0) (sym of.faults) (scenario_few g r.0 r.1)) r.3;
+          }
 
 -- the greatest number of what the caller sees of the trees
-module _ (first : TreeState (Option ℕ)) (second : TreeState Bool) (node : TreeNode (Option ℕ)) (wanted : TreeNode Bool) (good : IsGood first.faults node)
+module _ (first : TreeState (Option ℕ)) (second : TreeState Bool) (node : TreeNode (Option ℕ)) (wanted : TreeNode Bool)
+    (good : IsGood first.faults node)
     (paths : first.paths ≡ paths_of first.faults node)
-    (good_too : IsGood second.faults wanted) (paths_too : second.paths ≡ paths_of second.faults wanted) (same : first.faults ≡ second.faults)
-    (space : Space) (whole : IsWhole first.faults space) (all : (s : Scenario) → HasAtMostFaults first.faults s → IsInSpace space s) (o : Option ℕ) (most : IsMostInSpace space node wanted None o)
+    (good_too : IsGood second.faults wanted) (paths_too : second.paths ≡ paths_of second.faults wanted)
+    (same : first.faults ≡ second.faults)
+    (space : Space) (whole : IsWhole first.faults space) (all : (s : Scenario) → HasAtMostFaults first.faults s →
+    IsInSpace space s) (o : Option ℕ) (most : IsMostInSpace space node wanted None o)
   where
     is_first : state first.faults node ≡ first
     is_first = state_seen first node paths
@@ -450,7 +534,8 @@ module _ (first : TreeState (Option ℕ)) (second : TreeState Bool) (node : Tree
       where
         by : (x : Option ℕ) → o ≡ x → IfNone x (IsNowhere first second)
         by None e = subst (λ (t : TreeState (Option ℕ)). IsNowhere t second) is_first
-            (subst (λ (u : TreeState Bool). IsNowhere (state first.faults node) u) is_there (no_number first.faults node wanted good good_there space whole all o most e))
+            (subst (λ (u : TreeState Bool). IsNowhere (state first.faults node) u) is_there
+            (no_number first.faults node wanted good good_there space whole all o most e))
         by (Some n) e = tt
 
     pub some_where : IfSome o (IsMostWhere first second)
@@ -459,4 +544,5 @@ module _ (first : TreeState (Option ℕ)) (second : TreeState Bool) (node : Tree
         by : (x : Option ℕ) → o ≡ x → IfSome x (IsMostWhere first second)
         by None e = tt
         by (Some n) e = subst (λ (t : TreeState (Option ℕ)). IsMostWhere t second n) is_first
-            (subst (λ (u : TreeState Bool). IsMostWhere (state first.faults node) u n) is_there (a_number first.faults node wanted good good_there space whole all o most n e))
+            (subst (λ (u : TreeState Bool). IsMostWhere (state first.faults node) u n) is_there
+            (a_number first.faults node wanted good good_there space whole all o most n e))

@@ -1,9 +1,11 @@
 -- The greatest number of a tree; the least scenario of a number is that of the tree of this number alone.
-use Rattle.std.proofs.Common.{ℕ, ◌≤◌, ◌≡◌, ◌≢◌, ◌⊎◌, ◌==◌, max, List, [], length, filter, get_or, Option, Some, None, unwrap_or, All, Contains, arith, refl, sym, ap, ◌∙◌, subst, inl, inr, eq-eqb}
+use Rattle.std.proofs.Common.{ℕ, ◌≤◌, ◌≡◌, ◌≢◌, ◌⊎◌, ◌==◌, max, List, [], length, filter, get_or, Option, Some, None}
+use Rattle.std.proofs.Common.{unwrap_or, All, Contains, arith, refl, sym, ap, ◌∙◌, subst, inl, inr, eq-eqb}
 use Rattle.std.proofs.Common.{ne_eqb}
 use Rattle.std.specs.Option.{IfNone, IfSome}
 use Rattle.std.proofs.lemmas.Bool.{cases_eq, cases_lt, cond-true, cond-false}
-use Rattle.std.proofs.lemmas.List.Elements.{All-contains, Contains-append_left, Contains-append_right, Contains-append_cases, Contains-get_or}
+use Rattle.std.proofs.lemmas.List.Elements.{All-contains, Contains-append_left, Contains-append_right}
+use Rattle.std.proofs.lemmas.List.Elements.{Contains-append_cases, Contains-get_or}
 use Rattle.std.proofs.lemmas.Option.{none-some}
 use Rattle.std.proofs.lemmas.List.Sorted.{IsPermutation-refl}
 use Rattle.cpg_base.specs.Graph.{Graph, process_count}
@@ -19,7 +21,8 @@ use Rattle.cpg_tree.specs.Paths.{up_to, above, paths_from, paths_of}
 use Rattle.cpg_tree_columns.specs.Columns.{column_of, columns_of_paths, IsTidyColumn}
 use Rattle.cpg_tree.specs.Space.{HasAtMostFaults}
 use Rattle.cpg_tree.specs.Tree.{Path, TreeState, is_on, IsOnPath, IsMap, HasOnePathEach}
-use Rattle.cpg_tree_columns.specs.Greatest.{IsGreatestOf, HasNumberAt, HasValueAt, IsGreatestNumber, IsNumberReached, greater, most_of, if_wanted}
+use Rattle.cpg_tree_columns.specs.Greatest.{IsGreatestOf, HasNumberAt, HasValueAt, IsGreatestNumber, IsNumberReached}
+use Rattle.cpg_tree_columns.specs.Greatest.{greater, most_of, if_wanted}
 use Rattle.cpg_tree.proofs.OnePath.{scenario_few, the_path}
 use Rattle.cpg_tree.proofs.PathLaws.{one_path}
 use Rattle.cpg_tree_columns.proofs.TidyColumns.{tidy_columns}
@@ -52,28 +55,38 @@ greater_cases (Some x) (Some y) m e =
 
 -- ---- the numbers of paths
 
-under_most : (k : ℕ) (node : TreeNode (Option ℕ)) (cube : List Literal) (p : Path (Option ℕ)) (n : ℕ) → Contains (paths_from k cube node) p → p.1 ≡ Some n → IsUnder (most_of node) n
+under_most : (k : ℕ) (node : TreeNode (Option ℕ)) (cube : List Literal) (p : Path (Option ℕ)) (n : ℕ) →
+    Contains (paths_from k cube node) p → p.1 ≡ Some n →
+    IsUnder (most_of node) n
 under_most k (Leaf x) cube p n c e = elim (Contains-cases (cube, x) [] p c) [
   | inl same ↦ subst (λ o. IsUnder o n) (sym (ap (λ (q : Path (Option ℕ)). q.1) same ∙ e)) (omega arith)
   | inr none ↦ absurd (Contains-nil p none)
 ]
-under_most k (Fork v cut below upper) cube p n c e = elim (Contains-append_cases (paths_from k (narrowed_by (up_to v cut) cube) below) (paths_from k (narrowed_by (above k v cut) cube) upper) p c) [
-  | inl i ↦ under_left (most_of below) (most_of upper) n (under_most k below (narrowed_by (up_to v cut) cube) p n i e)
-  | inr i ↦ under_right (most_of below) (most_of upper) n (under_most k upper (narrowed_by (above k v cut) cube) p n i e)
-]
+under_most k (Fork v cut below upper) cube p n c e =
+    elim (Contains-append_cases (paths_from k (narrowed_by (up_to v cut) cube) below)
+    (paths_from k (narrowed_by (above k v cut) cube) upper) p c) [
+      | inl i ↦
+          under_left (most_of below) (most_of upper) n (under_most k below (narrowed_by (up_to v cut) cube) p n i e)
+      | inr i ↦
+          under_right (most_of below) (most_of upper) n (under_most k upper (narrowed_by (above k v cut) cube) p n i e)
+    ]
 
 -- some path has the greatest
-most_there : (k : ℕ) (node : TreeNode (Option ℕ)) (cube : List Literal) (m : ℕ) → most_of node ≡ Some m → (p : Path (Option ℕ)) × Contains (paths_from k cube node) p × (p.1 ≡ Some m)
+most_there : (k : ℕ) (node : TreeNode (Option ℕ)) (cube : List Literal) (m : ℕ) → most_of node ≡ Some m →
+    (p : Path (Option ℕ)) × Contains (paths_from k cube node) p × (p.1 ≡ Some m)
 most_there k (Leaf x) cube m e = ((cube, x), Contains-first (cube, x) [], e)
 most_there k (Fork v cut below upper) cube m e =
     let lower = paths_from k (narrowed_by (up_to v cut) cube) below in
     let higher = paths_from k (narrowed_by (above k v cut) cube) upper in
     elim (greater_cases (most_of below) (most_of upper) m e) [
-      | inl i ↦ let r = most_there k below (narrowed_by (up_to v cut) cube) m i in (r.0, Contains-append_left lower higher r.0 r.1, r.2)
-      | inr i ↦ let r = most_there k upper (narrowed_by (above k v cut) cube) m i in (r.0, Contains-append_right lower higher r.0 r.1, r.2)
+      | inl i ↦ let r = most_there k below (narrowed_by (up_to v cut) cube) m i in
+          (r.0, Contains-append_left lower higher r.0 r.1, r.2)
+      | inr i ↦ let r = most_there k upper (narrowed_by (above k v cut) cube) m i in
+          (r.0, Contains-append_right lower higher r.0 r.1, r.2)
     ]
 
-pub no_most : (k : ℕ) (node : TreeNode (Option ℕ)) → most_of node ≡ None → (p : Path (Option ℕ)) → Contains (paths_from k [] node) p → p.1 ≡ None
+pub no_most : (k : ℕ) (node : TreeNode (Option ℕ)) → most_of node ≡ None → (p : Path (Option ℕ)) →
+    Contains (paths_from k [] node) p → p.1 ≡ None
 no_most k node none p c = by_value p.1 refl
   where
     by_value : (o : Option ℕ) → p.1 ≡ o → o ≡ None
@@ -81,54 +94,74 @@ no_most k node none p c = by_value p.1 refl
     by_value (Some n) e = absurd (subst (λ o. IsUnder o n) none (under_most k node [] p n c e))
 
 -- some scenario has the number of a path
-path_reached : (g : Graph) (node : TreeNode (Option ℕ)) → IsGood g.faults node → (m : ℕ) → process_count g ≤ 128 → All (λ p. IsKnown g p.0) (paths_of g.faults node) → (p : Path (Option ℕ)) →
+path_reached : (g : Graph) (node : TreeNode (Option ℕ)) → IsGood g.faults node → (m : ℕ) → process_count g ≤ 128 →
+    All (λ p. IsKnown g p.0) (paths_of g.faults node) →
+    (p : Path (Option ℕ)) →
     Contains (paths_of g.faults node) p → p.1 ≡ Some m → IsNumberReached g (paths_of g.faults node) m
 path_reached g node good m processes known p there is =
     let paths = paths_of g.faults node in
-    let column : Contains (columns_of_paths paths) (record { time = m; cube = p.0 }) = Contains-flat_map (λ (p : Path (Option ℕ)). column_of p.0 p.1) paths p (record { time = m; cube = p.0 }) there
-    (subst (λ o. Contains (column_of p.0 o) (record { time = m; cube = p.0 })) (sym is) (Contains-first (record { time = m; cube = p.0 }) [])) in
+    let column : Contains (columns_of_paths paths) (record { time = m; cube = p.0 }) =
+    Contains-flat_map (λ (p : Path (Option ℕ)). column_of p.0 p.1) paths p (record { time = m; cube = p.0 }) there
+    (subst (λ o. Contains (column_of p.0 o) (record { time = m; cube = p.0 })) (sym is)
+    (Contains-first (record { time = m; cube = p.0 }) [])) in
     let tidy = All-contains (IsTidyColumn g) (columns_of_paths paths) (record { time = m; cube = p.0 })
-    (tidy_columns g processes node good known (columns_of_paths paths) (IsPermutation-refl (columns_of_paths paths))) column in
+    (tidy_columns g processes node good known (columns_of_paths paths) (IsPermutation-refl (columns_of_paths paths)))
+    column in
     let least = lows-least g processes p.0 tidy.cube tidy.met [] in
-    record { scenario = lows g p.0; lawful = least.lawful; has = (p, record { stands = there; matched = least.holds }, is) }
+    record {
+      scenario = lows g p.0;
+      lawful = least.lawful;
+      has = (p, record { stands = there; matched = least.holds }, is);
+    }
 
 -- some scenario has the greatest
-most_reached : (g : Graph) (node : TreeNode (Option ℕ)) → IsGood g.faults node → (m : ℕ) → most_of node ≡ Some m → process_count g ≤ 128 → All (λ p. IsKnown g p.0) (paths_of g.faults node) →
+most_reached : (g : Graph) (node : TreeNode (Option ℕ)) → IsGood g.faults node → (m : ℕ) → most_of node ≡ Some m →
+    process_count g ≤ 128 →
+    All (λ p. IsKnown g p.0) (paths_of g.faults node) →
     IsNumberReached g (paths_of g.faults node) m
 most_reached g node good m most processes known =
     let x = most_there g.faults node [] m most in
     path_reached g node good m processes known x.0 x.1 x.2
 
-most_is : (k : ℕ) (node : TreeNode (Option ℕ)) → IsGood k node → (m : ℕ) → most_of node ≡ Some m → IsGreatestNumber (record { faults = k; paths = paths_of k node }) m
+most_is : (k : ℕ) (node : TreeNode (Option ℕ)) → IsGood k node → (m : ℕ) → most_of node ≡ Some m →
+    IsGreatestNumber (record { faults = k; paths = paths_of k node }) m
 most_is k node good m most = record {
   above = λ p n c e. subst (λ o. IsUnder o n) most (under_most k node [] p n c e);
   there = most_there k node [] m most;
   reached = λ g processes same known.
       subst (λ n. IsNumberReached g (paths_of n node) m) (sym same)
-      (most_reached g node (subst (λ n. IsGood n node) same good) m most processes (subst (λ n. All (λ p. IsKnown g p.0) (paths_of n node)) same known));
+      (most_reached g node (subst (λ n. IsGood n node) same good) m most processes
+      (subst (λ n. All (λ p. IsKnown g p.0) (paths_of n node)) same known));
 }
 
 -- ---- as what a call answers
 
-pub most_none : (k : ℕ) (node : TreeNode (Option ℕ)) (o : Option ℕ) → o ≡ most_of node → IfNone o (All (λ (p : Path (Option ℕ)). p.1 ≡ None) (paths_of k node))
-most_none k node None e = λ i d l. no_most k node (sym e) (get_or (paths_of k node) i d) (Contains-get_or (paths_of k node) i d l)
+pub most_none : (k : ℕ) (node : TreeNode (Option ℕ)) (o : Option ℕ) → o ≡ most_of node →
+    IfNone o (All (λ (p : Path (Option ℕ)). p.1 ≡ None) (paths_of k node))
+most_none k node None e =
+    λ i d l. no_most k node (sym e) (get_or (paths_of k node) i d) (Contains-get_or (paths_of k node) i d l)
 most_none k node (Some m) e = tt
 
-pub most_some : (k : ℕ) (node : TreeNode (Option ℕ)) → IsGood k node → (o : Option ℕ) → o ≡ most_of node → IfSome o (IsGreatestNumber (record { faults = k; paths = paths_of k node }))
+pub most_some : (k : ℕ) (node : TreeNode (Option ℕ)) → IsGood k node → (o : Option ℕ) → o ≡ most_of node →
+    IfSome o (IsGreatestNumber (record { faults = k; paths = paths_of k node }))
 most_some k node good None e = tt
 most_some k node good (Some m) e = most_is k node good m (sym e)
 
 -- ---- the greatest with its least scenario
 
 -- some path has it
-pub not_without : (k : ℕ) (node : TreeNode (Option ℕ)) (m : ℕ) → most_of node ≡ Some m → All (λ (p : Path (Option ℕ)). p.1 ≢ Some m) (paths_of k node) → ⊥
+pub not_without : (k : ℕ) (node : TreeNode (Option ℕ)) (m : ℕ) → most_of node ≡ Some m →
+    All (λ (p : Path (Option ℕ)). p.1 ≢ Some m) (paths_of k node) → ⊥
 not_without k node m most none =
     let x = most_there k node [] m most in
     All-contains (λ (p : Path (Option ℕ)). p.1 ≢ Some m) (paths_of k node) x.0 none x.1 x.2
 
-pub greatest_of : (g : Graph) (order : List ℕ) (k : ℕ) (node : TreeNode (Option ℕ)) (m : ℕ) → most_of node ≡ Some m → (s : Scenario) → IsLeast g order (HasValueAt (paths_of k node) (Some m)) s →
+pub greatest_of : (g : Graph) (order : List ℕ) (k : ℕ) (node : TreeNode (Option ℕ)) (m : ℕ) → most_of node ≡ Some m →
+    (s : Scenario) →
+    IsLeast g order (HasValueAt (paths_of k node) (Some m)) s →
     IsGreatestOf g order (paths_of k node) m s
-greatest_of g order k node m most s least = record { most = λ p n c e. subst (λ o. IsUnder o n) most (under_most k node [] p n c e); least = least }
+greatest_of g order k node m most s least =
+    record { most = λ p n c e. subst (λ o. IsUnder o n) most (under_most k node [] p n c e); least = least }
 
 -- ---- the tree of one number alone
 
@@ -144,13 +177,19 @@ if_wanted_is m (Some x) n e = elim (cases_eq x m) [
   | inr differs ↦ absurd (none-some n (sym (cond-false (x == m) (Some x) None (ne_eqb x m differs)) ∙ e))
 ]
 
-module _ (g : Graph) (node : TreeNode (Option ℕ)) (good : IsGood g.faults node) (m : ℕ) (all only : TreeState (Option ℕ)) (is : record { faults = g.faults; paths = paths_of g.faults node } ≡ all)
+module _ (g : Graph) (node : TreeNode (Option ℕ)) (good : IsGood g.faults node) (m : ℕ)
+    (all only : TreeState (Option ℕ)) (is : record {
+      faults = g.faults;
+      paths = paths_of g.faults node;
+    } ≡ all)
     (each : HasOnePathEach g.faults only.paths) (map : IsMap (λ x z. z ≡ if_wanted m x) all only) where
   few : (s : Scenario) → IsScenario g s → HasAtMostFaults all.faults s
   few s law = subst (λ n. HasAtMostFaults n s) (ap (λ (t : TreeState (Option ℕ)). t.faults) is) (scenario_few g s law)
 
   path_of : (s : Scenario) → IsScenario g s → (x : Path (Option ℕ)) × IsOnPath all.paths s x
-  path_of s law = the_path g.faults all.paths (λ u f. subst (λ (t : TreeState (Option ℕ)). length (filter (is_on u) t.paths) ≡ 1) is (one_path g.faults node good u f)) s (scenario_few g s law)
+  path_of s law =
+      the_path g.faults all.paths (λ u f. subst (λ (t : TreeState (Option ℕ)). length (filter (is_on u) t.paths) ≡ 1) is
+      (one_path g.faults node good u f)) s (scenario_few g s law)
 
   -- if the tree has the number, so has the other
   alone : (s : Scenario) → IsScenario g s → HasValueAt all.paths (Some m) s → HasValueAt only.paths (Some m) s
@@ -159,7 +198,8 @@ module _ (g : Graph) (node : TreeNode (Option ℕ)) (good : IsGood g.faults node
       (z.0, z.1, map.value s has.0 z.0 (few s law) has.1 z.1 ∙ ap (if_wanted m) has.2 ∙ if_wanted_same m)
 
   -- the least scenario of the one is that of the other
-  least_alone : (order : List ℕ) (s : Scenario) → IsLeast g order (HasNumberAt only.paths) s → IsLeast g order (HasValueAt all.paths (Some m)) s
+  least_alone : (order : List ℕ) (s : Scenario) → IsLeast g order (HasNumberAt only.paths) s →
+      IsLeast g order (HasValueAt all.paths (Some m)) s
   least_alone order s h =
       let z = h.holds.has in
       let x = path_of s h.lawful in
@@ -171,20 +211,26 @@ module _ (g : Graph) (node : TreeNode (Option ℕ)) (good : IsGood g.faults node
       }
 
   -- if the other has no number, no path has it
-  none_alone : process_count g ≤ 128 → All (λ p. IsKnown g p.0) (paths_of g.faults node) → All (λ (p : Path (Option ℕ)). p.1 ≡ None) only.paths → All (λ (p : Path (Option ℕ)). p.1 ≢ Some m) all.paths
+  none_alone : process_count g ≤ 128 → All (λ p. IsKnown g p.0) (paths_of g.faults node) →
+      All (λ (p : Path (Option ℕ)). p.1 ≡ None) only.paths →
+      All (λ (p : Path (Option ℕ)). p.1 ≢ Some m) all.paths
   none_alone processes known none i d l e =
-      let there = subst (λ (t : TreeState (Option ℕ)). Contains t.paths (get_or all.paths i d)) (sym is) (Contains-get_or all.paths i d l) in
+      let there = subst (λ (t : TreeState (Option ℕ)). Contains t.paths (get_or all.paths i d)) (sym is)
+      (Contains-get_or all.paths i d l) in
       let r = path_reached g node good m processes known (get_or all.paths i d) there e in
-      let z = alone r.scenario r.lawful (subst (λ (t : TreeState (Option ℕ)). HasValueAt t.paths (Some m) r.scenario) is r.has) in
+      let z = alone r.scenario r.lawful
+      (subst (λ (t : TreeState (Option ℕ)). HasValueAt t.paths (Some m) r.scenario) is r.has) in
       none-some m (sym (All-contains (λ (p : Path (Option ℕ)). p.1 ≡ None) only.paths z.0 none z.1.stands) ∙ z.2)
 
   -- ---- as what a call answers
 
-  pub listed_none : process_count g ≤ 128 → All (λ p. IsKnown g p.0) (paths_of g.faults node) → (o : Option Scenario) → IfNone o (All (λ (p : Path (Option ℕ)). p.1 ≡ None) only.paths) →
+  pub listed_none : process_count g ≤ 128 → All (λ p. IsKnown g p.0) (paths_of g.faults node) → (o : Option Scenario) →
+      IfNone o (All (λ (p : Path (Option ℕ)). p.1 ≡ None) only.paths) →
       IfNone o (All (λ (p : Path (Option ℕ)). p.1 ≢ Some m) all.paths)
   listed_none processes known None h = none_alone processes known h
   listed_none processes known (Some s) h = tt
 
-  pub listed_some : (order : List ℕ) (o : Option Scenario) → IfSome o (IsLeast g order (HasNumberAt only.paths)) → IfSome o (IsLeast g order (HasValueAt all.paths (Some m)))
+  pub listed_some : (order : List ℕ) (o : Option Scenario) → IfSome o (IsLeast g order (HasNumberAt only.paths)) →
+      IfSome o (IsLeast g order (HasValueAt all.paths (Some m)))
   listed_some order None h = tt
   listed_some order (Some s) h = least_alone order s h

@@ -1,5 +1,6 @@
 -- The columns of the paths of a tree that fits: each is of a graph that the paths are of, and some scenario matches it.
-use Rattle.std.proofs.Common.{ℕ, zero, suc, Option, None, Some, IsPermutation, ◌+◌, ◌≤◌, ◌≡◌, true, false, List, [], get_or, sum_by, Contains, arith, ap, subst, inl, inr}
+use Rattle.std.proofs.Common.{ℕ, zero, suc, Option, None, Some, IsPermutation, ◌+◌, ◌≤◌, ◌≡◌, true, false, List, []}
+use Rattle.std.proofs.Common.{get_or, sum_by, Contains, arith, ap, subst, inl, inr}
 use Rattle.std.specs.Prelude.{nat_le, All}
 use Rattle.std.proofs.lemmas.Bool.{and_from, le-leb}
 use Rattle.std.proofs.lemmas.List.Elements.{Contains-get_or, All-contains}
@@ -25,18 +26,29 @@ use Rattle.cpg_tree_columns.specs.Columns.{column_of, columns_of_paths, IsTidyCo
 pub sum_by_fewer : (f : ℕ → ℕ) (n m : ℕ) → n ≤ m → sum_by f (numbers_below n) ≤ sum_by f (numbers_below m)
 sum_by_fewer f zero m l = omega arith
 sum_by_fewer f (suc n) zero l = absurd (omega (arith, l))
-sum_by_fewer f (suc n) (suc m) l = omega (arith, sum_by-below_first f n, sum_by-below_first f m, sum_by_fewer (λ i. f (i + 1)) n m (omega (arith, l)))
+sum_by_fewer f (suc n) (suc m) l =
+    omega (arith, sum_by-below_first f n, sum_by-below_first f m, sum_by_fewer (λ i. f (i + 1)) n m (omega (arith, l)))
 
 -- ---- some scenario meets the cube of a path
 
-is_open_literal : (k : ℕ) (cube : List Literal) (tidy : IsPathAround k cube) (l : Literal) → Contains cube l → is_open k l ≡ true
+is_open_literal : (k : ℕ) (cube : List Literal) (tidy : IsPathAround k cube) (l : Literal) → Contains cube l →
+    is_open k l ≡ true
 is_open_literal k cube tidy l c =
     let there = (tidy.part l c).0 in
     let bounds = range k cube tidy l c in
-    let less : l.low ≤ l.high = omega (arith, bounds.0, bounds.1, tidy.covers.low l.variable there, tidy.is.opens l.variable there, tidy.covers.high l.variable there) in
-    and_from (nat_le l.low l.high) _ (le-leb l.low l.high less) (le-leb l.low (top k l.variable) (omega (arith, less, within k cube tidy l c)))
+    let less : l.low ≤ l.high = omega (
+      arith,
+      bounds.0,
+      bounds.1,
+      tidy.covers.low l.variable there,
+      tidy.is.opens l.variable there,
+      tidy.covers.high l.variable there,
+    ) in
+    and_from (nat_le l.low l.high) _ (le-leb l.low l.high less)
+    (le-leb l.low (top k l.variable) (omega (arith, less, within k cube tidy l c)))
 
-module _ (g : Graph) (few : process_count g ≤ 128) (cube : List Literal) (tidy : IsPathAround g.faults cube) (known : All (λ l. IsVariable g l.variable) cube) where
+module _ (g : Graph) (few : process_count g ≤ 128) (cube : List Literal) (tidy : IsPathAround g.faults cube)
+    (known : All (λ l. IsVariable g l.variable) cube) where
   pub path_cube : IsCube g cube
   path_cube = record { rising = tidy.covers.rising; known = known }
 
@@ -45,7 +57,8 @@ module _ (g : Graph) (few : process_count g ≤ 128) (cube : List Literal) (tidy
       (le-leb (asked_faults cube) g.faults (omega (
         arith,
         budget_of_cube g few cube path_cube,
-        sum_by-le_each (low_in cube) (λ p. get_or tidy.space.low p 0) (numbers_below (process_count g)) (λ p c. tidy.covers.low p (omega (arith, numbers-Contains (process_count g) p c, few))),
+        sum_by-le_each (low_in cube) (λ p. get_or tidy.space.low p 0) (numbers_below (process_count g))
+            (λ p c. tidy.covers.low p (omega (arith, numbers-Contains (process_count g) p c, few))),
         sum_below_le (λ p. get_or tidy.space.low p 0) (process_count g) few,
         tidy.is.budget,
       )))
@@ -62,8 +75,10 @@ of_column cube (Some t) c j = elim (Contains-cases (record { time = t; cube = cu
   | inr n ↦ absurd (Contains-nil c n)
 ]
 
-module _ (g : Graph) (few : process_count g ≤ 128) (node : TreeNode (Option ℕ)) (good : IsGood g.faults node) (known : All (λ (p : Path (Option ℕ)). IsKnown g p.0) (paths_of g.faults node)) where
-  of_path : (p : Path (Option ℕ)) → Contains (paths_of g.faults node) p → IsTidyColumn g (record { time = 0; cube = p.0 })
+module _ (g : Graph) (few : process_count g ≤ 128) (node : TreeNode (Option ℕ)) (good : IsGood g.faults node)
+    (known : All (λ (p : Path (Option ℕ)). IsKnown g p.0) (paths_of g.faults node)) where
+  of_path : (p : Path (Option ℕ)) → Contains (paths_of g.faults node) p →
+      IsTidyColumn g (record { time = 0; cube = p.0 })
   of_path p j =
       let tidy = tidy_of g.faults node good p j in
       let variables = All-contains (λ (p : Path (Option ℕ)). IsKnown g p.0) (paths_of g.faults node) p known j in
@@ -82,10 +97,14 @@ module _ (g : Graph) (few : process_count g ≤ 128) (node : TreeNode (Option �
       record {
         cube = subst (IsCube g) same is.cube;
         met = subst (λ (ls : List Literal). is_met g.faults ls ≡ true) same is.met;
-        not_whole = subst (λ (ls : List Literal). All (λ (l : Literal). is_whole g.faults l ≡ false) ls) same is.not_whole;
-        within = subst (λ (ls : List Literal). All (λ (l : Literal). l.high ≤ top g.faults l.variable) ls) same is.within;
+        not_whole =
+            subst (λ (ls : List Literal). All (λ (l : Literal). is_whole g.faults l ≡ false) ls) same is.not_whole;
+        within =
+            subst (λ (ls : List Literal). All (λ (l : Literal). l.high ≤ top g.faults l.variable) ls) same is.within;
       }
 
-  pub tidy_columns : (columns : List Column) → IsPermutation (columns_of_paths (paths_of g.faults node)) columns → All (IsTidyColumn g) columns
+  pub tidy_columns : (columns : List Column) → IsPermutation (columns_of_paths (paths_of g.faults node)) columns →
+      All (IsTidyColumn g) columns
   tidy_columns columns p = All-permutation (IsTidyColumn g) (columns_of_paths (paths_of g.faults node)) columns p
-      (λ i d h. tidy_column (get_or (columns_of_paths (paths_of g.faults node)) i d) (Contains-get_or (columns_of_paths (paths_of g.faults node)) i d h))
+      (λ i d h. tidy_column (get_or (columns_of_paths (paths_of g.faults node)) i d)
+      (Contains-get_or (columns_of_paths (paths_of g.faults node)) i d h))

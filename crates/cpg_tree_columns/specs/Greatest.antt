@@ -1,5 +1,6 @@
 -- The greatest number of a tree of times, with the first scenario that has it.
-use Rattle.std.specs.Prelude.{ℕ, ◌≡◌, ◌≤◌, ◌==◌, max, if◌then◌else◌, Option, Some, None, List, Contains, All, IsPermutation}
+use Rattle.std.specs.Prelude.{ℕ, ◌≡◌, ◌≤◌, ◌==◌, max, if◌then◌else◌, Option, Some, None, List, Contains, All}
+use Rattle.std.specs.Prelude.{IsPermutation}
 use Rattle.cpg_base.specs.Graph.{Graph, process_count}
 use Rattle.cpg_base.specs.Scenario.{Scenario, IsScenario, IsLeast}
 use Rattle.cpg_base.specs.Numbers.{numbers_below}
@@ -15,7 +16,8 @@ abbrev pub HasValueAt : {T : Type 0} → List (Path T) → T → Scenario → Ty
 HasValueAt {T} paths value s = (p : Path T) × IsOnPath paths s p × (p.1 ≡ value)
 
 -- no number of a path is greater, and no earlier scenario has it
-pub record IsGreatestOf (g : Graph) (order : List ℕ) (paths : List (Path (Option ℕ))) (time : ℕ) (s : Scenario) : Type 0 where
+pub record IsGreatestOf (g : Graph) (order : List ℕ) (paths : List (Path (Option ℕ))) (time : ℕ)
+    (s : Scenario) : Type 0 where
   pub most : (p : Path (Option ℕ)) (other : ℕ) → Contains paths p → p.1 ≡ Some other → other ≤ time
   pub least : IsLeast g order (HasValueAt paths (Some time)) s
 
@@ -27,7 +29,8 @@ pub record HasNumberAt (paths : List (Path (Option ℕ))) (s : Scenario) : Type 
 -- no earlier scenario has the number in an order along which the columns stand
 abbrev pub IsLeastWhereSorted : Graph → List (Path (Option ℕ)) → ℕ → Scenario → Type 0
 IsLeastWhereSorted g paths number s = (order : List ℕ) → IsPermutation (numbers_below (process_count g)) order →
-    AreByLows (λ (c : Column). c.cube) g order (columns_of_paths paths) → IsLeast g order (HasValueAt paths (Some number)) s
+    AreByLows (λ (c : Column). c.cube) g order (columns_of_paths paths) →
+    IsLeast g order (HasValueAt paths (Some number)) s
 
 -- some scenario has the number
 pub record IsNumberReached (g : Graph) (paths : List (Path (Option ℕ))) (number : ℕ) : Type 0 where
@@ -39,7 +42,8 @@ pub record IsNumberReached (g : Graph) (paths : List (Path (Option ℕ))) (numbe
 pub record IsGreatestNumber (t : TreeState (Option ℕ)) (most : ℕ) : Type 0 where
   pub above : (p : Path (Option ℕ)) (other : ℕ) → Contains t.paths p → p.1 ≡ Some other → other ≤ most
   pub there : (p : Path (Option ℕ)) × Contains t.paths p × (p.1 ≡ Some most)
-  pub reached : (g : Graph) → process_count g ≤ 128 → t.faults ≡ g.faults → All (λ p. IsKnown g p.0) t.paths → IsNumberReached g t.paths most
+  pub reached : (g : Graph) → process_count g ≤ 128 → t.faults ≡ g.faults → All (λ p. IsKnown g p.0) t.paths →
+      IsNumberReached g t.paths most
 
 -- ---- without a list
 

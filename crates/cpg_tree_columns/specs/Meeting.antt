@@ -52,7 +52,8 @@ abbrev pub IsUpTo : Option ℕ → ℕ → Type 0
 IsUpTo None number = ⊥
 IsUpTo (Some most) number = number ≤ most
 
--- a space in which each range has a number, and the lows, which only variables of a graph have, are no more faults than it allows
+-- a space in which each range has a number, and the lows, which only variables of a graph have, are no more faults than
+-- it allows
 pub record IsOpenSpaceOf (g : Graph) (space : Space) : Type 0 where
   pub lows : length space.low ≡ 256
   pub highs : length space.high ≡ 256
@@ -69,7 +70,8 @@ pub record AreForksOf {T U : Type 0} (g : Graph) (a : TreeNode T) (b : TreeNode 
 
 -- if the variables of a tree and of another one are a graph's, a scenario of it in a space has a fact
 abbrev pub IsMetIn : {T U : Type 0} → Space → TreeNode T → TreeNode U → (Scenario → Type 0) → Type 0
-IsMetIn space a b fact = (g : Graph) → AreForksOf g a b → IsOpenSpaceOf g space → (s : Scenario) × IsScenario g s × IsInSpace space s × fact s
+IsMetIn space a b fact = (g : Graph) → AreForksOf g a b → IsOpenSpaceOf g space →
+    (s : Scenario) × IsScenario g s × IsInSpace space s × fact s
 
 -- a number of the tree that a scenario of the space comes to where the other one is true
 abbrev pub IsFoundIn : Space → TreeNode (Option ℕ) → TreeNode Bool → Option ℕ → Type 0
@@ -77,7 +79,8 @@ IsFoundIn space node wanted None = ⊥
 IsFoundIn space node wanted (Some number) = IsMetIn space node wanted (ComesTo node wanted number)
 
 -- the greatest of a number and of those that scenarios of a space come to where the other tree is true
-pub record IsMostInSpace (space : Space) (node : TreeNode (Option ℕ)) (wanted : TreeNode Bool) (best most : Option ℕ) : Type 0 where
+pub record IsMostInSpace (space : Space) (node : TreeNode (Option ℕ)) (wanted : TreeNode Bool)
+    (best most : Option ℕ) : Type 0 where
   pub above : (s : Scenario) (number : ℕ) → IsInSpace space s → ComesTo node wanted number s → IsUpTo most number
   pub from : (number : ℕ) → IsUpTo best number → IsUpTo most number
   pub found : (most ≡ best) ⊎ IsFoundIn space node wanted most

@@ -1,5 +1,6 @@
 -- What other parts and another fault number leave as it was.
-use Rattle.std.proofs.Common.{ℕ, zero, suc, ◌+◌, ◌<◌, ◌≤◌, ◌≡◌, ◌⊎◌, IfSome, None, List, [], ◌∷◌, ◌++◌, length, get_or, take, filter, All, refl, sym, ap, ap₂, ◌∙◌, subst, inl, inr, arith, append-nil}
+use Rattle.std.proofs.Common.{ℕ, zero, suc, ◌+◌, ◌<◌, ◌≤◌, ◌≡◌, ◌⊎◌, IfSome, None, List, [], ◌∷◌, ◌++◌, length, get_or}
+use Rattle.std.proofs.Common.{take, filter, All, refl, sym, ap, ap₂, ◌∙◌, subst, inl, inr, arith, append-nil}
 use Rattle.std.proofs.lemmas.List.{length-map, get_or-map, get_or_default, take_more}
 use Rattle.std.proofs.lemmas.List.Elements.{All-map}
 use Rattle.cpg_base.specs.declared.process.Process.{Process}
@@ -13,12 +14,14 @@ use Rattle.cpg_tune.specs.Asked.{row_graph}
 use Rattle.cpg_tune.specs.Retuned.{in_parts_each, retuned, ArePartsOf}
 use Rattle.cpg_tune.proofs.Fewest.{best_is_best}
 
-pub each_long : (ps : List Process) (parts : List ℕ) → length parts ≡ length ps → length (in_parts_each ps parts) ≡ length ps
+pub each_long : (ps : List Process) (parts : List ℕ) → length parts ≡ length ps →
+    length (in_parts_each ps parts) ≡ length ps
 each_long [] parts e = refl
 each_long (p ∷ ps) [] e = absurd (omega (arith, e))
 each_long (p ∷ ps) (n ∷ parts) e = ap suc (each_long ps parts (omega (arith, e)))
 
-pub each_at : (ps : List Process) (parts : List ℕ) (i : ℕ) (d : Process) → length parts ≡ length ps → i < length ps → get_or (in_parts_each ps parts) i d ≡ in_parts (get_or ps i d) (get_or parts i 0)
+pub each_at : (ps : List Process) (parts : List ℕ) (i : ℕ) (d : Process) → length parts ≡ length ps → i < length ps →
+    get_or (in_parts_each ps parts) i d ≡ in_parts (get_or ps i d) (get_or parts i 0)
 each_at [] parts i d e l = absurd (omega (arith, l))
 each_at (p ∷ ps) [] i d e l = absurd (omega (arith, e))
 each_at (p ∷ ps) (n ∷ parts) zero d e l = refl
@@ -31,7 +34,8 @@ each_done (p ∷ ps) [] e = refl
 each_done (p ∷ ps) (n ∷ parts) (inl e) = absurd (let l = ap length e in omega (arith, l))
 each_done (p ∷ ps) (n ∷ parts) (inr e) = absurd (let l = ap length e in omega (arith, l))
 
-pub each_whole : (ps : List Process) (parts : List ℕ) (whole copies : List Process) → whole ≡ copies ++ in_parts_each ps parts → (ps ≡ []) ⊎ (parts ≡ []) → copies ≡ whole
+pub each_whole : (ps : List Process) (parts : List ℕ) (whole copies : List Process) →
+    whole ≡ copies ++ in_parts_each ps parts → (ps ≡ []) ⊎ (parts ≡ []) → copies ≡ whole
 each_whole ps parts whole copies h e = sym (h ∙ ap (λ zs. copies ++ zs) (each_done ps parts e) ∙ append-nil copies)
 
 module _ (g : Graph) (parts : List ℕ) (faults : ℕ) (one_each : length parts ≡ process_count g) where
@@ -45,7 +49,9 @@ module _ (g : Graph) (parts : List ℕ) (faults : ℕ) (one_each : length parts 
   conditions_same = ap length disjunctions_same
 
 -- the graph stays within the limits
-pub retuned_within : (g : Graph) (parts : List ℕ) (faults : ℕ) → IsWithinLimits g → ArePartsOf g parts → faults ≤ MOST_FAULTS → IsWithinLimits (retuned g parts faults)
+pub retuned_within : (g : Graph) (parts : List ℕ) (faults : ℕ) → IsWithinLimits g → ArePartsOf g parts →
+    faults ≤ MOST_FAULTS →
+    IsWithinLimits (retuned g parts faults)
 retuned_within g parts faults w a few = record {
   faults = few;
   deadline = w.deadline;
@@ -55,17 +61,22 @@ retuned_within g parts faults w a few = record {
   few_edges = w.few_edges;
   few_conditions = subst (λ n. n ≤ 32) (sym (conditions_same g parts faults a.one_each)) w.few_conditions;
   slots = w.slots;
-  processes = λ i d l. (let within : i < length g.processes = subst (λ n. i < n) (count_same g parts faults a.one_each) l in
-      subst (IsProcessWithin (length g.nodes)) (sym (each_at g.processes parts i d a.one_each within)) (process_within i d within));
+  processes =
+      λ i d l. (let within : i < length g.processes = subst (λ n. i < n) (count_same g parts faults a.one_each) l in
+      subst (IsProcessWithin (length g.nodes)) (sym (each_at g.processes parts i d a.one_each within))
+      (process_within i d within));
   edges = subst (λ n. All (IsEdgeWithin n) g.edges) (sym (count_same g parts faults a.one_each)) w.edges;
   node_names = w.node_names;
-  process_names = λ i j d before l. (let within : j < length g.processes = subst (λ n. j < n) (count_same g parts faults a.one_each) l in
-      λ same. w.process_names i j d before within (sym (name_at i d (omega (arith, before, within))) ∙ (same ∙ name_at j d within)));
+  process_names = λ i j d before l.
+      (let within : j < length g.processes = subst (λ n. j < n) (count_same g parts faults a.one_each) l in
+      λ same. w.process_names i j d before within
+      (sym (name_at i d (omega (arith, before, within))) ∙ (same ∙ name_at j d within)));
   own_slots = w.own_slots;
   order = subst (λ n. IfSome g.order (IsOrderWithin n)) (sym (count_same g parts faults a.one_each)) w.order;
 }
   where
-    process_within : (i : ℕ) (d : Process) → i < length g.processes → IsProcessWithin (length g.nodes) (in_parts (get_or g.processes i d) (get_or parts i 0))
+    process_within : (i : ℕ) (d : Process) → i < length g.processes →
+        IsProcessWithin (length g.nodes) (in_parts (get_or g.processes i d) (get_or parts i 0))
     process_within i d l = let h = w.processes i d l in
         record {
           node = h.node;
@@ -80,7 +91,8 @@ retuned_within g parts faults w a few = record {
           deadline = h.deadline;
         }
 
-    name_at : (i : ℕ) (d : Process) → i < length g.processes → (get_or (in_parts_each g.processes parts) i d).name ≡ (get_or g.processes i d).name
+    name_at : (i : ℕ) (d : Process) → i < length g.processes →
+        (get_or (in_parts_each g.processes parts) i d).name ≡ (get_or g.processes i d).name
     name_at i d l = ap (λ (p : Process). p.name) (each_at g.processes parts i d a.one_each l)
 
 -- a graph stays within the limits without its order
@@ -106,8 +118,10 @@ orderless_within g w = record {
 pub best_parts_of : (g : Graph) → ArePartsOf g (best_parts g)
 best_parts_of g = record {
   one_each = length-map g.processes (λ (p : Process). best_of p g.faults);
-  divided = All-map (λ n. 1 ≤ n) (λ (p : Process). best_of p g.faults) g.processes (λ i d l. (best_is_best (get_or g.processes i d) g.faults).some);
-  few = All-map (λ n. n ≤ MOST_PARTS) (λ (p : Process). best_of p g.faults) g.processes (λ i d l. (best_is_best (get_or g.processes i d) g.faults).few);
+  divided = All-map (λ n. 1 ≤ n) (λ (p : Process). best_of p g.faults) g.processes
+      (λ i d l. (best_is_best (get_or g.processes i d) g.faults).some);
+  few = All-map (λ n. n ≤ MOST_PARTS) (λ (p : Process). best_of p g.faults) g.processes
+      (λ i d l. (best_is_best (get_or g.processes i d) g.faults).few);
 }
 
 -- the best parts of a process
@@ -117,23 +131,28 @@ best_at g p d l =
     get_or-map f g.processes p (process_at g p) d l ∙ ap f (get_or_default g.processes p _ _ l)
 
 -- one more of the best parts
-pub best_parts_push : (g : Graph) (p best : ℕ) (parts : List ℕ) → p < process_count g → parts ≡ take p (best_parts g) → best ≡ best_of (process_at g p) g.faults →
+pub best_parts_push : (g : Graph) (p best : ℕ) (parts : List ℕ) → p < process_count g → parts ≡ take p (best_parts g) →
+    best ≡ best_of (process_at g p) g.faults →
     parts ++ best ∷ [] ≡ take (p + 1) (best_parts g)
 best_parts_push g p best parts l is e =
     let long = length-map g.processes (λ (q : Process). best_of q g.faults) in
-    ap₂ (λ xs x. xs ++ x ∷ []) is (e ∙ sym (best_at g p 0 l)) ∙ sym (take_more (best_parts g) p 0 (omega (arith, l, long)))
+    ap₂ (λ xs x. xs ++ x ∷ []) is (e ∙ sym (best_at g p 0 l))
+    ∙ sym (take_more (best_parts g) p 0 (omega (arith, l, long)))
 
 -- how long a process lasts in the parts at its place
-duration_at : (g : Graph) (parts : List ℕ) → ArePartsOf g parts → (faults p f : ℕ) → p < process_count g → duration (retuned g parts faults) p f ≡ duration_in (process_at g p) f (get_or parts p 0)
+duration_at : (g : Graph) (parts : List ℕ) → ArePartsOf g parts → (faults p f : ℕ) → p < process_count g →
+    duration (retuned g parts faults) p f ≡ duration_in (process_at g p) f (get_or parts p 0)
 duration_at g parts a faults p f l = ap (λ (q : Process). duration_of q f) (each_at g.processes parts p _ a.one_each l)
 
-pub tuned_least : (g : Graph) (parts : List ℕ) → ArePartsOf g parts → (p : ℕ) → p < process_count g → duration (row_graph g g.faults) p g.faults ≤ duration (retuned g parts g.faults) p g.faults
+pub tuned_least : (g : Graph) (parts : List ℕ) → ArePartsOf g parts → (p : ℕ) → p < process_count g →
+    duration (row_graph g g.faults) p g.faults ≤ duration (retuned g parts g.faults) p g.faults
 tuned_least g parts a p l =
     let q = process_at g p in
     let best = best_is_best q g.faults in
     let within : p < length parts = omega (arith, l, a.one_each) in
     let least = best.least (get_or parts p 0) (a.divided p 0 within) (a.few p 0 within) in
     let there : get_or (best_parts g) p 0 ≡ best_of q g.faults = best_at g p 0 l in
-    let tuned = duration_at g (best_parts g) (best_parts_of g) g.faults p g.faults l ∙ ap (duration_in q g.faults) there in
+    let tuned =
+    duration_at g (best_parts g) (best_parts_of g) g.faults p g.faults l ∙ ap (duration_in q g.faults) there in
     let other = duration_at g parts a g.faults p g.faults l in
     omega (arith, least, tuned, other)

@@ -1,5 +1,6 @@
 -- The first number of parts that lasts least.
-use Rattle.std.proofs.Common.{ℕ, zero, suc, ◌+◌, ◌-◌, ◌*◌, ◌<◌, ◌≤◌, ◌≡◌, ◌⊎◌, Bool, true, false, cond, [], ◌∷◌, ◌++◌, fold, refl, sym, ap, ◌∙◌, subst, inl, inr, arith, min, ltb-true, le-ltb}
+use Rattle.std.proofs.Common.{ℕ, zero, suc, ◌+◌, ◌-◌, ◌*◌, ◌<◌, ◌≤◌, ◌≡◌, ◌⊎◌, Bool, true, false, cond, [], ◌∷◌, ◌++◌}
+use Rattle.std.proofs.Common.{fold, refl, sym, ap, ◌∙◌, subst, inl, inr, arith, min, ltb-true, le-ltb}
 use Rattle.std.proofs.Common.{mul-le-mul_right}
 use Rattle.std.specs.Prelude.{nat_lt}
 use Rattle.std.specs.Int.{div_ceil}
@@ -16,7 +17,8 @@ use Rattle.cpg_tune.specs.Best.{duration_in, shorter, best_of, IsBest}
 -- one more number at the end of a range
 range_push : (a n j : ℕ) → a + n ≡ j → range_with_len a (n + 1) ≡ range_with_len a n ++ j ∷ []
 range_push a n j e =
-    sym (map-id (range_with_len a (n + 1))) ∙ (map-range_with_len_more (λ x. x) a n j e ∙ ap (λ xs. xs ++ j ∷ []) (map-id (range_with_len a n)))
+    sym (map-id (range_with_len a (n + 1)))
+    ∙ (map-range_with_len_more (λ x. x) a n j e ∙ ap (λ xs. xs ++ j ∷ []) (map-id (range_with_len a n)))
 
 -- the first of 1 to n where a function is least
 record IsFirstLeast (d : ℕ → ℕ) (n best : ℕ) : Type 0 where
@@ -25,7 +27,8 @@ record IsFirstLeast (d : ℕ → ℕ) (n best : ℕ) : Type 0 where
   least : (m : ℕ) → 1 ≤ m → m ≤ n → d best ≤ d m
   first : (m : ℕ) → 1 ≤ m → m < best → d best < d m
 
-first_next : (d : ℕ → ℕ) (n best : ℕ) → IsFirstLeast d n best → IsFirstLeast d (n + 1) (cond (nat_lt (d (n + 1)) (d best)) (n + 1) best)
+first_next : (d : ℕ → ℕ) (n best : ℕ) → IsFirstLeast d n best →
+    IsFirstLeast d (n + 1) (cond (nat_lt (d (n + 1)) (d best)) (n + 1) best)
 first_next d n best h = go (nat_lt (d (n + 1)) (d best)) refl
   where
     or_last : (m : ℕ) → m ≤ n + 1 → (m ≤ n) ⊎ (m ≡ n + 1)
@@ -37,7 +40,10 @@ first_next d n best h = go (nat_lt (d (n + 1)) (d best)) refl
         record {
           some = omega arith;
           few = omega arith;
-          least = λ m some l. elim (or_last m l) [ inl k ↦ (let old = h.least m some k in omega (arith, old, less)) | inr e ↦ (let same = ap d e in omega (arith, same)) ];
+          least = λ m some l. elim (or_last m l) [
+            | inl k ↦ (let old = h.least m some k in omega (arith, old, less))
+            | inr e ↦ (let same = ap d e in omega (arith, same))
+          ];
           first = λ m some l. (let old = h.least m some (omega (arith, l)) in omega (arith, old, less));
         }
     go false f =
@@ -45,7 +51,10 @@ first_next d n best h = go (nat_lt (d (n + 1)) (d best)) refl
         record {
           some = h.some;
           few = (let old = h.few in omega (arith, old));
-          least = λ m some l. elim (or_last m l) [ inl k ↦ h.least m some k | inr e ↦ (let same = ap d e in omega (arith, same, no_less)) ];
+          least = λ m some l. elim (or_last m l) [
+            | inl k ↦ h.least m some k
+            | inr e ↦ (let same = ap d e in omega (arith, same, no_less))
+          ];
           first = h.first;
         }
 
@@ -67,10 +76,12 @@ one_unit work parts some many =
     let whole = div_ceil_times work parts (omega (arith, some, many)) in
     elim (cases_lt (div_ceil work parts) 2) [
       | inl few ↦ elim (cases_lt (div_ceil work parts) 1) [
-        | inl none ↦ (let nothing = ap (λ n. n * parts) (let e : div_ceil work parts ≡ 0 = omega (arith, none) in e) in absurd (omega (arith, nothing, whole.0, some)))
+        | inl none ↦ (let nothing = ap (λ n. n * parts) (let e : div_ceil work parts ≡ 0 = omega (arith, none) in e) in
+            absurd (omega (arith, nothing, whole.0, some)))
         | inr one ↦ omega (arith, few, one)
       ]
-      | inr more ↦ (let twice = mul-le-mul_right {m = 2} {n = div_ceil work parts} parts more in absurd (omega (arith, twice, whole.1, many)))
+      | inr more ↦ (let twice = mul-le-mul_right {m = 2} {n = div_ceil work parts} parts more in
+          absurd (omega (arith, twice, whole.1, many)))
     ]
 
 module _ (p : Process) (faults : ℕ) where
@@ -87,7 +98,9 @@ module _ (p : Process) (faults : ℕ) where
   fewest_first : (n m : ℕ) → m ≡ n + 1 → IsFirstLeast (duration_in p faults) m (fewest m)
   fewest_first zero m e =
       subst (λ k. IsFirstLeast (duration_in p faults) k (fewest k)) (sym e)
-      (subst (λ b. IsFirstLeast (duration_in p faults) 1 b) (sym (same_either (nat_lt (duration_in p faults 1) (duration_in p faults 1)) 1)) (one_first (duration_in p faults)))
+      (subst (λ b. IsFirstLeast (duration_in p faults) 1 b)
+      (sym (same_either (nat_lt (duration_in p faults 1) (duration_in p faults 1)) 1))
+      (one_first (duration_in p faults)))
   fewest_first (suc n) m e =
       subst (λ k. IsFirstLeast (duration_in p faults) k (fewest k)) (sym e)
       (subst (λ b. IsFirstLeast (duration_in p faults) (suc n + 1) b) (sym (fewest_next (suc n) (suc n + 1) refl))
@@ -95,24 +108,28 @@ module _ (p : Process) (faults : ℕ) where
 
   pub best_is_best : IsBest p faults (best_of p faults)
   unfolding best_of
-  best_is_best = let h = fewest_first 254 255 refl in record { some = h.some; few = h.few; least = h.least; first = h.first }
+  best_is_best = let h = fewest_first 254 255 refl in
+      record { some = h.some; few = h.few; least = h.least; first = h.first }
 
   -- with at least as many parts as units of work, one part more saves no time
   no_shorter : (n : ℕ) → 1 ≤ p.wcet → p.wcet ≤ n → duration_in p faults n ≤ duration_in p faults (n + 1)
   no_shorter n some many =
       let more = mul-le-mul_right {m = n} {n = n + 1} (p.alpha + p.chi) (omega arith) in
-      let same = ap (λ part. faults * (p.mu + part + p.alpha)) (one_unit p.wcet n some many ∙ sym (one_unit p.wcet (n + 1) some (omega (arith, many)))) in
+      let same = ap (λ part. faults * (p.mu + part + p.alpha))
+      (one_unit p.wcet n some many ∙ sym (one_unit p.wcet (n + 1) some (omega (arith, many)))) in
       omega (arith, more, same)
 
   -- so the first that lasts least stays the same
   fewest_stays : (n : ℕ) → 1 ≤ p.wcet → p.wcet ≤ n → (k : ℕ) → fewest (n + k) ≡ fewest n
   fewest_stays n some many zero = ap fewest (let e : n + zero ≡ n = omega arith in e)
   fewest_stays n some many (suc k) =
-      let least = (fewest_first (n + k - 1) (n + k) (omega (arith, some, many))).least (n + k) (omega (arith, some, many)) (omega arith) in
+      let least = (fewest_first (n + k - 1) (n + k) (omega (arith, some, many))).least (n + k)
+      (omega (arith, some, many)) (omega arith) in
       let later = no_shorter (n + k) some (omega (arith, many)) in
       let next : n + suc k ≡ n + k + 1 = omega arith in
       ap fewest next ∙ fewest_next (n + k) (n + k + 1) refl
-      ∙ ap (λ b. cond b (n + k + 1) (fewest (n + k))) (le-ltb (duration_in p faults (n + k + 1)) (duration_in p faults (fewest (n + k))) (omega (arith, least, later)))
+      ∙ ap (λ b. cond b (n + k + 1) (fewest (n + k))) (le-ltb (duration_in p faults (n + k + 1))
+      (duration_in p faults (fewest (n + k))) (omega (arith, least, later)))
       ∙ fewest_stays n some many k
 
   pub best_is_fewest : (n : ℕ) → 1 ≤ p.wcet → n ≡ min p.wcet MOST_PARTS → fewest n ≡ best_of p faults
@@ -133,8 +150,10 @@ module _ (p : Process) (faults : ℕ) where
 
     pub takes_next : duration_in p faults parts < duration_in p faults best → parts ≡ fewest (parts + 1 - 1)
     takes_next less =
-        sym (next_is ∙ ap (λ b. cond b parts best) (lt-ltb (duration_in p faults parts) (duration_in p faults best) less)) ∙ again
+        sym (next_is ∙ ap (λ b. cond b parts best)
+        (lt-ltb (duration_in p faults parts) (duration_in p faults best) less)) ∙ again
 
     pub keeps_best : duration_in p faults best ≤ duration_in p faults parts → best ≡ fewest (parts + 1 - 1)
     keeps_best no_less =
-        sym (next_is ∙ ap (λ b. cond b parts best) (le-ltb (duration_in p faults parts) (duration_in p faults best) no_less)) ∙ again
+        sym (next_is ∙ ap (λ b. cond b parts best)
+        (le-ltb (duration_in p faults parts) (duration_in p faults best) no_less)) ∙ again

@@ -1,5 +1,6 @@
 -- What the rules read of a graph is as it was with other parts and another fault number.
-use Rattle.std.proofs.Common.{ℕ, zero, suc, ◌+◌, ◌-◌, ◌<◌, ◌≤◌, ◌≡◌, ◌==◌, if◌then◌else◌, Bool, true, false, not, ◌&&◌, ◌||◌, List, [], ◌∷◌, length, get_or, filter, refl, sym, ap, ap₂, ◌∙◌, subst}
+use Rattle.std.proofs.Common.{ℕ, zero, suc, ◌+◌, ◌-◌, ◌<◌, ◌≤◌, ◌≡◌, ◌==◌, if◌then◌else◌, Bool, true, false, not, ◌&&◌}
+use Rattle.std.proofs.Common.{◌||◌, List, [], ◌∷◌, length, get_or, filter, refl, sym, ap, ap₂, ◌∙◌, subst}
 use Rattle.std.proofs.Common.{arith, ltb-true}
 use Rattle.std.specs.Prelude.{nat_lt, position, unwrap_or, IfSome, IsPermutation, Option, None, Some}
 use Rattle.std.proofs.lemmas.Bool.{both_ways}
@@ -9,9 +10,11 @@ use Rattle.cpg_base.specs.declared.process.Slot.{Slot}
 use Rattle.cpg_base.specs.declared.item.Item.{Item}
 use Rattle.cpg_base.specs.declared.item.Item.TheVariants.{Start, Message, Broadcast}
 use Rattle.cpg_base.specs.Numbers.{numbers_below}
-use Rattle.cpg_base.specs.Graph.{Graph, process_count, edge_count, condition_count, item_count, process_at, edge_at, node_of, source, inputs, is_message, process_of, item_at, is_sent_item}
+use Rattle.cpg_base.specs.Graph.{Graph, process_count, edge_count, condition_count, item_count, process_at, edge_at}
+use Rattle.cpg_base.specs.Graph.{node_of, source, inputs, is_message, process_of, item_at, is_sent_item}
 use Rattle.cpg_base.specs.Graph.{producer_of_item, producer, home}
-use Rattle.cpg_base.specs.Activity.{is_active, takes, value_of, activation_by, activation_within, activation, active, live}
+use Rattle.cpg_base.specs.Activity.{is_active, takes, value_of, activation_by, activation_within, activation, active}
+use Rattle.cpg_base.specs.Activity.{live}
 use Rattle.cpg_base.specs.WellFormed.{HasSingleJoins, HasSenderSlots}
 use Rattle.cpg_base.proofs.Inputs.{same_activation_by}
 use Rattle.cpg_base.proofs.Lists.{same_filter, same_all}
@@ -21,7 +24,8 @@ use Rattle.cpg_order.specs.Track.{is_track, track_count}
 use Rattle.cpg_order.specs.Urgency.{IsTopological}
 use Rattle.cpg_order.proofs.Cycles.{no_cycle}
 use Rattle.cpg_rules.specs.Guards.{Guards}
-use Rattle.cpg_rules.specs.declared.admission.RuleFault.TheVariants.{Cycle, TooManyTracks, TwoAlternatives, NoSlot, TooBig, BadOrder, OutOfMemory}
+use Rattle.cpg_rules.specs.declared.admission.RuleFault.TheVariants.{Cycle, TooManyTracks, TwoAlternatives, NoSlot}
+use Rattle.cpg_rules.specs.declared.admission.RuleFault.TheVariants.{TooBig, BadOrder, OutOfMemory}
 use Rattle.cpg_rules.specs.Rules.{slot_bytes, AllFit}
 use Rattle.cpg_rules.specs.Given.{GivesTopological}
 use Rattle.cpg_rules.specs.Admission.{IsAdmitted}
@@ -38,7 +42,8 @@ record IsAlike (p q : Process) : Type 0 where
   pub node : p.node ≡ q.node
   pub join : p.join ≡ q.join
 
-alike : (ps : List Process) (parts : List ℕ) (i : ℕ) (d : Process) → length parts ≡ length ps → IsAlike (get_or (in_parts_each ps parts) i d) (get_or ps i d)
+alike : (ps : List Process) (parts : List ℕ) (i : ℕ) (d : Process) → length parts ≡ length ps →
+    IsAlike (get_or (in_parts_each ps parts) i d) (get_or ps i d)
 alike [] parts i d e = record { node = refl; join = refl }
 alike (p ∷ ps) [] i d e = absurd (omega (arith, e))
 alike (p ∷ ps) (n ∷ parts) zero d e = record { node = refl; join = refl }
@@ -66,20 +71,26 @@ module _ (g : Graph) (parts : List ℕ) (faults : ℕ) (one_each : length parts 
   -- ---- activity
 
   value_same : (values : List Bool) (p : ℕ) → value_of h values p ≡ value_of g values p
-  value_same values p = ap (λ ps. get_or values (unwrap_or (position (λ q. q == p) ps) 0) false) (disjunctions_same g parts faults one_each)
+  value_same values p = ap (λ ps. get_or values (unwrap_or (position (λ q. q == p) ps) 0) false)
+      (disjunctions_same g parts faults one_each)
 
-  within_same : (depth : ℕ) (values : List Bool) (p : ℕ) → activation_within depth h values p ≡ activation_within depth g values p
+  within_same : (depth : ℕ) (values : List Bool) (p : ℕ) →
+      activation_within depth h values p ≡ activation_within depth g values p
   within_same zero values p = refl
   within_same (suc depth) values p =
-      ap (λ join. activation_by join (inputs g p) (λ e. is_active (activation_within depth h values (source g e)) && takes (edge_at g e).when (value_of h values (source g e)))) (join_same p)
+      ap (λ join. activation_by join (inputs g p) (λ e. is_active (activation_within depth h values (source g e))
+      && takes (edge_at g e).when (value_of h values (source g e)))) (join_same p)
       ∙ same_activation_by (process_at g p).join (inputs g p) _ _
-      (λ e among. ap₂ (λ a value. is_active a && takes (edge_at g e).when value) (within_same depth values (source g e)) (value_same values (source g e)))
+      (λ e among. ap₂ (λ a value. is_active a && takes (edge_at g e).when value) (within_same depth values (source g e))
+      (value_same values (source g e)))
 
   activation_same : (values : List Bool) (p : ℕ) → activation h values p ≡ activation g values p
-  activation_same values p = ap (λ n. activation_within n h values p) processes_same ∙ within_same (process_count g) values p
+  activation_same values p =
+      ap (λ n. activation_within n h values p) processes_same ∙ within_same (process_count g) values p
 
   live_same : (values : List Bool) (e : ℕ) → live h values e ≡ live g values e
-  live_same values e = ap₂ (λ a value. is_active a && takes (edge_at g e).when value) (activation_same values (source g e)) (value_same values (source g e))
+  live_same values e = ap₂ (λ a value. is_active a && takes (edge_at g e).when value)
+      (activation_same values (source g e)) (value_same values (source g e))
 
   -- ---- tracks and joins
 
@@ -89,7 +100,8 @@ module _ (g : Graph) (parts : List ℕ) (faults : ℕ) (one_each : length parts 
   track_same : (o : List Bool) → is_track h o ≡ is_track g o
   track_same o =
       ap (λ n. list_all (λ c. not (get_or o c false) || active h o (process_of h c)) (numbers_below n)) conditions_same
-      ∙ same_all _ _ (numbers_below (condition_count g)) (λ c among. ap (λ b. not (get_or o c false) || b) (active_same o c))
+      ∙ same_all _ _ (numbers_below (condition_count g))
+      (λ c among. ap (λ b. not (get_or o c false) || b) (active_same o c))
 
   tracks_same : track_count h ≡ track_count g
   tracks_same =
@@ -98,7 +110,8 @@ module _ (g : Graph) (parts : List ℕ) (faults : ℕ) (one_each : length parts 
 
   joins_same : HasSingleJoins g → HasSingleJoins h
   joins_same single p values l join long =
-      subst (λ n. n ≤ 1) (sym (ap length (same_filter (live h values) (live g values) (inputs g p) (λ e among. live_same values e))))
+      subst (λ n. n ≤ 1)
+      (sym (ap length (same_filter (live h values) (live g values) (inputs g p) (λ e among. live_same values e))))
       (single p values (subst (λ n. p < n) processes_same l) (sym (join_same p) ∙ join) (long ∙ conditions_same))
 
   -- ---- slots and sizes
@@ -107,7 +120,8 @@ module _ (g : Graph) (parts : List ℕ) (faults : ℕ) (one_each : length parts 
   message_same e = ap₂ (λ a b. not (a == b)) (node_same (source g e)) (node_same (edge_at g e).to)
 
   item_same : (x : ℕ) → item_at h x ≡ item_at g x
-  item_same x = ap (λ n. if nat_lt x n then Start x else if nat_lt x (n + edge_count g) then Message (x - n) else Broadcast (x - n - edge_count g)) processes_same
+  item_same x = ap (λ n. if nat_lt x n then Start x else if nat_lt x (n + edge_count g) then Message (x - n)
+      else Broadcast (x - n - edge_count g)) processes_same
 
   sent_same : (i : Item) → is_sent_item h i ≡ is_sent_item g i
   sent_same (Start p) = refl
@@ -120,7 +134,8 @@ module _ (g : Graph) (parts : List ℕ) (faults : ℕ) (one_each : length parts 
   producer_same (Broadcast c) = process_of_same c
 
   home_same : (x : ℕ) → home h x ≡ home g x
-  home_same x = node_same (producer h x) ∙ ap (node_of g) (ap (producer_of_item h) (item_same x) ∙ producer_same (item_at g x))
+  home_same x =
+      node_same (producer h x) ∙ ap (node_of g) (ap (producer_of_item h) (item_same x) ∙ producer_same (item_at g x))
 
   pub items_same : item_count h ≡ item_count g
   items_same = ap₂ (λ n c. n + edge_count g + c) processes_same conditions_same
@@ -128,19 +143,25 @@ module _ (g : Graph) (parts : List ℕ) (faults : ℕ) (one_each : length parts 
   slots_same : HasSenderSlots g → HasSenderSlots h
   slots_same senders x l sent =
       subst (λ n. list_any (λ (s : Slot). s.node == n) g.slots ≡ true) (sym (home_same x))
-      (senders x (subst (λ n. x < n) items_same l) (sym (ap (is_sent_item h) (item_same x) ∙ sent_same (item_at g x)) ∙ sent))
+      (senders x (subst (λ n. x < n) items_same l)
+      (sym (ap (is_sent_item h) (item_same x) ∙ sent_same (item_at g x)) ∙ sent))
 
   sizes_same : AllFit g → AllFit h
   sizes_same fit e l =
-      ap₂ (λ m node. m && nat_lt (slot_bytes g node) (edge_at g e).size) (message_same e) (node_same (source g e)) ∙ fit e l
+      ap₂ (λ m node. m && nat_lt (slot_bytes g node) (edge_at g e).size) (message_same e) (node_same (source g e))
+      ∙ fit e l
 
   -- cycles are of edges alone
   cycle_same : HasCycle h → HasCycle g
-  cycle_same (walk, c) = (walk, record { some = c.some; apart = c.apart; least = c.least; next = c.next; back = c.back })
+  cycle_same (walk, c) =
+      (walk, record { some = c.some; apart = c.apart; least = c.least; next = c.next; back = c.back })
 
   -- a topological order of the graph is one of the other
   topological_same : (order : List ℕ) → IsTopological g order → IsTopological h order
-  topological_same order top = record { all = subst (λ n. IsPermutation (numbers_below n) order) (sym processes_same) top.all; forward = top.forward }
+  topological_same order top = record {
+    all = subst (λ n. IsPermutation (numbers_below n) order) (sym processes_same) top.all;
+    forward = top.forward;
+  }
 
   given_same : GivesTopological g → GivesTopological h
   given_same = go g.order
@@ -150,25 +171,39 @@ module _ (g : Graph) (parts : List ℕ) (faults : ℕ) (one_each : length parts 
       go (Some order) top = topological_same order top
 
   pub keeps_rules : KeepsRules g h
-  keeps_rules = record { cycle = cycle_same; tracks = tracks_same; joins = joins_same; slots = slots_same; sizes = sizes_same; given = given_same }
+  keeps_rules = record {
+    cycle = cycle_same;
+    tracks = tracks_same;
+    joins = joins_same;
+    slots = slots_same;
+    sizes = sizes_same;
+    given = given_same;
+  }
 
 -- two live inputs are more than one
 two_live : (n : ℕ) → n ≤ 1 → nat_lt 1 n ≡ true → ⊥
 two_live n l t = let above = ltb-true 1 n t in omega arith
 
-pub no_fault : (g h : Graph) (order : List ℕ) (guards : Guards) → IsAdmitted g order guards → KeepsRules g h → ShowsNoFault h
-no_fault g h order guards is keeps (Cycle walk) shows = absurd (no_cycle g order is.topological (keeps.cycle (walk, shows)))
-no_fault g h order guards is keeps TooManyTracks shows = absurd (let few = is.tracks in let same = keeps.tracks in let many = shows.2 in omega (arith, few, same, many))
+pub no_fault : (g h : Graph) (order : List ℕ) (guards : Guards) → IsAdmitted g order guards → KeepsRules g h →
+    ShowsNoFault h
+no_fault g h order guards is keeps (Cycle walk) shows =
+    absurd (no_cycle g order is.topological (keeps.cycle (walk, shows)))
+no_fault g h order guards is keeps TooManyTracks shows =
+    absurd (let few = is.tracks in let same = keeps.tracks in let many = shows.2 in omega (arith, few, same, many))
 no_fault g h order guards is keeps (TwoAlternatives p s) shows =
     let a = shows.2 in
-    absurd (two_live (length (filter (live h s.values) (inputs h p))) (keeps.joins is.joins p s.values a.within a.join a.least.lawful.values) a.least.holds)
+    absurd (two_live (length (filter (live h s.values) (inputs h p)))
+    (keeps.joins is.joins p s.values a.within a.join a.least.lawful.values) a.least.holds)
 no_fault g h order guards is keeps (NoSlot node) shows = absurd (no_lack h (keeps.slots is.slots) node shows.2.lacks)
-no_fault g h order guards is keeps (TooBig e) shows = absurd (both_ways _ (keeps.sizes is.sizes e shows.2.within) shows.2.above)
+no_fault g h order guards is keeps (TooBig e) shows =
+    absurd (both_ways _ (keeps.sizes is.sizes e shows.2.within) shows.2.above)
 no_fault g h order guards is keeps (BadOrder p) shows =
     let bad = shows.2 in
     absurd (none_bad h bad.order (subst (λ o. IfSome o (IsTopological h)) bad.given (keeps.given is.given)) p bad.bad)
 no_fault g h order guards is keeps OutOfMemory shows = refl
 
 -- no fault is shown with the best parts but that memory runs out
-pub tuned_no_fault : (g : Graph) (order : List ℕ) (guards : Guards) → IsAdmitted g order guards → (faults : ℕ) → ShowsNoFault (row_graph g faults)
-tuned_no_fault g order guards is faults = no_fault g (row_graph g faults) order guards is (keeps_rules g (best_parts g) faults (best_parts_of g).one_each)
+pub tuned_no_fault : (g : Graph) (order : List ℕ) (guards : Guards) → IsAdmitted g order guards → (faults : ℕ) →
+    ShowsNoFault (row_graph g faults)
+tuned_no_fault g order guards is faults =
+    no_fault g (row_graph g faults) order guards is (keeps_rules g (best_parts g) faults (best_parts_of g).one_each)

@@ -1,5 +1,6 @@
 -- The last row that is accepted.
-use Rattle.std.proofs.Common.{ℕ, zero, suc, ◌+◌, ◌<◌, ◌≡◌, ◌⊎◌, Bool, true, false, cond, List, [], ◌∷◌, Option, Some, None, length, refl, sym, ap, ◌∙◌, subst, inl, inr, arith}
+use Rattle.std.proofs.Common.{ℕ, zero, suc, ◌+◌, ◌<◌, ◌≡◌, ◌⊎◌, Bool, true, false, cond, List, [], ◌∷◌, Option, Some}
+use Rattle.std.proofs.Common.{None, length, refl, sym, ap, ◌∙◌, subst, inl, inr, arith}
 use Rattle.cpg_tune.specs.declared.judge.Judged.{Judged}
 use Rattle.cpg_tune.specs.Tuned.{is_accepted, row_at, tolerated_from, tolerated, IsGreatestAccepted}
 
@@ -7,34 +8,48 @@ use Rattle.cpg_tune.specs.Tuned.{is_accepted, row_at, tolerated_from, tolerated,
 abbrev IsLastFrom : ℕ → Option ℕ → List Judged → Option ℕ → Type 0
 IsLastFrom from found rows last =
     ((last ≡ found) × ((k : ℕ) → k < length rows → is_accepted (row_at rows k) ≡ false))
-    ⊎ ((k : ℕ) × (k < length rows) × (last ≡ Some (from + k)) × (is_accepted (row_at rows k) ≡ true) × ((m : ℕ) → k < m → m < length rows → is_accepted (row_at rows m) ≡ false))
+    ⊎ ((k : ℕ) × (k < length rows) × (last ≡ Some (from + k)) × (is_accepted (row_at rows k) ≡ true) ×
+    ((m : ℕ) → k < m → m < length rows → is_accepted (row_at rows m) ≡ false))
 
-last_from : (from : ℕ) (found : Option ℕ) (rows : List Judged) → IsLastFrom from found rows (tolerated_from from found rows)
+last_from : (from : ℕ) (found : Option ℕ) (rows : List Judged) →
+    IsLastFrom from found rows (tolerated_from from found rows)
 last_from from found [] = inl (refl, λ k l. absurd (omega (arith, l)))
-last_from from found (row ∷ rows) = go (is_accepted row) refl (last_from (from + 1) (cond (is_accepted row) (Some from) found) rows)
+last_from from found (row ∷ rows) =
+    go (is_accepted row) refl (last_from (from + 1) (cond (is_accepted row) (Some from) found) rows)
   where
-    none_later : ((k : ℕ) → k < length rows → is_accepted (row_at rows k) ≡ false) → (m : ℕ) → 0 < m → m < suc (length rows) → is_accepted (row_at (row ∷ rows) m) ≡ false
+    none_later : ((k : ℕ) → k < length rows → is_accepted (row_at rows k) ≡ false) → (m : ℕ) → 0 < m →
+        m < suc (length rows) →
+        is_accepted (row_at (row ∷ rows) m) ≡ false
     none_later h zero a b = absurd (omega (arith, a))
     none_later h (suc m) a b = h m (omega (arith, b))
 
-    none_after : (k : ℕ) → ((m : ℕ) → k < m → m < length rows → is_accepted (row_at rows m) ≡ false) → (m : ℕ) → suc k < m → m < suc (length rows) → is_accepted (row_at (row ∷ rows) m) ≡ false
+    none_after : (k : ℕ) → ((m : ℕ) → k < m → m < length rows → is_accepted (row_at rows m) ≡ false) → (m : ℕ) →
+        suc k < m → m < suc (length rows) →
+        is_accepted (row_at (row ∷ rows) m) ≡ false
     none_after k h zero a b = absurd (omega (arith, a))
     none_after k h (suc m) a b = h m (omega (arith, a)) (omega (arith, b))
 
-    none_here : is_accepted row ≡ false → ((k : ℕ) → k < length rows → is_accepted (row_at rows k) ≡ false) → (m : ℕ) → m < suc (length rows) → is_accepted (row_at (row ∷ rows) m) ≡ false
+    none_here : is_accepted row ≡ false → ((k : ℕ) → k < length rows → is_accepted (row_at rows k) ≡ false) → (m : ℕ) →
+        m < suc (length rows) →
+        is_accepted (row_at (row ∷ rows) m) ≡ false
     none_here e h zero b = e
     none_here e h (suc m) b = h m (omega (arith, b))
 
-    go : (b : Bool) → is_accepted row ≡ b → IsLastFrom (from + 1) (cond b (Some from) found) rows (tolerated_from (from + 1) (cond b (Some from) found) rows)
+    go : (b : Bool) → is_accepted row ≡ b →
+        IsLastFrom (from + 1) (cond b (Some from) found) rows
+        (tolerated_from (from + 1) (cond b (Some from) found) rows)
         → IsLastFrom from found (row ∷ rows) (tolerated_from (from + 1) (cond b (Some from) found) rows)
     go true e (inl (is, none)) = inr (0, omega arith, is ∙ ap Some (omega arith), e, none_later none)
     go false e (inl (is, none)) = inl (is, none_here e none)
-    go true e (inr (k, within, is, accepted, none)) = inr (suc k, omega (arith, within), is ∙ ap Some (omega arith), accepted, none_after k none)
-    go false e (inr (k, within, is, accepted, none)) = inr (suc k, omega (arith, within), is ∙ ap Some (omega arith), accepted, none_after k none)
+    go true e (inr (k, within, is, accepted, none)) =
+        inr (suc k, omega (arith, within), is ∙ ap Some (omega arith), accepted, none_after k none)
+    go false e (inr (k, within, is, accepted, none)) =
+        inr (suc k, omega (arith, within), is ∙ ap Some (omega arith), accepted, none_after k none)
 
 pub tolerated_greatest : (rows : List Judged) → IsGreatestAccepted rows (tolerated rows)
 tolerated_greatest rows = go (tolerated rows) (last_from 0 None rows)
   where
     go : (last : Option ℕ) → IsLastFrom 0 None rows last → IsGreatestAccepted rows last
     go last (inl (is, none)) = subst (IsGreatestAccepted rows) (sym is) none
-    go last (inr (k, within, is, accepted, none)) = subst (IsGreatestAccepted rows) (sym (is ∙ ap Some (omega arith))) (within, accepted, none)
+    go last (inr (k, within, is, accepted, none)) =
+        subst (IsGreatestAccepted rows) (sym (is ∙ ap Some (omega arith))) (within, accepted, none)

@@ -25,7 +25,8 @@ pub record KeepsRules (g h : Graph) : Type 0 where
 
 -- with a number of parts for each process, and any fault number
 abbrev pub RetunedKeepRules : Type 0
-RetunedKeepRules = (g : Graph) (parts : List ℕ) (faults : ℕ) → length parts ≡ process_count g → KeepsRules g (retuned g parts faults)
+RetunedKeepRules =
+    (g : Graph) (parts : List ℕ) (faults : ℕ) → length parts ≡ process_count g → KeepsRules g (retuned g parts faults)
 
 -- no fault is shown but that memory runs out
 abbrev pub ShowsNoFault : Graph → Type 0
@@ -33,9 +34,11 @@ ShowsNoFault g = (fault : RuleFault) → ShowsFault g fault → fault ≡ OutOfM
 
 -- an admitted graph is not refused with other parts and another fault number, unless memory runs out
 abbrev pub RetunedShowNoFault : Type 0
-RetunedShowNoFault = (g : Graph) (order : List ℕ) (guards : Guards) → IsAdmitted g order guards → (parts : List ℕ) (faults : ℕ) →
+RetunedShowNoFault =
+    (g : Graph) (order : List ℕ) (guards : Guards) → IsAdmitted g order guards → (parts : List ℕ) (faults : ℕ) →
     length parts ≡ process_count g → ShowsNoFault (retuned g parts faults)
 
 -- an admitted graph is not refused with its best parts and another fault number, unless memory runs out
 abbrev pub TunedShowNoFault : Type 0
-TunedShowNoFault = (g : Graph) (order : List ℕ) (guards : Guards) → IsAdmitted g order guards → (faults : ℕ) → ShowsNoFault (row_graph g faults)
+TunedShowNoFault = (g : Graph) (order : List ℕ) (guards : Guards) → IsAdmitted g order guards → (faults : ℕ) →
+    ShowsNoFault (row_graph g faults)

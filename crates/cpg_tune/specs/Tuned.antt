@@ -1,5 +1,6 @@
 -- What tuning finds: the best parts, a judge's answer for each fault number, and how many faults are tolerated.
-use Rattle.std.specs.Prelude.{ℕ, ◌+◌, ◌≡◌, ◌<◌, Bool, true, false, if◌then◌else◌, List, [], ◌∷◌, Option, Some, None, length, get_or}
+use Rattle.std.specs.Prelude.{ℕ, ◌+◌, ◌≡◌, ◌<◌, Bool, true, false, if◌then◌else◌, List, [], ◌∷◌, Option, Some, None}
+use Rattle.std.specs.Prelude.{length, get_or}
 use Rattle.cpg_base.specs.declared.limits.TheConstants.{MOST_FAULTS}
 use Rattle.cpg_base.specs.Graph.{Graph}
 use Rattle.cpg_tune.specs.declared.judge.Judged.{Judged}
@@ -23,10 +24,12 @@ is_accepted (Wide item) = false
 abbrev pub row_at : List Judged → ℕ → Judged
 row_at rows faults = get_or rows faults (Wide 0)
 
--- the place of the last accepted row, if `faults` is the place of the first row here, and `found` is the last one before it
+-- the place of the last accepted row, if `faults` is the place of the first row here, and `found` is the last one
+-- before it
 abbrev pub tolerated_from : ℕ → Option ℕ → List Judged → Option ℕ
 tolerated_from faults found [] = found
-tolerated_from faults found (row ∷ rows) = tolerated_from (faults + 1) (if is_accepted row then Some faults else found) rows
+tolerated_from faults found (row ∷ rows) =
+    tolerated_from (faults + 1) (if is_accepted row then Some faults else found) rows
 
 -- the greatest fault number whose row is accepted
 abbrev pub tolerated : List Judged → Option ℕ

@@ -1,5 +1,6 @@
 -- The least scenario by a tree of tests: at a leaf, and from those of both arms of a test.
-use Rattle.std.proofs.Common.{ℕ, ◌≡◌, Bool, true, false, cond, not, ◌&&◌, ◌||◌, List, get_or, Option, None, refl, ap, ◌∙◌}
+use Rattle.std.proofs.Common.{ℕ, ◌≡◌, Bool, true, false, cond, not, ◌&&◌, ◌||◌, List, get_or, Option, None, refl, ap}
+use Rattle.std.proofs.Common.{◌∙◌}
 use Rattle.std.specs.Prelude.{nat_le}
 use Rattle.std.specs.List.{list_any}
 use Rattle.std.proofs.Math.Bool.{or-false}
@@ -21,18 +22,23 @@ use Rattle.cpg_violation.proofs.Tests.{with_true}
 
 -- ---- a value's literal
 
-same_value : (b v : Bool) → (nat_le (number_of_value b) (number_of_value v) && nat_le (number_of_value v) (number_of_value b)) ≡ same_bool b v
+same_value : (b v : Bool) →
+    (nat_le (number_of_value b) (number_of_value v) && nat_le (number_of_value v) (number_of_value b)) ≡ same_bool b v
 same_value true true = refl
 same_value true false = refl
 same_value false true = refl
 same_value false false = refl
 
-pub value_holds : (s : Scenario) (c : ℕ) (b : Bool) → holds s (value_literal c b) ≡ same_bool b (get_or s.values c false)
-value_holds s c b = ap (λ n. nat_le (number_of_value b) n && nat_le n (number_of_value b)) (number_of-value s c) ∙ same_value b (get_or s.values c false)
+pub value_holds : (s : Scenario) (c : ℕ) (b : Bool) →
+    holds s (value_literal c b) ≡ same_bool b (get_or s.values c false)
+value_holds s c b = ap (λ n. nat_le (number_of_value b) n && nat_le n (number_of_value b)) (number_of-value s c)
+    ∙ same_value b (get_or s.values c false)
 
 -- ---- the steps
 
-of_arms : (v m : Bool) (wanted : Bool) (off on : Activation) → ((same_bool false v && (m && same_bool wanted (is_active off))) || (same_bool true v && (m && same_bool wanted (is_active on)))) ≡
+of_arms : (v m : Bool) (wanted : Bool) (off on : Activation) →
+    ((same_bool false v && (m && same_bool wanted (is_active off)))
+    || (same_bool true v && (m && same_bool wanted (is_active on)))) ≡
     (m && same_bool wanted (is_active (cond v on off)))
 of_arms true m wanted off on = refl
 of_arms false m wanted off on = or-false (m && same_bool wanted (is_active off))
@@ -46,11 +52,14 @@ never true m n x e = ap (λ b. (b && n) && x) e
 never false m n x e = refl
 
 module _ (g : Graph) (order : List ℕ) (by : List (List Literal)) (wanted : Bool) (cube : List Literal) where
-  pub at_leaf : (a : Activation) (o : Option Scenario) → same_bool wanted (is_active a) ≡ true → IsFirst g order (is_left by cube) o →
+  pub at_leaf : (a : Activation) (o : Option Scenario) → same_bool wanted (is_active a) ≡ true →
+      IsFirst g order (is_left by cube) o →
       IsFirst g order (λ s. is_left by cube s && comes_to (Leaf a) wanted s) o
-  at_leaf a o e f = first_same g order (is_left by cube) (λ s. is_left by cube s && comes_to (Leaf a) wanted s) o (λ s _. with_true (is_left by cube s) (same_bool wanted (is_active a)) e) f
+  at_leaf a o e f = first_same g order (is_left by cube) (λ s. is_left by cube s && comes_to (Leaf a) wanted s) o
+      (λ s _. with_true (is_left by cube s) (same_bool wanted (is_active a)) e) f
 
-  pub at_other_leaf : (a : Activation) → same_bool wanted (is_active a) ≡ false → IsFirst g order (λ s. is_left by cube s && comes_to (Leaf a) wanted s) None
+  pub at_other_leaf : (a : Activation) → same_bool wanted (is_active a) ≡ false →
+      IsFirst g order (λ s. is_left by cube s && comes_to (Leaf a) wanted s) None
   at_other_leaf a e = λ s _. and_right (is_left by cube s) (same_bool wanted (is_active a)) e
 
   pub at_test : (c : ℕ) (off on : Guard) (a b : Option Scenario)
@@ -58,20 +67,27 @@ module _ (g : Graph) (order : List ℕ) (by : List (List Literal)) (wanted : Boo
       → IsFirst g order (λ s. holds s (value_literal c true) && (is_left by cube s && comes_to on wanted s)) b
       → IsFirst g order (λ s. is_left by cube s && comes_to (Test c off on) wanted s) (earlier g order a b)
   at_test c off on a b f h = first_same g order
-      (λ s. (holds s (value_literal c false) && (is_left by cube s && comes_to off wanted s)) || (holds s (value_literal c true) && (is_left by cube s && comes_to on wanted s)))
+      (λ s. (holds s (value_literal c false) && (is_left by cube s && comes_to off wanted s))
+      || (holds s (value_literal c true) && (is_left by cube s && comes_to on wanted s)))
       (λ s. is_left by cube s && comes_to (Test c off on) wanted s) (earlier g order a b)
-      (λ s _. ap (λ t. (t && (is_left by cube s && comes_to off wanted s)) || (holds s (value_literal c true) && (is_left by cube s && comes_to on wanted s))) (value_holds s c false)
-      ∙ ap (λ t. (same_bool false (get_or s.values c false) && (is_left by cube s && comes_to off wanted s)) || (t && (is_left by cube s && comes_to on wanted s))) (value_holds s c true)
+      (λ s _. ap (λ t. (t && (is_left by cube s && comes_to off wanted s))
+      || (holds s (value_literal c true) && (is_left by cube s && comes_to on wanted s))) (value_holds s c false)
+      ∙ ap (λ t. (same_bool false (get_or s.values c false) && (is_left by cube s && comes_to off wanted s))
+      || (t && (is_left by cube s && comes_to on wanted s))) (value_holds s c true)
       ∙ of_arms (get_or s.values c false) (is_left by cube s) wanted (outcome_at off s.values) (outcome_at on s.values))
       (first_or g order _ _ a b f h)
 
   module _ (l : Literal) (tree : Guard) where
-    pub where_holds : (part : List Literal) (o : Option Scenario) → ((s : Scenario) → matches part s ≡ (holds s l && matches cube s)) →
+    pub where_holds : (part : List Literal) (o : Option Scenario) →
+        ((s : Scenario) → matches part s ≡ (holds s l && matches cube s)) →
         IsFirst g order (λ s. is_left by part s && comes_to tree wanted s) o
         → IsFirst g order (λ s. holds s l && (is_left by cube s && comes_to tree wanted s)) o
-    where_holds part o both f = first_same g order (λ s. is_left by part s && comes_to tree wanted s) (λ s. holds s l && (is_left by cube s && comes_to tree wanted s)) o
+    where_holds part o both f = first_same g order (λ s. is_left by part s && comes_to tree wanted s)
+        (λ s. holds s l && (is_left by cube s && comes_to tree wanted s)) o
         (λ s _. ap (λ m. (m && not (list_any (λ b. matches b s) by)) && comes_to tree wanted s) (both s) ∙
         moved (holds s l) (matches cube s) (not (list_any (λ b. matches b s) by)) (comes_to tree wanted s)) f
 
-    pub where_never : ((s : Scenario) → (holds s l && matches cube s) ≡ false) → IsFirst g order (λ s. holds s l && (is_left by cube s && comes_to tree wanted s)) None
-    where_never none = λ s _. never (holds s l) (matches cube s) (not (list_any (λ b. matches b s) by)) (comes_to tree wanted s) (none s)
+    pub where_never : ((s : Scenario) → (holds s l && matches cube s) ≡ false) →
+        IsFirst g order (λ s. holds s l && (is_left by cube s && comes_to tree wanted s)) None
+    where_never none = λ s _.
+        never (holds s l) (matches cube s) (not (list_any (λ b. matches b s) by)) (comes_to tree wanted s) (none s)

@@ -1,5 +1,6 @@
 -- Going over the elements of a list, and over the columns of a row, by the least scenario that breaks each.
-use Rattle.std.proofs.Common.{ℕ, ◌+◌, ◌<◌, ◌≤◌, ◌≡◌, Bool, true, false, cond, ◌&&◌, ◌||◌, List, [], ◌∷◌, length, get_or, take, filter, Option, refl, sym, ap, ◌∙◌}
+use Rattle.std.proofs.Common.{ℕ, ◌+◌, ◌<◌, ◌≤◌, ◌≡◌, Bool, true, false, cond, ◌&&◌, ◌||◌, List, [], ◌∷◌, length, get_or}
+use Rattle.std.proofs.Common.{take, filter, Option, refl, sym, ap, ◌∙◌}
 use Rattle.std.specs.List.{list_any}
 use Rattle.std.proofs.Math.Bool.{or-false}
 use Rattle.std.proofs.lemmas.List.{drop_more, drop_all}
@@ -17,33 +18,44 @@ both_or true a b = refl
 both_or false a b = refl
 
 -- a test of what passes another
-pub any_filter : {X : Type 0} (test keep : X → Bool) (xs : List X) → list_any test (filter keep xs) ≡ list_any (λ x. keep x && test x) xs
+pub any_filter : {X : Type 0} (test keep : X → Bool) (xs : List X) →
+    list_any test (filter keep xs) ≡ list_any (λ x. keep x && test x) xs
 any_filter test keep [] = refl
 any_filter test keep (x ∷ xs) = go (keep x) (any_filter test keep xs)
   where
     go : (b : Bool) → list_any test (filter keep xs) ≡ list_any (λ x. keep x && test x) xs →
-        list_any test (cond b (x ∷ filter keep xs) (filter keep xs)) ≡ ((b && test x) || list_any (λ x. keep x && test x) xs)
+        list_any test (cond b (x ∷ filter keep xs) (filter keep xs))
+        ≡ ((b && test x) || list_any (λ x. keep x && test x) xs)
     go true ih = ap (λ r. test x || r) ih
     go false ih = ih
 
-module _ {X : Type 0} (g : Graph) (order : List ℕ) (fact : Scenario → Bool) (test : Scenario → X → Bool) (xs : List X) where
+module _ {X : Type 0} (g : Graph) (order : List ℕ) (fact : Scenario → Bool) (test : Scenario → X → Bool)
+    (xs : List X) where
   -- one element more that may fail
-  pub first_any_more : (i : ℕ) (d : X) → i < length xs → (a b : Option Scenario) → IsFirst g order (λ s. fact s && list_any (test s) (take i xs)) a
-      → IsFirst g order (λ s. fact s && test s (get_or xs i d)) b → IsFirst g order (λ s. fact s && list_any (test s) (take (i + 1) xs)) (earlier g order a b)
+  pub first_any_more : (i : ℕ) (d : X) → i < length xs → (a b : Option Scenario) →
+      IsFirst g order (λ s. fact s && list_any (test s) (take i xs)) a
+      → IsFirst g order (λ s. fact s && test s (get_or xs i d)) b →
+      IsFirst g order (λ s. fact s && list_any (test s) (take (i + 1) xs)) (earlier g order a b)
   first_any_more i d h a b f k = first_same g order
-      (λ s. (fact s && list_any (test s) (take i xs)) || (fact s && test s (get_or xs i d))) (λ s. fact s && list_any (test s) (take (i + 1) xs)) (earlier g order a b)
-      (λ s _. both_or (fact s) (list_any (test s) (take i xs)) (test s (get_or xs i d)) ∙ ap (λ m. fact s && m) (sym (list_any_more (test s) xs i d h)))
+      (λ s. (fact s && list_any (test s) (take i xs)) || (fact s && test s (get_or xs i d)))
+      (λ s. fact s && list_any (test s) (take (i + 1) xs)) (earlier g order a b)
+      (λ s _. both_or (fact s) (list_any (test s) (take i xs)) (test s (get_or xs i d))
+      ∙ ap (λ m. fact s && m) (sym (list_any_more (test s) xs i d h)))
       (first_or g order (λ s. fact s && list_any (test s) (take i xs)) (λ s. fact s && test s (get_or xs i d)) a b f k)
 
 -- either of two failures
-pub first_either : (g : Graph) (order : List ℕ) (fact p q : Scenario → Bool) (a b : Option Scenario) → IsFirst g order (λ s. fact s && p s) a → IsFirst g order (λ s. fact s && q s) b
+pub first_either : (g : Graph) (order : List ℕ) (fact p q : Scenario → Bool) (a b : Option Scenario) →
+    IsFirst g order (λ s. fact s && p s) a →
+    IsFirst g order (λ s. fact s && q s) b
     → IsFirst g order (λ s. fact s && (p s || q s)) (earlier g order a b)
-first_either g order fact p q a b f h = first_same g order (λ s. (fact s && p s) || (fact s && q s)) (λ s. fact s && (p s || q s)) (earlier g order a b)
+first_either g order fact p q a b f h =
+    first_same g order (λ s. (fact s && p s) || (fact s && q s)) (λ s. fact s && (p s || q s)) (earlier g order a b)
     (λ s _. both_or (fact s) (p s) (q s)) (first_or g order (λ s. fact s && p s) (λ s. fact s && q s) a b f h)
 
 module _ (test : Scenario → Column → Bool) (columns : List Column) (i : ℕ) where
   -- the column at a place
-  pub broken_at : (d : Column) (s : Scenario) → i < length columns → (matches (get_or columns i d).cube s && test s (get_or columns i d)) ≡ is_broken test columns i s
+  pub broken_at : (d : Column) (s : Scenario) → i < length columns →
+      (matches (get_or columns i d).cube s && test s (get_or columns i d)) ≡ is_broken test columns i s
   broken_at d s h = sym (or-false (matches (get_or columns i d).cube s && test s (get_or columns i d)))
       ∙ sym (ap (λ l. list_any (λ (c : Column). matches c.cube s && test s c) (take 1 l)) (drop_more columns i d h))
 
@@ -53,5 +65,8 @@ module _ (test : Scenario → Column → Bool) (columns : List Column) (i : ℕ)
 
   -- the answer for a column is that for its place
   pub broken_place : (g : Graph) (order : List ℕ) (d : Column) → i < length columns → (o : Option Scenario)
-      → IsFirst g order (λ s. matches (get_or columns i d).cube s && test s (get_or columns i d)) o → IsFirst g order (is_broken test columns i) o
-  broken_place g order d h o f = first_same g order (λ s. matches (get_or columns i d).cube s && test s (get_or columns i d)) (is_broken test columns i) o (λ s _. broken_at d s h) f
+      → IsFirst g order (λ s. matches (get_or columns i d).cube s && test s (get_or columns i d)) o →
+      IsFirst g order (is_broken test columns i) o
+  broken_place g order d h o f =
+      first_same g order (λ s. matches (get_or columns i d).cube s && test s (get_or columns i d))
+      (is_broken test columns i) o (λ s _. broken_at d s h) f

@@ -1,5 +1,6 @@
 -- Two lists compared element by element.
-use Rattle.std.proofs.Common.{ℕ, ◌+◌, ◌<◌, ◌≤◌, ◌≡◌, ◌≢◌, List, [], ◌∷◌, ◌++◌, length, get_or, take, map, min, arith, sym, ap, ap₂, ◌∙◌, inl, inr}
+use Rattle.std.proofs.Common.{ℕ, ◌+◌, ◌<◌, ◌≤◌, ◌≡◌, ◌≢◌, List, [], ◌∷◌, ◌++◌, length, get_or, take, map, min, arith}
+use Rattle.std.proofs.Common.{sym, ap, ap₂, ◌∙◌, inl, inr}
 use Rattle.std.specs.Prelude.{slice_get}
 use Rattle.std.proofs.lemmas.Bool.{cases_lt}
 use Rattle.std.proofs.lemmas.List.{take_more, take_all, get_or-map, length-map, get_or_default}
@@ -7,12 +8,15 @@ use Rattle.std.proofs.lemmas.Option.{slice_get-get_or, slice_get_past, same_Some
 
 module _ {X : Type 0} (xs ys : List X) (i : ℕ) where
   -- one element more that is the same
-  pub same_more : (d e : X) → i < length xs → i < length ys → get_or xs i d ≡ get_or ys i e → take i xs ≡ take i ys → take (i + 1) xs ≡ take (i + 1) ys
+  pub same_more : (d e : X) → i < length xs → i < length ys → get_or xs i d ≡ get_or ys i e → take i xs ≡ take i ys →
+      take (i + 1) xs ≡ take (i + 1) ys
   same_more d e h k s t = take_more xs i d h ∙ ap₂ (λ ts x. ts ++ x ∷ []) t s ∙ sym (take_more ys i e k)
 
   -- an element that differs
-  pub differ_here : (d e : X) → i < length xs → i < length ys → get_or xs i d ≢ get_or ys i e → slice_get xs i ≢ slice_get ys i
-  differ_here d e h k n q = n (same_Some (get_or xs i d) (get_or ys i e) (sym (slice_get-get_or xs i d h) ∙ q ∙ slice_get-get_or ys i e k))
+  pub differ_here : (d e : X) → i < length xs → i < length ys → get_or xs i d ≢ get_or ys i e →
+      slice_get xs i ≢ slice_get ys i
+  differ_here d e h k n q =
+      n (same_Some (get_or xs i d) (get_or ys i e) (sym (slice_get-get_or xs i d h) ∙ q ∙ slice_get-get_or ys i e k))
 
   -- lists that differ at a place differ
   pub differ_lists : (d e : X) → i < length xs → get_or xs i d ≢ get_or ys i e → xs ≢ ys
@@ -24,10 +28,12 @@ module _ {X : Type 0} (xs ys : List X) (i : ℕ) where
     where
       go : (ys : List X) → i < length ys → slice_get xs i ≡ slice_get ys i → ⊥
       go [] k q = absurd (omega arith)
-      go (y ∷ ys) k q = none-some (get_or (y ∷ ys) i y) (sym (slice_get_past xs i h) ∙ q ∙ slice_get-get_or (y ∷ ys) i y k)
+      go (y ∷ ys) k q =
+          none-some (get_or (y ∷ ys) i y) (sym (slice_get_past xs i h) ∙ q ∙ slice_get-get_or (y ∷ ys) i y k)
 
 -- lists of two lengths differ where the shorter ends
-pub ends_differ : {X : Type 0} (xs ys : List X) (i : ℕ) → i ≡ min (length xs) (length ys) → length xs ≢ length ys → slice_get xs i ≢ slice_get ys i
+pub ends_differ : {X : Type 0} (xs ys : List X) (i : ℕ) → i ≡ min (length xs) (length ys) → length xs ≢ length ys →
+    slice_get xs i ≢ slice_get ys i
 ends_differ xs ys i e n = elim (cases_lt i (length ys)) [
   | inl lt ↦ ends_first xs ys i (omega arith) lt
   | inr ge ↦ λ q. ends_first ys xs i ge (omega (arith, n)) (sym q)
@@ -37,12 +43,14 @@ ends_differ xs ys i e n = elim (cases_lt i (length ys)) [
 pub same_whole : {X : Type 0} (xs ys : List X) (i : ℕ) → length xs ≤ i → length ys ≤ i → take i xs ≡ take i ys → xs ≡ ys
 same_whole xs ys i h k t = sym (take_all i xs h) ∙ t ∙ take_all i ys k
 
-module _ {X Y : Type 0} (f : Y → X) (xs : List X) (ys : List Y) (i : ℕ) (x : X) (y : Y) (h : i < length xs) (k : i < length ys) (is : x ≡ get_or xs i x) (at : y ≡ get_or ys i y) where
+module _ {X Y : Type 0} (f : Y → X) (xs : List X) (ys : List Y) (i : ℕ) (x : X) (y : Y) (h : i < length xs)
+    (k : i < length ys) (is : x ≡ get_or xs i x) (at : y ≡ get_or ys i y) where
   mapped : get_or (map f ys) i (f y) ≡ f y
   mapped = get_or-map f ys i y (f y) k ∙ ap f (sym at)
 
   pub same_more_mapped : x ≡ f y → take i xs ≡ take i (map f ys) → take (i + 1) xs ≡ take (i + 1) (map f ys)
-  same_more_mapped e t = same_more xs (map f ys) i x (f y) h (omega (arith, length-map ys f)) (sym is ∙ e ∙ sym mapped) t
+  same_more_mapped e t =
+      same_more xs (map f ys) i x (f y) h (omega (arith, length-map ys f)) (sym is ∙ e ∙ sym mapped) t
 
   pub differ_mapped : x ≢ f y → slice_get xs i ≢ slice_get (map f ys) i
   differ_mapped n = differ_here xs (map f ys) i x (f y) h (omega (arith, length-map ys f)) (λ e. n (is ∙ e ∙ mapped))

@@ -10,11 +10,20 @@ use Rattle.cpg_cube.proofs.Boxes.{number_within, top_of_count}
 
 pub duration_grows : (g : Graph) (p m n : ℕ) → m ≤ n → duration g p m ≤ duration g p n
 duration_grows g p m n h =
-    let more : m * ((process_at g p).mu + div_ceil (process_at g p).wcet (process_at g p).parts + (process_at g p).alpha) ≤ n *
+    let more : m
+    * ((process_at g p).mu + div_ceil (process_at g p).wcet (process_at g p).parts + (process_at g p).alpha) ≤ n *
     ((process_at g p).mu + div_ceil (process_at g p).wcet (process_at g p).parts + (process_at g p).alpha) =
-    mul-le-mul_right ((process_at g p).mu + div_ceil (process_at g p).wcet (process_at g p).parts + (process_at g p).alpha) h in
+    mul-le-mul_right
+    ((process_at g p).mu + div_ceil (process_at g p).wcet (process_at g p).parts + (process_at g p).alpha) h in
     omega arith
 
 -- a process fails no more often than there may be faults
-pub fault_within : (g : Graph) → process_count g ≤ 128 → (p : ℕ) → p < process_count g → (s : Scenario) → IsScenario g s → fault_of s p ≤ g.faults
-fault_within g few p l s law = omega (arith, number_within g few s law p (inl l), number_of-fault s p (omega (arith, few, l)), top_of_count g.faults p (omega (arith, few, l)))
+pub fault_within : (g : Graph) → process_count g ≤ 128 → (p : ℕ) → p < process_count g → (s : Scenario) →
+    IsScenario g s →
+    fault_of s p ≤ g.faults
+fault_within g few p l s law = omega (
+  arith,
+  number_within g few s law p (inl l),
+  number_of-fault s p (omega (arith, few, l)),
+  top_of_count g.faults p (omega (arith, few, l)),
+)

@@ -1,5 +1,6 @@
 -- What version 2 says of the processes, compared with the graph's one process after another.
-use Rattle.std.proofs.Common.{ℕ, ◌+◌, ◌<◌, ◌≤◌, ◌≡◌, List, Option, Some, None, IfSome, length, get_or, take, map, arith, sym, ◌∙◌, inl, inr}
+use Rattle.std.proofs.Common.{ℕ, ◌+◌, ◌<◌, ◌≤◌, ◌≡◌, List, Option, Some, None, IfSome, length, get_or, take, map, arith}
+use Rattle.std.proofs.Common.{sym, ◌∙◌, inl, inr}
 use Rattle.std.specs.Prelude.{slice_get}
 use Rattle.std.specs.Option.{option_and_then}
 use Rattle.std.proofs.lemmas.Bool.{cases_lt}
@@ -13,17 +14,22 @@ use Rattle.cpg_violation.proofs.Differences.{same_more, same_whole}
 
 module _ (ps : List Process) (p : ℕ) (e : Extra) (d : Process) (l : p < length ps) where
   -- one more that is the same
-  pub extras_more : (o : Option (List Extra)) → Some e ≡ option_and_then (λ es. slice_get es p) o → e ≡ extra_of (get_or ps p d)
-      → IfSome o (λ es. take p es ≡ take p (map extra_of ps)) → IfSome o (λ es. take (p + 1) es ≡ take (p + 1) (map extra_of ps))
+  pub extras_more : (o : Option (List Extra)) → Some e ≡ option_and_then (λ es. slice_get es p) o →
+      e ≡ extra_of (get_or ps p d)
+      → IfSome o (λ es. take p es ≡ take p (map extra_of ps)) →
+      IfSome o (λ es. take (p + 1) es ≡ take (p + 1) (map extra_of ps))
   extras_more None i s t = tt
   extras_more (Some es) i s t = elim (cases_lt p (length es)) [
     | inl lt ↦ same_more es (map extra_of ps) p e (extra_of d) lt (omega (arith, length-map ps extra_of))
-        (sym (same_Some e (get_or es p e) (i ∙ slice_get-get_or es p e lt)) ∙ s ∙ sym (get_or-map extra_of ps p d (extra_of d) l)) t
+        (sym (same_Some e (get_or es p e) (i ∙ slice_get-get_or es p e lt)) ∙ s
+        ∙ sym (get_or-map extra_of ps p d (extra_of d) l)) t
     | inr ge ↦ absurd (none-some e (sym (slice_get_past es p ge) ∙ sym i))
   ]
 
 -- all of them
-pub extras_whole : (ps : List Process) (p : ℕ) (o : Option (List Extra)) → length ps ≤ p → IfSome o (AreExtras (length ps))
+pub extras_whole : (ps : List Process) (p : ℕ) (o : Option (List Extra)) → length ps ≤ p →
+    IfSome o (AreExtras (length ps))
     → IfSome o (λ es. take p es ≡ take p (map extra_of ps)) → IfSome o (λ es. es ≡ map extra_of ps)
 extras_whole ps p None h k t = tt
-extras_whole ps p (Some es) h k t = same_whole es (map extra_of ps) p (omega (arith, k.count)) (omega (arith, length-map ps extra_of)) t
+extras_whole ps p (Some es) h k t =
+    same_whole es (map extra_of ps) p (omega (arith, k.count)) (omega (arith, length-map ps extra_of)) t

@@ -1,5 +1,6 @@
 -- Processes and items that are active in all scenarios of a space, or in none.
-use Rattle.std.proofs.Common.{ℕ, ◌<◌, ◌≡◌, Bool, true, false, not, ◌&&◌, List, Option, Some, get_or, refl, sym, ap, ◌∙◌, subst}
+use Rattle.std.proofs.Common.{ℕ, ◌<◌, ◌≡◌, Bool, true, false, not, ◌&&◌, List, Option, Some, get_or, refl, sym, ap, ◌∙◌}
+use Rattle.std.proofs.Common.{subst}
 use Rattle.std.specs.Bool.{OnTrue}
 use Rattle.std.specs.Prelude.{unwrap_or}
 use Rattle.std.proofs.lemmas.Bool.{both_ways}
@@ -21,35 +22,51 @@ use Rattle.cpg_violation.proofs.ActiveWhere.{value_holds}
 
 -- a test comes to nothing wanted if the sides that are open do
 module _ (wanted : Bool) (c : ℕ) (off on : Guard) (s : Scenario) where
-  arms : (v : Bool) → get_or s.values c false ≡ v → (v ≡ false → comes_to off wanted s ≡ false) → (v ≡ true → comes_to on wanted s ≡ false) → comes_to (Test c off on) wanted s ≡ false
+  arms : (v : Bool) → get_or s.values c false ≡ v → (v ≡ false → comes_to off wanted s ≡ false) →
+      (v ≡ true → comes_to on wanted s ≡ false) →
+      comes_to (Test c off on) wanted s ≡ false
   arms true e low high = rw e (high refl)
   arms false e low high = rw e (low refl)
 
-  pub only_on : holds s (value_literal c true) ≡ true → comes_to on wanted s ≡ false → comes_to (Test c off on) wanted s ≡ false
-  only_on h high = arms (get_or s.values c false) refl (λ e. absurd (both_ways (holds s (value_literal c true)) (value_holds s c true ∙ ap (same_bool true) e) h)) (λ e. high)
+  pub only_on : holds s (value_literal c true) ≡ true → comes_to on wanted s ≡ false →
+      comes_to (Test c off on) wanted s ≡ false
+  only_on h high = arms (get_or s.values c false) refl (λ e.
+      absurd (both_ways (holds s (value_literal c true)) (value_holds s c true ∙ ap (same_bool true) e) h)) (λ e. high)
 
-  pub only_off : holds s (value_literal c false) ≡ true → comes_to off wanted s ≡ false → comes_to (Test c off on) wanted s ≡ false
-  only_off h low = arms (get_or s.values c false) refl (λ e. low) (λ e. absurd (both_ways (holds s (value_literal c false)) (value_holds s c false ∙ ap (same_bool false) e) h))
+  pub only_off : holds s (value_literal c false) ≡ true → comes_to off wanted s ≡ false →
+      comes_to (Test c off on) wanted s ≡ false
+  only_off h low = arms (get_or s.values c false) refl (λ e. low)
+      (λ e. absurd (both_ways (holds s (value_literal c false)) (value_holds s c false ∙ ap (same_bool false) e) h))
 
-  pub both_arms : comes_to off wanted s ≡ false → comes_to on wanted s ≡ false → comes_to (Test c off on) wanted s ≡ false
+  pub both_arms : comes_to off wanted s ≡ false → comes_to on wanted s ≡ false →
+      comes_to (Test c off on) wanted s ≡ false
   both_arms low high = arms (get_or s.values c false) refl (λ e. low) (λ e. high)
 
 -- the same in all scenarios of a space
 module _ (wanted : Bool) (tree : Guard) (c : ℕ) (off on : Guard) (is : tree ≡ Test c off on) (space : Space) where
-  pub step_on : (b : Bool) → OnTrue b ((s : Scenario) → IsInSpace space s → comes_to on wanted s ≡ false) → ((s : Scenario) → IsInSpace space s → holds s (value_literal c true) ≡ true)
+  pub step_on : (b : Bool) → OnTrue b ((s : Scenario) → IsInSpace space s → comes_to on wanted s ≡ false) →
+      ((s : Scenario) → IsInSpace space s → holds s (value_literal c true) ≡ true)
       → OnTrue b ((s : Scenario) → IsInSpace space s → comes_to tree wanted s ≡ false)
-  step_on b high some = of_true b high (λ h. subst (λ t. (s : Scenario) → IsInSpace space s → comes_to t wanted s ≡ false) (sym is) (λ s lies. only_on wanted c off on s (some s lies) (h s lies)))
+  step_on b high some =
+      of_true b high (λ h. subst (λ t. (s : Scenario) → IsInSpace space s → comes_to t wanted s ≡ false) (sym is)
+      (λ s lies. only_on wanted c off on s (some s lies) (h s lies)))
 
-  pub step_off : ((s : Scenario) → IsInSpace space s → comes_to off wanted s ≡ false) → ((s : Scenario) → IsInSpace space s → holds s (value_literal c false) ≡ true)
+  pub step_off : ((s : Scenario) → IsInSpace space s → comes_to off wanted s ≡ false) →
+      ((s : Scenario) → IsInSpace space s → holds s (value_literal c false) ≡ true)
       → (s : Scenario) → IsInSpace space s → comes_to tree wanted s ≡ false
-  step_off low none = subst (λ t. (s : Scenario) → IsInSpace space s → comes_to t wanted s ≡ false) (sym is) (λ s lies. only_off wanted c off on s (none s lies) (low s lies))
+  step_off low none = subst (λ t. (s : Scenario) → IsInSpace space s → comes_to t wanted s ≡ false) (sym is)
+      (λ s lies. only_off wanted c off on s (none s lies) (low s lies))
 
-  pub step_both : (b : Bool) → ((s : Scenario) → IsInSpace space s → comes_to off wanted s ≡ false) → OnTrue b ((s : Scenario) → IsInSpace space s → comes_to on wanted s ≡ false)
+  pub step_both : (b : Bool) → ((s : Scenario) → IsInSpace space s → comes_to off wanted s ≡ false) →
+      OnTrue b ((s : Scenario) → IsInSpace space s → comes_to on wanted s ≡ false)
       → OnTrue b ((s : Scenario) → IsInSpace space s → comes_to tree wanted s ≡ false)
-  step_both b low high = of_true b high (λ h. subst (λ t. (s : Scenario) → IsInSpace space s → comes_to t wanted s ≡ false) (sym is) (λ s lies. both_arms wanted c off on s (low s lies) (h s lies)))
+  step_both b low high =
+      of_true b high (λ h. subst (λ t. (s : Scenario) → IsInSpace space s → comes_to t wanted s ≡ false) (sym is)
+      (λ s lies. both_arms wanted c off on s (low s lies) (h s lies)))
 
 -- a process by its tree
-module _ {g : Graph} {order : List ℕ} {guards : Guards} (admitted : IsAdmitted g order guards) (p : ℕ) (l : p < process_count g) (s : Scenario) (law : IsScenario g s) where
+module _ {g : Graph} {order : List ℕ} {guards : Guards} (admitted : IsAdmitted g order guards) (p : ℕ)
+    (l : p < process_count g) (s : Scenario) (law : IsScenario g s) where
   by_tree : is_active (outcome_at (tree_of guards p) s.values) ≡ active g s.values p
   by_tree = ap is_active ((admitted.guards.trees p l).is s.values law.values)
 
@@ -68,9 +85,11 @@ module _ {g : Graph} {order : List ℕ} {guards : Guards} (admitted : IsAdmitted
   running_of e = sym by_tree ∙ same_false (is_active (outcome_at (tree_of guards p) s.values)) e
 
 -- the value that an edge asks for
-module _ (g : Graph) (s : Scenario) (p c : ℕ) (when : Option Bool) (value : Bool) (is : condition_of g p ≡ Some c) (asks : when ≡ Some value) where
+module _ (g : Graph) (s : Scenario) (p c : ℕ) (when : Option Bool) (value : Bool) (is : condition_of g p ≡ Some c)
+    (asks : when ≡ Some value) where
   taken_as : takes when (value_of g s.values p) ≡ same_bool value (get_or s.values c false)
-  taken_as = ap (λ w. takes w (value_of g s.values p)) asks ∙ ap (λ o. same_bool value (get_or s.values (unwrap_or o 0) false)) is
+  taken_as = ap (λ w. takes w (value_of g s.values p)) asks
+      ∙ ap (λ o. same_bool value (get_or s.values (unwrap_or o 0) false)) is
 
   pub taken_of : holds s (value_literal c value) ≡ true → takes when (value_of g s.values p) ≡ true
   taken_of h = taken_as ∙ sym (value_holds s c value) ∙ h
@@ -97,6 +116,7 @@ pub both_there : (a t : Bool) → a ≡ true → t ≡ true → (a && t) ≡ tru
 both_there a t e f = rw (e, f) refl
 
 -- an item is active as its source is
-pub as_source : (g : Graph) (x : ℕ) (found source : ItemSource) → ((values : List Bool) → item_active g values (item_at g x) ≡ is_active_by g values found) → found ≡ source
+pub as_source : (g : Graph) (x : ℕ) (found source : ItemSource) →
+    ((values : List Bool) → item_active g values (item_at g x) ≡ is_active_by g values found) → found ≡ source
     → (values : List Bool) → item_active g values (item_at g x) ≡ is_active_by g values source
 as_source g x found source active is values = active values ∙ ap (is_active_by g values) is

@@ -19,23 +19,40 @@ same_but_extras : (g : Graph) (h : Head) → IsHeadFor g h → record h { extras
 same_but_extras g h k = rw (k.faults, k.nodes, k.processes.processes, k.edges) refl
 
 -- tables under it are tables under the graph's own head
-pub tables_of_graph : (g : Graph) (h : Head) (tables : List NodeTable) → IsHeadFor g h → AreTablesOf h tables → AreTablesOf (head_of g) tables
+pub tables_of_graph : (g : Graph) (h : Head) (tables : List NodeTable) → IsHeadFor g h → AreTablesOf h tables →
+    AreTablesOf (head_of g) tables
 tables_of_graph g h tables k are = subst (λ (head : Head). AreTablesOf head tables) (same_but_extras g h k)
     (record {
       count = are.count;
       each = λ node l. let t = are.each node l in
-          record { faults = t.faults; first_broadcast = t.first_broadcast; own = t.own; starts = t.starts; sends = t.sends; hears = t.hears; lawful = t.lawful };
+          record {
+            faults = t.faults;
+            first_broadcast = t.first_broadcast;
+            own = t.own;
+            starts = t.starts;
+            sends = t.sends;
+            hears = t.hears;
+            lawful = t.lawful;
+          };
       few = are.few;
     })
 
 -- and a node hears by it what it hears in the graph
-pub hears_of_graph : (g : Graph) (h : Head) → IsHeadFor g h → IsWithinLimits g → (node : ℕ) → node < length g.nodes → hears_of h node ≡ heard_by g node
-hears_of_graph g h k within node l = ap (λ (head : Head). hears_of head node) (same_but_extras g h k) ∙ hears_are g within node l
+pub hears_of_graph : (g : Graph) (h : Head) → IsHeadFor g h → IsWithinLimits g → (node : ℕ) → node < length g.nodes →
+    hears_of h node ≡ heard_by g node
+hears_of_graph g h k within node l =
+    ap (λ (head : Head). hears_of head node) (same_but_extras g h k) ∙ hears_are g within node l
 
-own_extras : (ps : List Process) (plain : Bool) → IfSome (cond plain None (Some (map extra_of ps))) (λ extras. extras ≡ map extra_of ps)
+own_extras : (ps : List Process) (plain : Bool) →
+    IfSome (cond plain None (Some (map extra_of ps))) (λ extras. extras ≡ map extra_of ps)
 own_extras ps true = tt
 own_extras ps false = refl
 
 -- the head that is made for a graph is one
 pub own_head : (g : Graph) → IsHeadFor g (head_of g)
-own_head g = record { faults = refl; nodes = refl; processes = record { processes = refl; extras = own_extras g.processes (list_all is_plain g.processes) }; edges = refl }
+own_head g = record {
+  faults = refl;
+  nodes = refl;
+  processes = record { processes = refl; extras = own_extras g.processes (list_all is_plain g.processes) };
+  edges = refl;
+}

@@ -1,5 +1,6 @@
 -- The first and the last time of columns, and lines of which one is sifted.
-use Rattle.std.proofs.Common.{ℕ, ◌+◌, ◌<◌, ◌≤◌, ◌≡◌, List, length, get_or, slice_set, take, drop, All, arith, ap, ◌∙◌, sym, subst, inl, inr}
+use Rattle.std.proofs.Common.{ℕ, ◌+◌, ◌<◌, ◌≤◌, ◌≡◌, List, length, get_or, slice_set, take, drop, All, arith, ap, ◌∙◌}
+use Rattle.std.proofs.Common.{sym, subst, inl, inr}
 use Rattle.std.specs.List.{fold}
 use Rattle.std.proofs.lemmas.Bool.{cases_eq}
 use Rattle.std.proofs.lemmas.List.{drop_more, get_or-set_same, get_or-set_other, length-set}
@@ -10,28 +11,39 @@ use Rattle.cpg_violation.specs.Lines.{AreLines, IsLine}
 use Rattle.cpg_violation.specs.declared.lines.SievedLine.{SievedLine}
 
 -- a walk takes one element more
-pub fold_more : {X : Type 0} (f : ℕ → X → ℕ) (value next : ℕ) (xs : List X) (i : ℕ) (d x : X) → i < length xs → x ≡ get_or xs i d → next ≡ f value x →
+pub fold_more : {X : Type 0} (f : ℕ → X → ℕ) (value next : ℕ) (xs : List X) (i : ℕ) (d x : X) → i < length xs →
+    x ≡ get_or xs i d →
+    next ≡ f value x →
     fold f next (drop (i + 1) xs) ≡ fold f value (drop i xs)
-fold_more f value next xs i d x l is by = ap (λ v. fold f v (drop (i + 1) xs)) (by ∙ ap (f value) is) ∙ sym (ap (fold f value) (drop_more xs i d l))
+fold_more f value next xs i d x l is by =
+    ap (λ v. fold f v (drop (i + 1) xs)) (by ∙ ap (f value) is) ∙ sym (ap (fold f value) (drop_more xs i d l))
 
 -- times that none is before or after
-pub not_before_more : (columns : List Column) (k : ℕ) (c : Column) (first less : ℕ) → k < length columns → c ≡ get_or columns k c → All (λ (d : Column). first ≤ d.time) (take k columns) →
+pub not_before_more : (columns : List Column) (k : ℕ) (c : Column) (first less : ℕ) → k < length columns →
+    c ≡ get_or columns k c →
+    All (λ (d : Column). first ≤ d.time) (take k columns) →
     less ≤ first → less ≤ c.time → All (λ (d : Column). less ≤ d.time) (take (k + 1) columns)
 not_before_more columns k c first less l is before a b = All-more (λ (d : Column). less ≤ d.time) columns k c l
-    (All-weaker (λ (d : Column). first ≤ d.time) (λ (d : Column). less ≤ d.time) (λ d m. omega arith) (take k columns) before) (subst (λ (d : Column). less ≤ d.time) is b)
+    (All-weaker (λ (d : Column). first ≤ d.time) (λ (d : Column). less ≤ d.time) (λ d m. omega arith)
+    (take k columns) before) (subst (λ (d : Column). less ≤ d.time) is b)
 
-pub not_after_more : (columns : List Column) (k : ℕ) (c : Column) (last more : ℕ) → k < length columns → c ≡ get_or columns k c → All (λ (d : Column). d.time ≤ last) (take k columns) → last ≤ more →
+pub not_after_more : (columns : List Column) (k : ℕ) (c : Column) (last more : ℕ) → k < length columns →
+    c ≡ get_or columns k c → All (λ (d : Column). d.time ≤ last) (take k columns) → last ≤ more →
     c.time ≤ more → All (λ (d : Column). d.time ≤ more) (take (k + 1) columns)
 not_after_more columns k c last more l is before a b = All-more (λ (d : Column). d.time ≤ more) columns k c l
-    (All-weaker (λ (d : Column). d.time ≤ last) (λ (d : Column). d.time ≤ more) (λ d m. omega arith) (take k columns) before) (subst (λ (d : Column). d.time ≤ more) is b)
+    (All-weaker (λ (d : Column). d.time ≤ last) (λ (d : Column). d.time ≤ more) (λ d m. omega arith)
+    (take k columns) before) (subst (λ (d : Column). d.time ≤ more) is b)
 
 -- lines of which one is sifted
-pub lines_sifted : (tables : List NodeTable) (items : ℕ) (lines : List SievedLine) (x : ℕ) (old new : SievedLine) → x < length lines →
-    (IsLine (columns_of tables x) (get_or lines x old) → IsLine (columns_of tables x) new) → AreLines tables items lines → AreLines tables items (slice_set lines x new)
+pub lines_sifted : (tables : List NodeTable) (items : ℕ) (lines : List SievedLine) (x : ℕ) (old new : SievedLine) →
+    x < length lines →
+    (IsLine (columns_of tables x) (get_or lines x old) → IsLine (columns_of tables x) new) →
+    AreLines tables items lines → AreLines tables items (slice_set lines x new)
 lines_sifted tables items lines x old new within sifts h = record {
   count = length-set lines x new ∙ h.count;
   each = λ y d l. elim (cases_eq y x) [
-    | inl same ↦ subst (λ z. IsLine (columns_of tables z) (get_or (slice_set lines x new) z d)) (sym same) (rw (get_or-set_same lines x new d within) sifted)
+    | inl same ↦ subst (λ z. IsLine (columns_of tables z) (get_or (slice_set lines x new) z d)) (sym same)
+        (rw (get_or-set_same lines x new d within) sifted)
     | inr other ↦ rw (get_or-set_other lines x y new d other) (h.each y d l)
   ];
 }

@@ -8,13 +8,17 @@ use Rattle.cpg_order.proofs.Acyclic.{source_in_order}
 use Rattle.cpg_rules.specs.Guards.{Guards, AreGuardsOf, is_passed, test_of, active_by, edge_guard, edge_guard_of}
 use Rattle.cpg_rules.proofs.EdgeGuards.{active_by-is, live_by-is}
 
-guard_at : (g : Graph) (order : List ℕ) (guards : Guards) → AreGuardsOf g order guards → (e : ℕ) → e < edge_count g → edge_guard guards e ≡ edge_guard_of g e
-guard_at g order guards are e l = ap (λ xs. get_or xs e (record { source = 0; test = None })) are.edges ∙ get_or-map-below (edge_guard_of g) (edge_count g) e (record { source = 0; test = None }) l
+guard_at : (g : Graph) (order : List ℕ) (guards : Guards) → AreGuardsOf g order guards → (e : ℕ) → e < edge_count g →
+    edge_guard guards e ≡ edge_guard_of g e
+guard_at g order guards are e l = ap (λ xs. get_or xs e (record { source = 0; test = None })) are.edges
+    ∙ get_or-map-below (edge_guard_of g) (edge_count g) e (record { source = 0; test = None }) l
 
 -- its source is active and its test passes
-pub live_tested : (g : Graph) (order : List ℕ) → IsTopological g order → (guards : Guards) → AreGuardsOf g order guards → (values : List Bool) → length values ≡ condition_count g → (e : ℕ) →
+pub live_tested : (g : Graph) (order : List ℕ) → IsTopological g order → (guards : Guards) →
+    AreGuardsOf g order guards → (values : List Bool) → length values ≡ condition_count g → (e : ℕ) →
     e < edge_count g
-    → live g values e ≡ (active g values (source g e) && is_passed (test_of (condition_of g (source g e)) (edge_at g e).when) values)
+    → live g values e
+    ≡ (active g values (source g e) && is_passed (test_of (condition_of g (source g e)) (edge_at g e).when) values)
 live_tested g order topological guards are values long e l =
     sym (live_by-is g order topological guards are values long e l)
     ∙ ap (λ x. active_by guards values x.source && is_passed x.test values) (guard_at g order guards are e l)

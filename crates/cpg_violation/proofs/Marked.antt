@@ -9,7 +9,8 @@ use Rattle.cpg_table.specs.declared.rule.Rule.{Rule}
 use Rattle.cpg_violation.specs.Sure.{AreSure}
 use Rattle.cpg_violation.specs.Violation.{Holds}
 
-module _ (g : Graph) (tables : List NodeTable) (rule : Rule) (marks : List Bool) (sure : AreSure g tables rule marks) where
+module _ (g : Graph) (tables : List NodeTable) (rule : Rule) (marks : List Bool)
+    (sure : AreSure g tables rule marks) where
   -- a rule holds if all items are marked
   pub holds_all : ((x : ℕ) → x < item_count g → get_or marks x false ≡ true) → Holds g tables rule
   holds_all all x column s i l = sure x l (all x l) column s i
@@ -17,8 +18,10 @@ module _ (g : Graph) (tables : List NodeTable) (rule : Rule) (marks : List Bool)
   -- one item more that is marked
   pub marked_more : (x : ℕ) → x < item_count g → get_or marks x false ≡ true
       → ((y : ℕ) (column : Option ℕ) (s : Scenario) → y < x → IsScenario g s → breaks rule g tables s y column ≡ false)
-      → (y : ℕ) (column : Option ℕ) (s : Scenario) → y < x + 1 → IsScenario g s → breaks rule g tables s y column ≡ false
+      → (y : ℕ) (column : Option ℕ) (s : Scenario) → y < x + 1 → IsScenario g s →
+      breaks rule g tables s y column ≡ false
   marked_more x l marked before y column s k i = elim (cases_lt y x) [
     | inl lt ↦ before y column s lt i
-    | inr ge ↦ let same : x ≡ y = omega arith in subst (λ z. breaks rule g tables s z column ≡ false) same (sure x l marked column s i)
+    | inr ge ↦ let same : x ≡ y = omega arith in
+        subst (λ z. breaks rule g tables s z column ≡ false) same (sure x l marked column s i)
   ]

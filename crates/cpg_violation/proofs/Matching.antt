@@ -1,6 +1,7 @@
 -- What V1 to V3 say of columns that match: if one does, its item and the processes of its literals are active, and an
 -- active item has one.
-use Rattle.std.proofs.Common.{ℕ, ◌<◌, ◌≡◌, true, false, not, ◌||◌, List, length, get_or, take, Contains, None, Some, sym, ap, ◌∙◌}
+use Rattle.std.proofs.Common.{ℕ, ◌<◌, ◌≡◌, true, false, not, ◌||◌, List, length, get_or, take, Contains, None, Some}
+use Rattle.std.proofs.Common.{sym, ap, ◌∙◌}
 use Rattle.std.specs.List.{list_any}
 use Rattle.std.proofs.lemmas.Bool.{or_parts, not-false}
 use Rattle.std.proofs.lemmas.List.{drop_more}
@@ -18,33 +19,46 @@ use Rattle.cpg_table.proofs.Settings.{second_false}
 use Rattle.cpg_violation.specs.Sure.{IsSure}
 use Rattle.cpg_violation.specs.Violation.{AllHold, Holds, row_rules}
 
-module _ (g : Graph) (tables : List NodeTable) (s : Scenario) (law : IsScenario g s) (x : ℕ) (l : x < item_count g) where
+module _ (g : Graph) (tables : List NodeTable) (s : Scenario) (law : IsScenario g s) (x : ℕ)
+    (l : x < item_count g) where
   -- a rule that is sure, at a column that matches
-  pub sure_rule : (rule : Rule) → IsSure g tables rule x → (i : ℕ) (d : Column) → i < length (columns_of tables x) → matches (get_or (columns_of tables x) i d).cube s ≡ true
+  pub sure_rule : (rule : Rule) → IsSure g tables rule x → (i : ℕ) (d : Column) → i < length (columns_of tables x) →
+      matches (get_or (columns_of tables x) i d).cube s ≡ true
       → breaks_rule rule g tables s x (take i (columns_of tables x)) (get_or (columns_of tables x) i d) ≡ false
   sure_rule rule sure i d h m =
-      let here : (breaks_at rule g tables s x (take i (columns_of tables x)) (get_or (columns_of tables x) i d) || false) ≡ false =
-      sym (ap (λ l. list_any (breaks_at rule g tables s x (take i (columns_of tables x))) (take 1 l)) (drop_more (columns_of tables x) i d h)) ∙ sure (Some i) s law in
+      let here : (breaks_at rule g tables s x (take i (columns_of tables x)) (get_or (columns_of tables x) i d)
+      || false) ≡ false =
+      sym (ap (λ l. list_any (breaks_at rule g tables s x (take i (columns_of tables x))) (take 1 l))
+      (drop_more (columns_of tables x) i d h)) ∙ sure (Some i) s law in
       second_false _ _ m (or_parts _ _ here).0
 
   -- one that holds
-  pub at_rule : (rule : Rule) → Holds g tables rule → (i : ℕ) (d : Column) → i < length (columns_of tables x) → matches (get_or (columns_of tables x) i d).cube s ≡ true
+  pub at_rule : (rule : Rule) → Holds g tables rule → (i : ℕ) (d : Column) → i < length (columns_of tables x) →
+      matches (get_or (columns_of tables x) i d).cube s ≡ true
       → breaks_rule rule g tables s x (take i (columns_of tables x)) (get_or (columns_of tables x) i d) ≡ false
   at_rule rule holds i d h m = sure_rule rule (λ column t lawful. holds x column t lawful l) i d h m
 
   module _ (rules : AllHold g tables row_rules) where
     -- its item is active
-    pub active_where : (d : Column) → Contains (columns_of tables x) d → matches d.cube s ≡ true → item_active g s.values (item_at g x) ≡ true
-    active_where d k m = not-false _ (or_parts _ _ (at_rule Rule.Activity rules.0 k.0 d k.1 (ap (λ (c : Column). matches c.cube s) k.2 ∙ m))).0
+    pub active_where : (d : Column) → Contains (columns_of tables x) d → matches d.cube s ≡ true →
+        item_active g s.values (item_at g x) ≡ true
+    active_where d k m = not-false _
+        (or_parts _ _ (at_rule Rule.Activity rules.0 k.0 d k.1 (ap (λ (c : Column). matches c.cube s) k.2 ∙ m))).0
 
     -- the processes of its literals are active
-    pub literal_active : (d : Column) → Contains (columns_of tables x) d → matches d.cube s ≡ true → (l : Literal) → Contains d.cube l → active g s.values (process_of_variable g l.variable) ≡ true
+    pub literal_active : (d : Column) → Contains (columns_of tables x) d → matches d.cube s ≡ true → (l : Literal) →
+        Contains d.cube l →
+        active g s.values (process_of_variable g l.variable) ≡ true
     literal_active d k m l c =
         let at = ap (λ (c : Column). matches c.cube s) k.2 ∙ m in
         let none = (or_parts _ _ (at_rule Rule.Activity rules.0 k.0 d k.1 at)).1 in
-        not-false _ (from_any_false (λ (l : Literal). not (active g s.values (process_of_variable g l.variable))) d.cube l
-        (sym (ap (λ (c : Column). list_any (λ (l : Literal). not (active g s.values (process_of_variable g l.variable))) c.cube) k.2) ∙ none) c)
+        not-false _
+        (from_any_false (λ (l : Literal). not (active g s.values (process_of_variable g l.variable))) d.cube l
+        (sym (ap (λ (c : Column). list_any (λ (l : Literal). not (active g s.values (process_of_variable g l.variable)))
+        c.cube) k.2) ∙ none) c)
 
     -- an active item has one
-    pub match_where : item_active g s.values (item_at g x) ≡ true → (d : Column) × Contains (columns_of tables x) d × (matches d.cube s ≡ true)
-    match_where a = list_any_parts (λ (d : Column). matches d.cube s) (columns_of tables x) (not-false _ (second_false _ _ a (rules.1.1.0 x None s law l)))
+    pub match_where : item_active g s.values (item_at g x) ≡ true →
+        (d : Column) × Contains (columns_of tables x) d × (matches d.cube s ≡ true)
+    match_where a = list_any_parts (λ (d : Column). matches d.cube s) (columns_of tables x)
+        (not-false _ (second_false _ _ a (rules.1.1.0 x None s law l)))

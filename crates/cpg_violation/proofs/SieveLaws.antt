@@ -1,5 +1,6 @@
 -- Which places a cut parts where; and what is found at places among which a column is that passes a test.
-use Rattle.std.proofs.Common.{ℕ, ◌+◌, ◌<◌, ◌≤◌, ◌≡◌, Bool, true, false, not, ◌&&◌, cond, List, [], ◌∷◌, ◌++◌, length, get_or, take, Contains, arith, refl, sym, ap, ◌∙◌, subst, ⊎_elim, true≢false}
+use Rattle.std.proofs.Common.{ℕ, ◌+◌, ◌<◌, ◌≤◌, ◌≡◌, Bool, true, false, not, ◌&&◌, cond, List, [], ◌∷◌, ◌++◌, length}
+use Rattle.std.proofs.Common.{get_or, take, Contains, arith, refl, sym, ap, ◌∙◌, subst, ⊎_elim, true≢false}
 use Rattle.std.proofs.Common.{lt-ltb, ltb-true}
 use Rattle.std.specs.Prelude.{nat_le, nat_lt, slice_get, Some}
 use Rattle.std.specs.List.{list_any}
@@ -21,53 +22,71 @@ not_itself false true e f = true≢false e
 not_itself false false e f = true≢false (sym f)
 
 -- the side of a cut to which a scenario comes
-pub side_of : (b : Bool) (below above found : List ℕ) (i : ℕ) → (b ≡ true → Contains below i → Contains found i) → (b ≡ false → Contains above i → Contains found i) →
+pub side_of : (b : Bool) (below above found : List ℕ) (i : ℕ) → (b ≡ true → Contains below i → Contains found i) →
+    (b ≡ false → Contains above i → Contains found i) →
     Contains (cond b below above) i → Contains found i
 side_of true below above found i h k c = h refl c
 side_of false below above found i h k c = k refl c
 
 -- and what is found there
-pub side_found : (b : Bool) (below above : List ℕ) (i : ℕ) → (b ≡ true → Contains below i) → (b ≡ false → Contains above i) → Contains (cond b below above) i
+pub side_found : (b : Bool) (below above : List ℕ) (i : ℕ) → (b ≡ true → Contains below i) →
+    (b ≡ false → Contains above i) →
+    Contains (cond b below above) i
 side_found true below above i h k = h refl
 side_found false below above i h k = k refl
 
 module _ (columns : List Column) (v most : ℕ) (below : Bool) (places kept : List ℕ) (k : ℕ) where
   -- the places so far go to this side
   abbrev pub KeepsFirst : ℕ → List ℕ → Type 0
-  KeepsFirst n kept = (s : Scenario) (i : ℕ) → Contains (take n places) i → i < length columns → matches (column_at columns i).cube s ≡ true → nat_le (number_of s v) most ≡ below → Contains kept i
+  KeepsFirst n kept = (s : Scenario) (i : ℕ) → Contains (take n places) i → i < length columns →
+      matches (column_at columns i).cube s ≡ true → nat_le (number_of s v) most ≡ below → Contains kept i
 
   pub keeps_all : length places ≤ k → KeepsFirst k kept
-      → (s : Scenario) (i : ℕ) → Contains places i → i < length columns → matches (column_at columns i).cube s ≡ true → nat_le (number_of s v) most ≡ below → Contains kept i
+      → (s : Scenario) (i : ℕ) → Contains places i → i < length columns → matches (column_at columns i).cube s ≡ true →
+      nat_le (number_of s v) most ≡ below → Contains kept i
   keeps_all past h s i c l m e = h s i (subst (λ xs. Contains xs i) (sym (take_all k places past)) c) l m e
 
-module _ (columns : List Column) (v most : ℕ) (below : Bool) (places kept : List ℕ) (k d : ℕ) (within : k < length places) where
-  pub keeps_push : KeepsFirst columns v most below places kept k k kept → KeepsFirst columns v most below places kept k (k + 1) (kept ++ get_or places k d ∷ [])
+module _ (columns : List Column) (v most : ℕ) (below : Bool) (places kept : List ℕ) (k d : ℕ)
+    (within : k < length places) where
+  pub keeps_push : KeepsFirst columns v most below places kept k k kept →
+      KeepsFirst columns v most below places kept k (k + 1) (kept ++ get_or places k d ∷ [])
   keeps_push h s i c l m e = ⊎_elim
       (λ (b : Contains (take k places) i). Contains-append_left kept (get_or places k d ∷ []) i (h s i b l m e))
-      (λ (q : get_or places k d ≡ i). subst (λ j. Contains (kept ++ get_or places k d ∷ []) j) q (Contains-push kept (get_or places k d)))
-      (Contains-push_cases (take k places) (get_or places k d) i (subst (λ xs. Contains xs i) (take_more places k d within) c))
+      (λ (q : get_or places k d ≡ i).
+      subst (λ j. Contains (kept ++ get_or places k d ∷ []) j) q (Contains-push kept (get_or places k d)))
+      (Contains-push_cases (take k places) (get_or places k d) i
+      (subst (λ xs. Contains xs i) (take_more places k d within) c))
 
-  pub keeps_skip : ((s : Scenario) → get_or places k d < length columns → matches (column_at columns (get_or places k d)).cube s ≡ true → nat_le (number_of s v) most ≡ not below)
-      → KeepsFirst columns v most below places kept k k kept → KeepsFirst columns v most below places kept k (k + 1) kept
+  pub keeps_skip : ((s : Scenario) → get_or places k d < length columns →
+      matches (column_at columns (get_or places k d)).cube s ≡ true → nat_le (number_of s v) most ≡ not below)
+      → KeepsFirst columns v most below places kept k k kept →
+      KeepsFirst columns v most below places kept k (k + 1) kept
   keeps_skip off h s i c l m e = ⊎_elim
       (λ (b : Contains (take k places) i). h s i b l m e)
       (λ (q : get_or places k d ≡ i). absurd (not_itself below (nat_le (number_of s v) most) e
-      (off s (subst (λ j. j < length columns) (sym q) l) (subst (λ j. matches (column_at columns j).cube s ≡ true) (sym q) m))))
-      (Contains-push_cases (take k places) (get_or places k d) i (subst (λ xs. Contains xs i) (take_more places k d within) c))
+      (off s (subst (λ j. j < length columns) (sym q) l)
+      (subst (λ j. matches (column_at columns j).cube s ≡ true) (sym q) m))))
+      (Contains-push_cases (take k places) (get_or places k d) i
+      (subst (λ xs. Contains xs i) (take_more places k d within) c))
 
 -- what a cut's sides find, the cut finds
 pub sifts_cut : (columns : List Column) (v most : ℕ) (places low high : List ℕ) (below above : Parted)
-    → ((s : Scenario) (i : ℕ) → Contains places i → i < length columns → matches (column_at columns i).cube s ≡ true → nat_le (number_of s v) most ≡ true → Contains low i)
-    → ((s : Scenario) (i : ℕ) → Contains places i → i < length columns → matches (column_at columns i).cube s ≡ true → nat_le (number_of s v) most ≡ false → Contains high i)
+    → ((s : Scenario) (i : ℕ) → Contains places i → i < length columns → matches (column_at columns i).cube s ≡ true →
+    nat_le (number_of s v) most ≡ true → Contains low i)
+    → ((s : Scenario) (i : ℕ) → Contains places i → i < length columns → matches (column_at columns i).cube s ≡ true →
+    nat_le (number_of s v) most ≡ false → Contains high i)
     → Sifts columns low below → Sifts columns high above → Sifts columns places (Cut v most below above)
 sifts_cut columns v most places low high below above h k f g = record {
-  found = λ s i c l m. side_found (nat_le (number_of s v) most) (places_in below s) (places_in above s) i (λ e. f.found s i (h s i c l m e) l m) (λ e. g.found s i (k s i c l m e) l m);
+  found = λ s i c l m. side_found (nat_le (number_of s v) most) (places_in below s) (places_in above s) i
+      (λ e. f.found s i (h s i c l m e) l m) (λ e. g.found s i (k s i c l m e) l m);
 }
 
 -- a test of some column, by places among which each is that passes
-pub any_at : (test : Column → Bool) (columns : List Column) (places : List ℕ) → ((i : ℕ) → i < length columns → test (column_at columns i) ≡ true → Contains places i)
+pub any_at : (test : Column → Bool) (columns : List Column) (places : List ℕ) →
+    ((i : ℕ) → i < length columns → test (column_at columns i) ≡ true → Contains places i)
     → list_any test columns ≡ list_any (λ i. nat_lt i (length columns) && test (column_at columns i)) places
-any_at test columns places among = same_truth (list_any test columns) (list_any (λ i. nat_lt i (length columns) && test (column_at columns i)) places)
+any_at test columns places among =
+    same_truth (list_any test columns) (list_any (λ i. nat_lt i (length columns) && test (column_at columns i)) places)
     (λ e. let found = list_any_parts test columns e in
     let i : ℕ = found.1.0 in
     let at : column_at columns i ≡ found.0 = get_or_default columns i _ found.0 found.1.1 ∙ found.1.2 in
@@ -76,10 +95,12 @@ any_at test columns places among = same_truth (list_any test columns) (list_any 
     (and_from (nat_lt i (length columns)) (test (column_at columns i)) (lt-ltb i (length columns) found.1.1) passes))
     (λ e. let found = list_any_parts (λ i. nat_lt i (length columns) && test (column_at columns i)) places e in
     let parts = and_parts (nat_lt found.0 (length columns)) (test (column_at columns found.0)) found.2 in
-    list_any_true test columns (column_at columns found.0) (Contains-get_or columns found.0 _ (ltb-true _ _ parts.0)) parts.1)
+    list_any_true test columns (column_at columns found.0)
+    (Contains-get_or columns found.0 _ (ltb-true _ _ parts.0)) parts.1)
 
 -- the columns before a place that match where a cube does, by the places that a sieve finds
-pub before_at : (columns : List Column) (j : ℕ) (places : List ℕ) (s : Scenario) → j ≤ length columns → ((i : ℕ) → i < length columns → matches (column_at columns i).cube s ≡ true → Contains places i)
+pub before_at : (columns : List Column) (j : ℕ) (places : List ℕ) (s : Scenario) → j ≤ length columns →
+    ((i : ℕ) → i < length columns → matches (column_at columns i).cube s ≡ true → Contains places i)
     → list_any (is_at (take j columns) s) places ≡ list_any (λ d. matches d.cube s) (take j columns)
 before_at columns j places s h among = sym (any_at (λ d. matches d.cube s) (take j columns) places
     (λ i l m. let below : i < j = omega (arith, l, length-take j columns) in
@@ -87,8 +108,10 @@ before_at columns j places s h among = sym (any_at (λ d. matches d.cube s) (tak
     among i (omega arith) (sym (ap (λ (d : Column). matches d.cube s) at) ∙ m)))
 
 -- the column that is found at a place
-pub at_found : (columns : List Column) (i : ℕ) (d : Column) → slice_get columns i ≡ Some d → (s : Scenario) → matches d.cube s ≡ is_at columns s i
+pub at_found : (columns : List Column) (i : ℕ) (d : Column) → slice_get columns i ≡ Some d → (s : Scenario) →
+    matches d.cube s ≡ is_at columns s i
 at_found columns i d e s =
     let within : i < length columns = slice_get_within columns i d e in
     let at : column_at columns i ≡ d = get_or_from_slice_get columns i d _ e in
-    ap (λ (c : Column). matches c.cube s) (sym at) ∙ ap (λ b. b && matches (column_at columns i).cube s) (sym (lt-ltb i (length columns) within))
+    ap (λ (c : Column). matches c.cube s) (sym at)
+    ∙ ap (λ b. b && matches (column_at columns i).cube s) (sym (lt-ltb i (length columns) within))

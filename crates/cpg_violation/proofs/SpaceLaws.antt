@@ -20,10 +20,15 @@ module _ (g : Graph) (k : ℕ) (faults : k ≡ g.faults) (s : Scenario) (law : I
     pub not_none : o ≡ None → IfNone o ((s : Scenario) → HasAtMostFaults k s → matches literals s ≡ false) → ⊥
     not_none e none = go o e none
       where
-        go : (o : Option Space) → o ≡ None → IfNone o ((s : Scenario) → HasAtMostFaults k s → matches literals s ≡ false) → ⊥
+        go : (o : Option Space) → o ≡ None →
+            IfNone o ((s : Scenario) → HasAtMostFaults k s → matches literals s ≡ false) → ⊥
         go (Some space) e none = none-some space (sym e)
         go None e none = both_ways (matches literals s) (none s few_of) (ap (λ c. matches c s) same ∙ m)
 
     -- and the scenario lies in it
-    pub lies_in : (space : Space) → o ≡ Some space → IfSome o (λ r. (s : Scenario) → HasAtMostFaults k s → matches literals s ≡ true → IsInSpace r s) → IsInSpace space s
-    lies_in space e some = subst (λ o. IfSome o (λ r. (s : Scenario) → HasAtMostFaults k s → matches literals s ≡ true → IsInSpace r s)) e some s few_of (ap (λ c. matches c s) same ∙ m)
+    pub lies_in : (space : Space) → o ≡ Some space →
+        IfSome o (λ r. (s : Scenario) → HasAtMostFaults k s → matches literals s ≡ true → IsInSpace r s) →
+        IsInSpace space s
+    lies_in space e some =
+        subst (λ o. IfSome o (λ r. (s : Scenario) → HasAtMostFaults k s → matches literals s ≡ true → IsInSpace r s)) e
+        some s few_of (ap (λ c. matches c s) same ∙ m)

@@ -1,5 +1,6 @@
 -- Items at which a rule is sure: by their columns, one after another; and lists of marks.
-use Rattle.std.proofs.Common.{ℕ, ◌+◌, ◌<◌, ◌≤◌, ◌≡◌, Bool, true, false, ◌&&◌, List, [], ◌∷◌, ◌++◌, None, Some, Contains, All, length, get_or, take, arith, refl, sym, ap, ◌∙◌, subst, inl, inr}
+use Rattle.std.proofs.Common.{ℕ, ◌+◌, ◌<◌, ◌≤◌, ◌≡◌, Bool, true, false, ◌&&◌, List, [], ◌∷◌, ◌++◌, None, Some, Contains}
+use Rattle.std.proofs.Common.{All, length, get_or, take, arith, refl, sym, ap, ◌∙◌, subst, inl, inr}
 use Rattle.std.specs.Bool.{OnTrue}
 use Rattle.std.specs.Prelude.{nat_le}
 use Rattle.std.proofs.lemmas.Bool.{cases_lt, cases_eq, both_ways, leb-true, OnTrue_at, OnTrue_from}
@@ -23,24 +24,29 @@ on_le {P} a b f = OnTrue_from (nat_le a b) P (λ e. f (leb-true a b e))
 module _ (g : Graph) (tables : List NodeTable) (rule : Rule) (x : ℕ) where
   -- no column breaks the rule if it matches
   pub sure_of : asks_for_one rule ≡ false
-      → ((s : Scenario) (c : Column) (earlier : List Column) → IsScenario g s → Contains (columns_of tables x) c → matches c.cube s ≡ true → breaks_rule rule g tables s x earlier c ≡ false)
+      → ((s : Scenario) (c : Column) (earlier : List Column) → IsScenario g s → Contains (columns_of tables x) c →
+      matches c.cube s ≡ true → breaks_rule rule g tables s x earlier c ≡ false)
       → IsSure g tables rule x
   sure_of alone each None s law = ap (λ b. b && breaks_present g tables s x) alone
-  sure_of alone each (Some i) s law = list_any_at_place (breaks_at rule g tables s x (take i (columns_of tables x))) (columns_of tables x) i
-      (λ c k. off_where (matches c.cube s) (breaks_rule rule g tables s x (take i (columns_of tables x)) c) (λ m. each s c (take i (columns_of tables x)) law k m))
+  sure_of alone each (Some i) s law =
+      list_any_at_place (breaks_at rule g tables s x (take i (columns_of tables x))) (columns_of tables x) i
+      (λ c k. off_where (matches c.cube s) (breaks_rule rule g tables s x (take i (columns_of tables x)) c)
+      (λ m. each s c (take i (columns_of tables x)) law k m))
 
 -- no item is marked
 pub none_sure : (g : Graph) (tables : List NodeTable) (rule : Rule) → AreSure g tables rule []
 none_sure g tables rule x l e = absurd (both_ways false refl e)
 
 -- a fact of all that are marked, and of one more if it is marked
-pub marked_push : (P : ℕ → Type 0) (x : ℕ) (marks : List Bool) → length marks ≡ x → ((y : ℕ) → get_or marks y false ≡ true → P y) → (b : Bool) → OnTrue b (P x)
+pub marked_push : (P : ℕ → Type 0) (x : ℕ) (marks : List Bool) → length marks ≡ x →
+    ((y : ℕ) → get_or marks y false ≡ true → P y) → (b : Bool) → OnTrue b (P x)
     → (y : ℕ) → get_or (marks ++ b ∷ []) y false ≡ true → P y
 marked_push P x marks long before b here y e = elim (cases_lt y x) [
   | inl lt ↦ before y (sym (get_or_append_left marks (b ∷ []) false y (omega (arith, long, lt))) ∙ e)
   | inr ge ↦ elim (cases_eq y x) [
     | inl same ↦ subst P (sym same) (OnTrue_at (sym (get_or_push marks b false y (omega (arith, long, same))) ∙ e) here)
-    | inr other ↦ absurd (both_ways (get_or (marks ++ b ∷ []) y false) (get_or_past (marks ++ b ∷ []) y false (omega (arith, length-append marks (b ∷ []), long, ge, other))) e)
+    | inr other ↦ absurd (both_ways (get_or (marks ++ b ∷ []) y false)
+        (get_or_past (marks ++ b ∷ []) y false (omega (arith, length-append marks (b ∷ []), long, ge, other))) e)
   ]
 ]
 
@@ -52,15 +58,20 @@ pub record AreSoFar (g : Graph) (tables : List NodeTable) (rule : Rule) (x : ℕ
 pub first_none : (g : Graph) (tables : List NodeTable) (rule : Rule) → AreSoFar g tables rule 0 []
 first_none g tables rule = record { long = refl; sure = none_sure g tables rule }
 
-pub one_more : (g : Graph) (tables : List NodeTable) (rule : Rule) (x : ℕ) (marks : List Bool) (b : Bool) → AreSoFar g tables rule x marks → OnTrue b (IsSure g tables rule x) →
+pub one_more : (g : Graph) (tables : List NodeTable) (rule : Rule) (x : ℕ) (marks : List Bool) (b : Bool) →
+    AreSoFar g tables rule x marks →
+    OnTrue b (IsSure g tables rule x) →
     AreSoFar g tables rule (x + 1) (marks ++ b ∷ [])
 one_more g tables rule x marks b before here = record {
   long = omega (arith, length-append marks (b ∷ []), before.long);
-  sure = λ y l e. marked_push (λ y. y < item_count g → IsSure g tables rule y) x marks before.long (λ z f k. before.sure z k f) b (of_true b here (λ h k. h)) y e l;
+  sure = λ y l e. marked_push (λ y. y < item_count g → IsSure g tables rule y) x marks before.long
+      (λ z f k. before.sure z k f) b (of_true b here (λ h k. h)) y e l;
 }
 
 -- what is so of the elements so far, one more, and all
-pub each_more : {X : Type 0} (P : X → Type 0) (xs : List X) (i : ℕ) (x : X) → i < length xs → x ≡ get_or xs i x → All P (take i xs) → P x → All P (take (i + 1) xs)
+pub each_more : {X : Type 0} (P : X → Type 0) (xs : List X) (i : ℕ) (x : X) → i < length xs → x ≡ get_or xs i x →
+    All P (take i xs) → P x →
+    All P (take (i + 1) xs)
 each_more P xs i x l is before here = All-more P xs i x l before (subst P is here)
 
 pub each_all : {X : Type 0} (P : X → Type 0) (xs : List X) (i : ℕ) → length xs ≤ i → All P (take i xs) → All P xs

@@ -1,5 +1,6 @@
 -- Rows that are at one time keep V8, and V9 if each end is early enough.
-use Rattle.std.proofs.Common.{ℕ, ◌+◌, ◌-◌, ◌^◌, ◌≤◌, ◌≡◌, true, false, not, ◌&&◌, List, Option, None, Some, Contains, All, find, min, arith, refl, sym, ap, ◌∙◌, le-ltb}
+use Rattle.std.proofs.Common.{ℕ, ◌+◌, ◌-◌, ◌^◌, ◌≤◌, ◌≡◌, true, false, not, ◌&&◌, List, Option, None, Some, Contains}
+use Rattle.std.proofs.Common.{All, find, min, arith, refl, sym, ap, ◌∙◌, le-ltb}
 use Rattle.std.specs.Prelude.{nat_lt}
 use Rattle.std.proofs.Math.Bool.{and-false}
 use Rattle.std.proofs.lemmas.Bool.{eq-eqb}
@@ -26,31 +27,42 @@ due_le g p = go (process_at g p).deadline
     go (Some own) = omega arith
 
 -- an end that is capped is in time if the end is
-pub by_due : (g : Graph) → IsWithinLimits g → (p end capped limit : ℕ) → capped ≡ min end (2 ^ 64 - 1) → limit ≡ due g p → capped ≤ limit → end ≤ limit
+pub by_due : (g : Graph) → IsWithinLimits g → (p end capped limit : ℕ) → capped ≡ min end (2 ^ 64 - 1) →
+    limit ≡ due g p → capped ≤ limit → end ≤ limit
 by_due g within p end capped limit is by h = omega (arith, is, by, h, due_le g p, within.deadline)
 
 module _ (g : Graph) (tables : List NodeTable) (x : ℕ) where
   -- V8: an item that isn't frozen, and one whose columns are all at one time
   pub loose_sure : is_frozen g x ≡ false → IsSure g tables Rule.Frozen x
-  loose_sure loose = sure_of g tables Rule.Frozen x refl (λ s c earlier law k m. ap (λ b. b && differs_from c.time (find (is_possible g) (columns_of tables x))) loose)
+  loose_sure loose = sure_of g tables Rule.Frozen x refl
+      (λ s c earlier law k m. ap (λ b. b && differs_from c.time (find (is_possible g) (columns_of tables x))) loose)
 
-  pub frozen_sure : (time : ℕ) → All (λ (c : Column). c.time ≡ time) (columns_of tables x) → IsSure g tables Rule.Frozen x
+  pub frozen_sure : (time : ℕ) → All (λ (c : Column). c.time ≡ time) (columns_of tables x) →
+      IsSure g tables Rule.Frozen x
   frozen_sure time all = sure_of g tables Rule.Frozen x refl
-      (λ s c earlier law k m. ap (λ b. is_frozen g x && b) (same c k (find (is_possible g) (columns_of tables x)) refl) ∙ and-false (is_frozen g x))
+      (λ s c earlier law k m. ap (λ b. is_frozen g x && b) (same c k (find (is_possible g) (columns_of tables x)) refl)
+      ∙ and-false (is_frozen g x))
     where
-      same : (c : Column) → Contains (columns_of tables x) c → (o : Option Column) → find (is_possible g) (columns_of tables x) ≡ o → differs_from c.time o ≡ false
+      same : (c : Column) → Contains (columns_of tables x) c → (o : Option Column) →
+          find (is_possible g) (columns_of tables x) ≡ o →
+          differs_from c.time o ≡ false
       same c k None e = refl
       same c k (Some d) e =
           let l = (find_parts (is_possible g) (columns_of tables x) d e).0 in
-          ap not (eq-eqb d.time c.time (All-contains (λ (c : Column). c.time ≡ time) (columns_of tables x) d all l ∙ sym (All-contains (λ (c : Column). c.time ≡ time) (columns_of tables x) c all k)))
+          ap not (eq-eqb d.time c.time (All-contains (λ (c : Column). c.time ≡ time) (columns_of tables x) d all l
+          ∙ sym (All-contains (λ (c : Column). c.time ≡ time) (columns_of tables x) c all k)))
 
   -- V9: what isn't a start, and a process that always ends in time
   pub message_sure : process_count g ≤ x → IsSure g tables Rule.Due x
-  message_sure past = sure_of g tables Rule.Due x refl (λ s c earlier law k m. ap (λ b. b && nat_lt (due g x) (c.time + duration g x (fault_of s x))) (le-ltb x (process_count g) past))
+  message_sure past = sure_of g tables Rule.Due x refl (λ s c earlier law k m.
+      ap (λ b. b && nat_lt (due g x) (c.time + duration g x (fault_of s x))) (le-ltb x (process_count g) past))
 
-  pub due_sure : All (λ (c : Column). (s : Scenario) → IsScenario g s → matches c.cube s ≡ true → c.time + duration g x (fault_of s x) ≤ due g x) (columns_of tables x) → IsSure g tables Rule.Due x
+  pub due_sure : All (λ (c : Column). (s : Scenario) → IsScenario g s → matches c.cube s ≡ true →
+      c.time + duration g x (fault_of s x) ≤ due g x) (columns_of tables x) →
+      IsSure g tables Rule.Due x
   due_sure all = sure_of g tables Rule.Due x refl (λ s c earlier law k m.
       ap (λ b. nat_lt x (process_count g) && b)
       (le-ltb (due g x) (c.time + duration g x (fault_of s x))
-      (All-contains (λ (c : Column). (s : Scenario) → IsScenario g s → matches c.cube s ≡ true → c.time + duration g x (fault_of s x) ≤ due g x) (columns_of tables x) c all k s law m))
+      (All-contains (λ (c : Column). (s : Scenario) → IsScenario g s → matches c.cube s ≡ true →
+      c.time + duration g x (fault_of s x) ≤ due g x) (columns_of tables x) c all k s law m))
       ∙ and-false (nat_lt x (process_count g)))

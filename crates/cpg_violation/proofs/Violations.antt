@@ -1,5 +1,6 @@
 -- Going over the items: what is known of the columns of each, and where the first violation is.
-use Rattle.std.proofs.Common.{ℕ, ◌+◌, ◌<◌, ◌≡◌, false, List, [], ◌∷◌, Option, Some, None, Contains, All, length, arith, subst, inl, inr}
+use Rattle.std.proofs.Common.{ℕ, ◌+◌, ◌<◌, ◌≡◌, false, List, [], ◌∷◌, Option, Some, None, Contains, All, length, arith}
+use Rattle.std.proofs.Common.{subst, inl, inr}
 use Rattle.std.proofs.lemmas.Bool.{cases_lt}
 use Rattle.std.proofs.lemmas.List.Elements.{All-weaker, All-contains_itself}
 use Rattle.cpg_base.specs.Graph.{Graph, process_count, item_count, IsVariable}
@@ -26,26 +27,33 @@ module _ {g : Graph} {order : List ℕ} {guards : Guards} (admitted : IsAdmitted
   long_order = length_order (process_count g) order admitted.urgency.all
 
   -- the variables of an item's columns are the graph's
-  pub columns_known : (tables : List NodeTable) → AreTablesOf (head_of g) tables → (x : ℕ) → All (λ (c : Column). IsKnown g c.cube) (columns_of tables x)
+  pub columns_known : (tables : List NodeTable) → AreTablesOf (head_of g) tables → (x : ℕ) →
+      All (λ (c : Column). IsKnown g c.cube) (columns_of tables x)
   columns_known tables are x = All-weaker (Contains (columns_of tables x)) (λ (c : Column). IsKnown g c.cube)
       (λ c k. All-weaker (Contains c.cube) (λ (l : Literal). IsVariable g l.variable)
-      (λ l m. variables_exist admitted.well_formed (has_shape g admitted.limits tables are) x c l k m) c.cube (All-contains_itself c.cube))
+      (λ l m. variables_exist admitted.well_formed (has_shape g admitted.limits tables are) x c l k m) c.cube
+      (All-contains_itself c.cube))
       (columns_of tables x) (All-contains_itself (columns_of tables x))
 
 -- a rule that speaks of columns alone
-module _ (rule : Rule) (g : Graph) (tables : List NodeTable) (x : ℕ) (never : (y : ℕ) (s : Scenario) → breaks rule g tables s y None ≡ false) where
+module _ (rule : Rule) (g : Graph) (tables : List NodeTable) (x : ℕ)
+    (never : (y : ℕ) (s : Scenario) → breaks rule g tables s y None ≡ false) where
   -- one item more whose columns keep it
-  pub none_more : ((y : ℕ) (column : Option ℕ) (s : Scenario) → y < x → IsScenario g s → breaks rule g tables s y column ≡ false)
+  pub none_more :
+      ((y : ℕ) (column : Option ℕ) (s : Scenario) → y < x → IsScenario g s → breaks rule g tables s y column ≡ false)
       → ((i : ℕ) (s : Scenario) → IsScenario g s → breaks rule g tables s x (Some i) ≡ false)
-      → (y : ℕ) (column : Option ℕ) (s : Scenario) → y < x + 1 → IsScenario g s → breaks rule g tables s y column ≡ false
+      → (y : ℕ) (column : Option ℕ) (s : Scenario) → y < x + 1 → IsScenario g s →
+      breaks rule g tables s y column ≡ false
   none_more before here y None s l i = never y s
   none_more before here y (Some c) s l i = elim (cases_lt y x) [
     | inl lt ↦ before y (Some c) s lt i
-    | inr ge ↦ let same : x ≡ y = omega arith in subst (λ z. breaks rule g tables s z (Some c) ≡ false) same (here c s i)
+    | inr ge ↦ let same : x ≡ y = omega arith in
+        subst (λ z. breaks rule g tables s z (Some c) ≡ false) same (here c s i)
   ]
 
   -- the first of its columns that breaks it, after items that keep it
-  pub first_violation : (number : ℕ) → number ≡ number_of_rule rule → (order : List ℕ) (j : ℕ) (s : Scenario) → x < item_count g
+  pub first_violation : (number : ℕ) → number ≡ number_of_rule rule → (order : List ℕ) (j : ℕ) (s : Scenario) →
+      x < item_count g
       → ((y : ℕ) (column : Option ℕ) (s : Scenario) → y < x → IsScenario g s → breaks rule g tables s y column ≡ false)
       → IsFirstColumn g order (λ i t. breaks rule g tables t x (Some i)) (j, s)
       → IsFirstViolation g order tables rule (record { rule = number; item = x; column = Some j; scenario = s })
@@ -58,7 +66,9 @@ module _ (rule : Rule) (g : Graph) (tables : List NodeTable) (x : ℕ) (never : 
   }
 
 -- what is first of some rules breaks one of them
-pub first_broken : (g : Graph) (order : List ℕ) (tables : List NodeTable) (f : Fault) (rules : List Rule) → IsFirstOf g order tables rules f → (rule : Rule) × IsFirstViolation g order tables rule f
+pub first_broken : (g : Graph) (order : List ℕ) (tables : List NodeTable) (f : Fault) (rules : List Rule) →
+    IsFirstOf g order tables rules f →
+    (rule : Rule) × IsFirstViolation g order tables rule f
 first_broken g order tables f [] k = absurd k
 first_broken g order tables f (rule ∷ rules) (inl k) = (rule, k)
 first_broken g order tables f (rule ∷ rules) (inr k) = first_broken g order tables f rules k.1

@@ -13,4 +13,5 @@ comes_to tree wanted s = same_bool wanted (is_active (outcome_at tree s.values))
 
 -- the condition has the value
 abbrev pub value_literal : ℕ → Bool → Literal
-value_literal c value = record { variable = value_variable c; low = number_of_value value; high = number_of_value value }
+value_literal c value =
+    record { variable = value_variable c; low = number_of_value value; high = number_of_value value }

@@ -19,10 +19,12 @@ parted_from (inl places ∷ rest) ts = parted_from rest (Leaf places ∷ ts)
 parted_from (inr (v ∷ most ∷ ns) ∷ rest) (above ∷ below ∷ ts) = parted_from rest (Cut v most below above ∷ ts)
 parted_from (inr ns ∷ rest) ts = Leaf []
 
-pub parted_from-pieces : (t : Parted) (rest : List Piece) (ts : List Parted) → parted_from (pieces_of t rest) ts ≡ parted_from rest (t ∷ ts)
+pub parted_from-pieces : (t : Parted) (rest : List Piece) (ts : List Parted) →
+    parted_from (pieces_of t rest) ts ≡ parted_from rest (t ∷ ts)
 parted_from-pieces (Leaf places) rest ts = refl
 parted_from-pieces (Cut v most below above) rest ts =
-    parted_from-pieces below (pieces_of above (inr (v ∷ most ∷ []) ∷ rest)) ts ∙ parted_from-pieces above (inr (v ∷ most ∷ []) ∷ rest) (below ∷ ts)
+    parted_from-pieces below (pieces_of above (inr (v ∷ most ∷ []) ∷ rest)) ts
+    ∙ parted_from-pieces above (inr (v ∷ most ∷ []) ∷ rest) (below ∷ ts)
 
 abbrev pub parted_code : Coded Parted
 parted_code =

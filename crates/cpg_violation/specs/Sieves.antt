@@ -21,8 +21,11 @@ is_at columns s i = nat_lt i (length columns) && matches (column_at columns i).c
 
 -- a scenario that a column matches comes to its place, if that is one of these
 pub record Sifts (columns : List Column) (places : List ℕ) (parted : Parted) : Type 0 where
-  pub found : (s : Scenario) (i : ℕ) → Contains places i → i < length columns → matches (column_at columns i).cube s ≡ true → Contains (places_in parted s) i
+  pub found : (s : Scenario) (i : ℕ) → Contains places i → i < length columns →
+      matches (column_at columns i).cube s ≡ true →
+      Contains (places_in parted s) i
 
 -- a scenario that a column matches comes to its place
 pub record IsSieveOf (columns : List Column) (parted : Parted) : Type 0 where
-  pub found : (s : Scenario) (i : ℕ) → i < length columns → matches (column_at columns i).cube s ≡ true → Contains (places_in parted s) i
+  pub found : (s : Scenario) (i : ℕ) → i < length columns → matches (column_at columns i).cube s ≡ true →
+      Contains (places_in parted s) i

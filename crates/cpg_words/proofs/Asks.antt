@@ -1,5 +1,6 @@
 -- What `clap` answers about the command line is what the rule says.
-use Rattle.std.proofs.Common.{◌≡◌, ◌∙◌, inl, inr, true, List, [], ◌∷◌, Option, Some, None, sym, ap, ap₂, subst, map, string_bytes}
+use Rattle.std.proofs.Common.{◌≡◌, ◌∙◌, inl, inr, true, List, [], ◌∷◌, Option, Some, None, sym, ap, ap₂, subst, map}
+use Rattle.std.proofs.Common.{string_bytes}
 use Rattle.std.specs.Prelude.{Box, Result, Ok, Err, IfOk, String, ◌≢◌, option_map, unwrap_or}
 use Rattle.std.specs.Borrow.{Bor}
 use Rattle.std.specs.Box.{box_value}
@@ -13,7 +14,8 @@ use Rattle.cpg_words.specs.declared.command.Command.{Command}
 use Rattle.cpg_words.specs.declared.fault.WordsFault.{WordsFault}
 use Rattle.cpg_words.specs.declared.fault.WordsFault.TheVariants.{Bad, OutOfMemory as WordsMemory}
 use Rattle.std.proofs.lemmas.Str.{IsUtf8-string_bytes}
-use Rattle.clap.specs.Words.{App, HasMatchesOf, HasKind, Kinds, fault_of, is_simple, is_simple_and_free, kind_of, subcommand_of}
+use Rattle.clap.specs.Words.{App, HasMatchesOf, HasKind, Kinds, fault_of, is_simple, is_simple_and_free, kind_of}
+use Rattle.clap.specs.Words.{subcommand_of}
 use Rattle.clap.specs.Simple.{subcommand_rows_of}
 use Rattle.clap.specs.declared.parser.matches.ArgMatches.{ArgMatches}
 use Rattle.clap.specs.declared.error.Error.{Error}
@@ -31,23 +33,32 @@ all_texts [] = tt
 all_texts (w ∷ ws) = (IsUtf8-string_bytes w, all_texts ws)
 
 pub ok_asks : (app : App) (words : List Text) (m : ArgMatches) → app ≡ line_app → AllTexts words
-    → (is_simple_and_free app ≡ true → fault_of app words ≡ []) → HasMatchesOf app words m → command_of words ≡ command_at (subcommand_rows_of m)
+    → (is_simple_and_free app ≡ true → fault_of app words ≡ []) → HasMatchesOf app words m →
+    command_of words ≡ command_at (subcommand_rows_of m)
 ok_asks app words m is text faults found = elim (line_reads forms forms_refuse words text) [
-  | inl a ↦ a.call ∙ ap command_at (sym ((found (ap is_simple is)).1 ∙ ap (λ (x : App). subcommand_of x words) is ∙ a.entered_is))
-  | inr r ↦ absurd (subst Fails (sym (ap (λ (x : App). fault_of x words) is) ∙ faults (ap is_simple_and_free is)) r.fails)
+  | inl a ↦ a.call
+      ∙ ap command_at (sym ((found (ap is_simple is)).1 ∙ ap (λ (x : App). subcommand_of x words) is ∙ a.entered_is))
+  | inr r ↦
+      absurd (subst Fails (sym (ap (λ (x : App). fault_of x words) is) ∙ faults (ap is_simple_and_free is)) r.fails)
 ]
 
 pub bad_asks : (app : App) (words : List Text) (e : Error) → app ≡ line_app → AllTexts words
-    → (is_simple_and_free app ≡ true → HasKind (fault_of app words) e) → kind_of e ≢ OutOfMemory → command_of words ≡ None
+    → (is_simple_and_free app ≡ true → HasKind (fault_of app words) e) → kind_of e ≢ OutOfMemory →
+    command_of words ≡ None
 bad_asks app words e is text faults other = elim (line_reads forms forms_refuse words text) [
   | inl a ↦ let none : fault_of app words ≡ [] = ap (λ (x : App). fault_of x words) is ∙ a.no_fault in
-      elim (subst (λ (k : Kinds). HasKind k e) none (faults (ap is_simple_and_free is))) [ inl memory ↦ absurd (other memory) | inr among ↦ absurd among ]
+      elim (subst (λ (k : Kinds). HasKind k e) none (faults (ap is_simple_and_free is))) [
+        | inl memory ↦ absurd (other memory)
+        | inr among ↦ absurd among
+      ]
   | inr r ↦ r.refused
 ]
 
 -- ---- the getters of the matches
 
-pub values_got : (f : Found) (id : Text) (o : Option (Bor (List (Bor Text)))) (d got : Bor (List (Bor Text))) → got ≡ unwrap_or o d → map (λ w. w.now) d.now ≡ []
+pub values_got : (f : Found) (id : Text) (o : Option (Bor (List (Bor Text)))) (d got : Bor (List (Bor Text))) →
+    got ≡ unwrap_or o d →
+    map (λ w. w.now) d.now ≡ []
     → option_map (λ s. map (λ v. v.now) s.now) o ≡ option_map raw_values (matched_of f id)
     → map (λ w. w.now) got.now ≡ values_in id (rows_of f)
 values_got f id None d got g e h = ap (λ (b : Bor (List (Bor Text))). map (λ (w : Bor Text). w.now) b.now) g
@@ -55,20 +66,23 @@ values_got f id None d got g e h = ap (λ (b : Bor (List (Bor Text))). map (λ (
 values_got f id (Some s) d got g e h = ap (λ (b : Bor (List (Bor Text))). map (λ (w : Bor Text). w.now) b.now) g
     ∙ ap (λ (x : Option (List Text)). unwrap_or x []) (h ∙ raw_values-rows f id)
 
-pub answers_as : (asked now : Option Command) (r : Result Command WordsFault) → asked ≡ now → Answers asked r → Answers now r
+pub answers_as : (asked now : Option Command) (r : Result Command WordsFault) → asked ≡ now → Answers asked r →
+    Answers now r
 answers_as asked now r e a = subst (λ (o : Option Command). Answers o r) e a
 
 pub answered : (asked : Option Command) (r : Result Command WordsFault) → Answers asked r → IfOk r (λ c. asked ≡ Some c)
 answered asked (Ok c) a = a
 answered asked (Err f) a = tt
 
-pub answered_bad : (asked : Option Command) (r : Result Command WordsFault) → Answers asked r → r ≡ Err Bad → asked ≡ None
+pub answered_bad : (asked : Option Command) (r : Result Command WordsFault) → Answers asked r → r ≡ Err Bad →
+    asked ≡ None
 answered_bad asked (Ok c) a e = cc
 answered_bad asked (Err Bad) a e = a
 answered_bad asked (Err WordsMemory) a e = cc
 
 module _ {Z : Type 0} where
-  pub entered_rows : (sub : Option (Box SubCommand Z)) (name : Text) (rows : List Row) → Some name ≡ option_map (λ b. (out-SubCommand (box_value b)).name.now) sub
+  pub entered_rows : (sub : Option (Box SubCommand Z)) (name : Text) (rows : List Row) →
+      Some name ≡ option_map (λ b. (out-SubCommand (box_value b)).name.now) sub
       → Some rows ≡ option_map (λ p. p.1) (subcommand_rows sub) → subcommand_rows sub ≡ Some (name, rows)
   entered_rows None name rows n r = cc
   entered_rows (Some b) name rows n r =

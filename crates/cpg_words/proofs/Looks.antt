@@ -1,5 +1,6 @@
 -- What `clap` and the rule see in one word.
-use Rattle.std.proofs.Common.{◌≡◌, ◌∙◌, ◌==◌, ℕ, Bool, true, false, [], ◌∷◌, Option, Some, None, codes, refl, sym, ap, subst, suc, ◌+◌, arith}
+use Rattle.std.proofs.Common.{◌≡◌, ◌∙◌, ◌==◌, ℕ, Bool, true, false, [], ◌∷◌, Option, Some, None, codes, refl, sym, ap}
+use Rattle.std.proofs.Common.{subst, suc, ◌+◌, arith}
 use Rattle.std.specs.Str.{bytes_eq, chars, IsUtf8, encode_utf8_all}
 use Rattle.std.specs.Char.{encode_utf8}
 use Rattle.std.proofs.lemmas.Str.{encodes-chars}
@@ -14,7 +15,8 @@ use Rattle.cpg_words.specs.Number.{number}
 pub data Look (w : Text) : Type 0 where
   plain : is_option w ≡ false → bytes_eq w (codes "--") ≡ false → long_of w ≡ None → short_of w ≡ None → Look w
   dashes : is_option w ≡ true → bytes_eq w (codes "--") ≡ true → Look w
-  turns : (name : Text) (v : Option Text) → is_option w ≡ true → bytes_eq w (codes "--") ≡ false → is_turns w ≡ true → value_in w ≡ v
+  turns : (name : Text) (v : Option Text) → is_option w ≡ true → bytes_eq w (codes "--") ≡ false → is_turns w ≡ true →
+      value_in w ≡ v
       → long_of w ≡ Some (name, v) → bytes_eq (codes "turns") name ≡ true → Look w
   strange : (name : Text) (v : Option Text) → is_option w ≡ true → bytes_eq w (codes "--") ≡ false → is_turns w ≡ false
       → long_of w ≡ Some (name, v) → bytes_eq (codes "turns") name ≡ false → Look w
@@ -26,7 +28,8 @@ look_one x true e = plain refl (rw e refl) (rw e refl) (rw e refl)
 look_one x false e = plain refl (rw e refl) (rw e refl) (rw e refl)
 
 -- a short word has a first flag
-first_flag : (y : ℕ) (rest cs : Text) → chars (y ∷ rest) ≡ cs → IsUtf8 (45 ∷ y ∷ rest) → (c : ℕ) × (slice_get cs 0 ≡ Some c)
+first_flag : (y : ℕ) (rest cs : Text) → chars (y ∷ rest) ≡ cs → IsUtf8 (45 ∷ y ∷ rest) →
+    (c : ℕ) × (slice_get cs 0 ≡ Some c)
 unfolding chars encode_utf8
 first_flag y rest [] e text =
     let h : encode_utf8_all (45 ∷ chars (y ∷ rest)) ≡ 45 ∷ y ∷ rest = encodes-chars (45 ∷ y ∷ rest) text in
@@ -55,22 +58,27 @@ value_long w = rw (after_minus (45 ∷ w), after_minus w) refl
 not_minus : (y : ℕ) → (y == 45) ≡ false → (45 == y) ≡ false
 not_minus y h = grind (arith, nat_tests)
 
-other_second : (y : ℕ) (rest : Text) (b : Bool) → (y == 61) ≡ b → (45 == y) ≡ false → bytes_eq (codes "-turns") (before_first is_equals (y ∷ rest)) ≡ false
+other_second : (y : ℕ) (rest : Text) (b : Bool) → (y == 61) ≡ b → (45 == y) ≡ false →
+    bytes_eq (codes "-turns") (before_first is_equals (y ∷ rest)) ≡ false
 other_second y rest true e h = rw e refl
 other_second y rest false e h = rw (e, take_one (prefix_len (λ x. not (is_equals x)) rest) y rest, h) refl
 
-look_long : (x y z : ℕ) (zs : Text) → (x == 45) ≡ true → (y == 45) ≡ true → (b : Bool) → bytes_eq (codes "turns") (name_and_value (z ∷ zs)).0 ≡ b
+look_long : (x y z : ℕ) (zs : Text) → (x == 45) ≡ true → (y == 45) ≡ true → (b : Bool) →
+    bytes_eq (codes "turns") (name_and_value (z ∷ zs)).0 ≡ b
     → Look (x ∷ y ∷ z ∷ zs)
 look_long x y z zs e d true n =
     let x_is : x ≡ 45 = eqb-true x 45 e in
     let y_is : y ≡ 45 = eqb-true y 45 d in
-    turns (name_and_value (z ∷ zs)).0 (name_and_value (z ∷ zs)).1 e (rw (e, d) refl) (rw (x_is, y_is) (turns_long (z ∷ zs) ∙ n)) (rw (x_is, y_is) (value_long (z ∷ zs))) (rw (e, d) refl) n
+    turns (name_and_value (z ∷ zs)).0 (name_and_value (z ∷ zs)).1 e (rw (e, d) refl)
+    (rw (x_is, y_is) (turns_long (z ∷ zs) ∙ n)) (rw (x_is, y_is) (value_long (z ∷ zs))) (rw (e, d) refl) n
 look_long x y z zs e d false n =
     let x_is : x ≡ 45 = eqb-true x 45 e in
     let y_is : y ≡ 45 = eqb-true y 45 d in
-    strange (name_and_value (z ∷ zs)).0 (name_and_value (z ∷ zs)).1 e (rw (e, d) refl) (rw (x_is, y_is) (turns_long (z ∷ zs) ∙ n)) (rw (e, d) refl) n
+    strange (name_and_value (z ∷ zs)).0 (name_and_value (z ∷ zs)).1 e (rw (e, d) refl)
+    (rw (x_is, y_is) (turns_long (z ∷ zs) ∙ n)) (rw (e, d) refl) n
 
-look_two : (x y : ℕ) (rest : Text) (b c : Bool) → (x == 45) ≡ b → (y == 45) ≡ c → IsUtf8 (x ∷ y ∷ rest) → Look (x ∷ y ∷ rest)
+look_two : (x y : ℕ) (rest : Text) (b c : Bool) → (x == 45) ≡ b → (y == 45) ≡ c → IsUtf8 (x ∷ y ∷ rest) →
+    Look (x ∷ y ∷ rest)
 look_two x y rest false c e d text = plain e (rw e refl) (rw e refl) (rw e refl)
 look_two x y [] true true e d text = dashes e (rw (e, d) refl)
 look_two x y (z ∷ zs) true true e d text = look_long x y z zs e d _ refl
@@ -78,7 +86,8 @@ look_two x y rest true false e d text =
     let x_is : x ≡ 45 = eqb-true x 45 e in
     let word_is : x ∷ y ∷ rest ≡ 45 ∷ y ∷ rest = ap (λ (k : ℕ). k ∷ y ∷ rest) x_is in
     let flag = first_flag y rest _ refl (subst IsUtf8 word_is text) in
-    short (y ∷ rest) flag.0 e (rw (e, d) refl) (rw x_is (ap (bytes_eq (codes "--turns")) (before_minus (y ∷ rest)) ∙ other_second y rest (y == 61) refl (not_minus y d))) (rw (e, d) refl)
+    short (y ∷ rest) flag.0 e (rw (e, d) refl) (rw x_is (ap (bytes_eq (codes "--turns")) (before_minus (y ∷ rest))
+    ∙ other_second y rest (y == 61) refl (not_minus y d))) (rw (e, d) refl)
     (rw (e, d) refl) flag.1
 
 pub look : (w : Text) → IsUtf8 w → Look w

@@ -22,7 +22,9 @@ refused : (d : Bool) (n v : ℕ) → d ≡ true → n ≤ 20 → ((0 < n) × (v 
     → None ≡ (if (d && (nat_lt 0 n && nat_le n 20)) && nat_lt v (2 ^ 64) then Some v else None)
 refused d n v is few h = grind (arith, nat_tests)
 
-pub number_parsed : {E : Type 0} (w : List ℕ) (r : Result ℕ E) → ParsesUnsigned 64 10 w r → all_ascii_digits w ≡ true → length w ≤ 20 → result_ok r ≡ number w
+pub number_parsed : {E : Type 0} (w : List ℕ) (r : Result ℕ E) → ParsesUnsigned 64 10 w r → all_ascii_digits w ≡ true →
+    length w ≤ 20 →
+    result_ok r ≡ number w
 number_parsed {E} w (Ok x) h d few =
     let g = parse_digits (numerals_by_value _ tells_all_ascii_digits) {E = E} 64 w (Ok x) h d in
     taken (all_ascii_digits w) (length w) (digits_value 10 w) x d few g.0.0 g.0.1 g.1

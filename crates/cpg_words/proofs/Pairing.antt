@@ -1,5 +1,6 @@
 -- Pairs read so far, and those to come.
-use Rattle.std.proofs.Common.{◌≡◌, ◌∙◌, ◌<◌, ◌≤◌, ◌-◌, ◌==◌, ℕ, suc, false, Bor, List, [], ◌∷◌, ◌++◌, Option, Some, None, refl, sym, ap, ap₂, append_assoc, length, take, drop, get_or, arith}
+use Rattle.std.proofs.Common.{◌≡◌, ◌∙◌, ◌<◌, ◌≤◌, ◌-◌, ◌==◌, ℕ, suc, false, Bor, List, [], ◌∷◌, ◌++◌, Option, Some}
+use Rattle.std.proofs.Common.{None, refl, sym, ap, ap₂, append_assoc, length, take, drop, get_or, arith}
 use Rattle.cpg_words.specs.declared.command.Pair.{Pair}
 use Rattle.std.proofs.Math.Seq.{take-length}
 use Rattle.cpg_words.specs.Number.{number}
@@ -30,7 +31,8 @@ left_is [] d h = absurd (omega arith)
 left_is (a ∷ []) d h = absurd (omega arith)
 left_is (a ∷ b ∷ rest) d h = ap (λ (xs : List (Bor Text)). a.now ∷ b.now ∷ texts xs) (sym (rest_is rest))
 
-pub pairs_step : (left : List (Bor Text)) (d : Bor Text) (items now : List Pair) (p : Pair) (whole : Option (List Pair)) → 2 ≤ length left
+pub pairs_step : (left : List (Bor Text)) (d : Bor Text) (items now : List Pair) (p : Pair)
+    (whole : Option (List Pair)) → 2 ≤ length left
     → number (get_or left 0 d).now ≡ Some p.period → p.graph ≡ (get_or left 1 d).now → now ≡ items ++ p ∷ []
     → joined items (pairs_of (texts left)) ≡ whole
     → joined now (pairs_of (texts (take (length left - 2) (drop 2 left)))) ≡ whole
@@ -43,7 +45,8 @@ pairs_step left d items now p whole long period graph more so_far =
     ∙ ap (λ (ts : List Text). joined ps (pairs_of ts)) (sym (left_is left d long))
     ∙ so_far
 
-pub pairs_odd : (left : List (Bor Text)) (ps : List Pair) (whole : Option (List Pair)) → length left < 2 → (length left == 0) ≡ false
+pub pairs_odd : (left : List (Bor Text)) (ps : List Pair) (whole : Option (List Pair)) → length left < 2 →
+    (length left == 0) ≡ false
     → joined ps (pairs_of (texts left)) ≡ whole → whole ≡ None
 pairs_odd [] ps whole few some so_far = cc
 pairs_odd (a ∷ []) ps whole few some so_far = sym so_far

@@ -7,17 +7,21 @@ use Rattle.cpg_words.specs.Parts.{Text}
 use Rattle.cpg_words.specs.Matches.{values_in}
 use Rattle.cpg_words.proofs.Walking.{add}
 
-add_here : (id v : Text) (r : Row) (rs : List Row) (b : Bool) → bytes_eq r.id id ≡ b → values_in id (add id v rs) ≡ values_in id rs ++ v ∷ []
+add_here : (id v : Text) (r : Row) (rs : List Row) (b : Bool) → bytes_eq r.id id ≡ b →
+    values_in id (add id v rs) ≡ values_in id rs ++ v ∷ []
     → values_in id (add id v (r ∷ rs)) ≡ values_in id (r ∷ rs) ++ v ∷ []
 add_here id v r rs true e h = rw (e, e) refl
 add_here id v r rs false e h = rw (e, e) h
 
-pub add_same : (id v : Text) (rows : List Row) → bytes_eq id id ≡ true → values_in id (add id v rows) ≡ values_in id rows ++ v ∷ []
+pub add_same : (id v : Text) (rows : List Row) → bytes_eq id id ≡ true →
+    values_in id (add id v rows) ≡ values_in id rows ++ v ∷ []
 add_same id v [] own = rw own refl
 add_same id v (r ∷ rs) own = add_here id v r rs (bytes_eq r.id id) refl (add_same id v rs own)
 
-add_past : (id other v : Text) (r : Row) (rs : List Row) (b c : Bool) → bytes_eq r.id id ≡ b → bytes_eq r.id other ≡ c → bytes_eq id other ≡ false
-    → values_in other (add id v rs) ≡ values_in other rs → values_in other (add id v (r ∷ rs)) ≡ values_in other (r ∷ rs)
+add_past : (id other v : Text) (r : Row) (rs : List Row) (b c : Bool) → bytes_eq r.id id ≡ b → bytes_eq r.id other ≡ c →
+    bytes_eq id other ≡ false
+    → values_in other (add id v rs) ≡ values_in other rs →
+    values_in other (add id v (r ∷ rs)) ≡ values_in other (r ∷ rs)
 add_past id other v r rs true c e f off h =
     let same : r.id ≡ id = (bytes_eq-Decides r.id id).0 e in
     let not_other : bytes_eq r.id other ≡ false = rw same off in
@@ -25,6 +29,8 @@ add_past id other v r rs true c e f off h =
 add_past id other v r rs false true e f off h = rw (e, f) refl
 add_past id other v r rs false false e f off h = rw (e, f) h
 
-pub add_other : (id other v : Text) (rows : List Row) → bytes_eq id other ≡ false → values_in other (add id v rows) ≡ values_in other rows
+pub add_other : (id other v : Text) (rows : List Row) → bytes_eq id other ≡ false →
+    values_in other (add id v rows) ≡ values_in other rows
 add_other id other v [] off = rw off refl
-add_other id other v (r ∷ rs) off = add_past id other v r rs (bytes_eq r.id id) (bytes_eq r.id other) refl refl off (add_other id other v rs off)
+add_other id other v (r ∷ rs) off =
+    add_past id other v r rs (bytes_eq r.id id) (bytes_eq r.id other) refl refl off (add_other id other v rs off)

@@ -1,5 +1,6 @@
 -- `clap` reads the words of a command as the rule does.
-use Rattle.std.proofs.Common.{◌≡◌, ◌⊎◌, ◌∙◌, inl, inr, Bool, true, false, List, [], ◌∷◌, ◌++◌, Option, Some, None, codes, refl, sym, ap, subst, append_assoc, append-nil, is_some}
+use Rattle.std.proofs.Common.{◌≡◌, ◌⊎◌, ◌∙◌, inl, inr, Bool, true, false, List, [], ◌∷◌, ◌++◌, Option, Some, None}
+use Rattle.std.proofs.Common.{codes, refl, sym, ap, subst, append_assoc, append-nil, is_some}
 use Rattle.std.specs.Prelude.{not}
 use Rattle.std.specs.List.{list_any}
 use Rattle.std.specs.Str.{IsUtf8}
@@ -57,14 +58,17 @@ fails_as a b e f = subst Walking.Fails (sym e) f
 
 -- ---- after `--`
 
-trail_fault : (ws : List Text) (last : Walking.Last) (rows : List Row) → Walking.fault_from (Walking.at true last rows) ws ≡ []
+trail_fault : (ws : List Text) (last : Walking.Last) (rows : List Row) →
+    Walking.fault_from (Walking.at true last rows) ws ≡ []
 unfolding walk_fault
 trail_fault [] last rows = Walking.settles last rows
-trail_fault (w ∷ ws) last rows = Walking.fault_steps _ _ w ws (Walking.trailing_passes last rows w) (Walking.trailing_step last rows w)
+trail_fault (w ∷ ws) last rows =
+    Walking.fault_steps _ _ w ws (Walking.trailing_passes last rows w) (Walking.trailing_step last rows w)
     ∙ trail_fault ws (Walking.after_word w) (Walking.rows_with last rows)
 
 trail_words : (ws : List Text) (last : Walking.Last) (rows : List Row)
-    → values_in (codes "words") (Walking.rows_from (Walking.at true last rows) ws) ≡ values_in (codes "words") (Walking.rows_with last rows) ++ ws
+    → values_in (codes "words") (Walking.rows_from (Walking.at true last rows) ws)
+    ≡ values_in (codes "words") (Walking.rows_with last rows) ++ ws
 trail_words [] last rows = ap (values_in (codes "words")) (Walking.settled_is last rows) ∙ sym (append-nil _)
 trail_words (w ∷ ws) last rows =
     let start = Walking.rows_with last rows in
@@ -74,7 +78,8 @@ trail_words (w ∷ ws) last rows =
     ∙ append_assoc (values_in (codes "words") start) (w ∷ []) ws
 
 trail_turns : (ws : List Text) (last : Walking.Last) (rows : List Row)
-    → values_in (codes "turns") (Walking.rows_from (Walking.at true last rows) ws) ≡ values_in (codes "turns") (Walking.rows_with last rows)
+    → values_in (codes "turns") (Walking.rows_from (Walking.at true last rows) ws)
+    ≡ values_in (codes "turns") (Walking.rows_with last rows)
 trail_turns [] last rows = ap (values_in (codes "turns")) (Walking.settled_is last rows)
 trail_turns (w ∷ ws) last rows =
     let start = Walking.rows_with last rows in
@@ -90,9 +95,11 @@ with_word w fault now rows rows_now start parts parts_now f r p (inl t) = inl (r
   found = record { positionals = w ∷ t.found.positionals; turns = t.found.turns };
   parts_are = p ∙ ap (with_positional w) t.parts_are;
   no_fault = f ∙ t.no_fault;
-  words = ap (values_in (codes "words")) r ∙ t.words ∙ ap (λ (xs : List Text). xs ++ t.found.positionals) (add_same (codes "words") w start refl)
+  words = ap (values_in (codes "words")) r ∙ t.words
+      ∙ ap (λ (xs : List Text). xs ++ t.found.positionals) (add_same (codes "words") w start refl)
       ∙ append_assoc (values_in (codes "words") start) (w ∷ []) t.found.positionals;
-  turns = ap (values_in (codes "turns")) r ∙ t.turns ∙ ap (λ (xs : List Text). xs ++ t.found.turns) (add_other (codes "words") (codes "turns") w start refl);
+  turns = ap (values_in (codes "turns")) r ∙ t.turns
+      ∙ ap (λ (xs : List Text). xs ++ t.found.turns) (add_other (codes "words") (codes "turns") w start refl);
 })
 with_word w fault now rows rows_now start parts parts_now f r p (inr t) = inr (record {
   fails = fails_as now fault f t.fails;
@@ -108,7 +115,8 @@ with_turn v fault now rows rows_now start parts parts_now f r p (inl t) = inl (r
   no_fault = f ∙ t.no_fault;
   words = ap (values_in (codes "words")) r ∙ t.words
       ∙ ap (λ (xs : List Text). xs ++ t.found.positionals) (add_other (codes "turns") (codes "words") v start refl);
-  turns = ap (values_in (codes "turns")) r ∙ t.turns ∙ ap (λ (xs : List Text). xs ++ t.found.turns) (add_same (codes "turns") v start refl)
+  turns = ap (values_in (codes "turns")) r ∙ t.turns
+      ∙ ap (λ (xs : List Text). xs ++ t.found.turns) (add_same (codes "turns") v start refl)
       ∙ append_assoc (values_in (codes "turns") start) (v ∷ []) t.found.turns;
 })
 with_turn v fault now rows rows_now start parts parts_now f r p (inr t) = inr (record {
@@ -117,7 +125,8 @@ with_turn v fault now rows rows_now start parts parts_now f r p (inr t) = inr (r
 })
 
 same_verdict : (fault now : Kinds) (rows rows_now start : List Row) (parts parts_now : Option Parts)
-    → now ≡ fault → rows_now ≡ rows → parts_now ≡ parts → Verdict fault rows start parts → Verdict now rows_now start parts_now
+    → now ≡ fault → rows_now ≡ rows → parts_now ≡ parts → Verdict fault rows start parts →
+    Verdict now rows_now start parts_now
 same_verdict fault now rows rows_now start parts parts_now f r p (inl t) = inl (record {
   found = t.found;
   parts_are = p ∙ t.parts_are;
@@ -153,23 +162,31 @@ unfolding walk_fault
 read_no_value rows = inr (record { fails = tt; refused = refl })
 
 read_word : (w : Text) (ws : List Text) → Look w → Reads ws → ReadsValue ws → Reads (w ∷ ws)
-read_word w ws (plain o d l s) more value last rows = with_word w _ _ _ _ (Walking.rows_with last rows) (parts_from false ws) _
+read_word w ws (plain o d l s) more value last rows =
+    with_word w _ _ _ _ (Walking.rows_with last rows) (parts_from false ws) _
     (Walking.fault_steps _ _ w ws (Walking.plain_passes last rows w d l s) (Walking.plain_step last rows w d l s))
     (Walking.rows_step _ _ w ws (Walking.plain_step last rows w d l s))
     (rw (d, o) refl) (more (Walking.after_word w) (Walking.rows_with last rows))
 read_word w ws (dashes o d) more value last rows = inl (record {
   found = record { positionals = ws; turns = [] };
   parts_are = rw d refl;
-  no_fault = Walking.fault_steps _ _ w ws (Walking.dashes_passes last rows w d) (Walking.dashes_step last rows w d) ∙ trail_fault ws last rows;
-  words = ap (values_in (codes "words")) (Walking.rows_step _ _ w ws (Walking.dashes_step last rows w d)) ∙ trail_words ws last rows;
-  turns = ap (values_in (codes "turns")) (Walking.rows_step _ _ w ws (Walking.dashes_step last rows w d)) ∙ trail_turns ws last rows ∙ sym (append-nil _);
+  no_fault = Walking.fault_steps _ _ w ws (Walking.dashes_passes last rows w d) (Walking.dashes_step last rows w d)
+      ∙ trail_fault ws last rows;
+  words = ap (values_in (codes "words")) (Walking.rows_step _ _ w ws (Walking.dashes_step last rows w d))
+      ∙ trail_words ws last rows;
+  turns = ap (values_in (codes "turns")) (Walking.rows_step _ _ w ws (Walking.dashes_step last rows w d))
+      ∙ trail_turns ws last rows ∙ sym (append-nil _);
 })
-read_word w ws (turns name (Some v) o d t i l n) more value last rows = with_turn v _ _ _ _ (Walking.rows_with last rows) (parts_from false ws) _
-    (Walking.fault_steps _ _ w ws (Walking.value_passes last rows w name v d l n) (Walking.value_step last rows w name v d l n))
+read_word w ws (turns name (Some v) o d t i l n) more value last rows =
+    with_turn v _ _ _ _ (Walking.rows_with last rows) (parts_from false ws) _
+    (Walking.fault_steps _ _ w ws (Walking.value_passes last rows w name v d l n)
+    (Walking.value_step last rows w name v d l n))
     (Walking.rows_step _ _ w ws (Walking.value_step last rows w name v d l n))
     (rw (d, o, t, i) refl) (more Walking.clear (Walking.add (codes "turns") v (Walking.rows_with last rows)))
-read_word w ws (turns name None o d t i l n) more value last rows = same_verdict _ _ _ _ (Walking.rows_with last rows) (parts_from true ws) _
-    (Walking.fault_steps _ _ w ws (Walking.turns_passes last rows w name d l n) (Walking.turns_step last rows w name d l n))
+read_word w ws (turns name None o d t i l n) more value last rows =
+    same_verdict _ _ _ _ (Walking.rows_with last rows) (parts_from true ws) _
+    (Walking.fault_steps _ _ w ws (Walking.turns_passes last rows w name d l n)
+    (Walking.turns_step last rows w name d l n))
     (Walking.rows_step _ _ w ws (Walking.turns_step last rows w name d l n))
     (rw (d, o, t, i) refl) (value (Walking.rows_with last rows))
 read_word w ws (strange name v o d t l n) more value last rows = inr (record {

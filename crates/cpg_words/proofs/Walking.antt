@@ -50,11 +50,18 @@ held_of last rows = record { rows = rows; pending = pending_of last; skip = 0 }
 
 -- between two words, before `--` or after it
 abbrev pub at : Bool → Last → List Row → Walk
-at trailing last rows = record { held = held_of last rows; waiting = waiting_of last; position = 1; is_trailing = trailing; stopped = None }
+at trailing last rows =
+    record { held = held_of last rows; waiting = waiting_of last; position = 1; is_trailing = trailing; stopped = None }
 
 -- after `--turns`
 abbrev pub awaiting : List Row → Walk
-awaiting rows = record { held = record { rows = rows; pending = Some (codes "turns", []); skip = 0 }; waiting = option (codes "turns"); position = 1; is_trailing = false; stopped = None }
+awaiting rows = record {
+  held = record { rows = rows; pending = Some (codes "turns", []); skip = 0 };
+  waiting = option (codes "turns");
+  position = 1;
+  is_trailing = false;
+  stopped = None;
+}
 
 abbrev pub step_of : Walk → Text → Walk
 step_of w word = walked level_rules [] w word
@@ -83,20 +90,23 @@ trailing_passes clear rows w = refl
 trailing_passes (after_word v) rows w = refl
 trailing_passes (after_turn v) rows w = refl
 
-pub trailing_step : (last : Last) (rows : List Row) (w : Text) → step_of (at true last rows) w ≡ at true (after_word w) (rows_with last rows)
+pub trailing_step : (last : Last) (rows : List Row) (w : Text) →
+    step_of (at true last rows) w ≡ at true (after_word w) (rows_with last rows)
 unfolding walked
 trailing_step clear rows w = refl
 trailing_step (after_word v) rows w = refl
 trailing_step (after_turn v) rows w = refl
 
 -- a word that is no option
-pub plain_passes : (last : Last) (rows : List Row) (w : Text) → bytes_eq w (codes "--") ≡ false → long_of w ≡ None → short_of w ≡ None
+pub plain_passes : (last : Last) (rows : List Row) (w : Text) → bytes_eq w (codes "--") ≡ false → long_of w ≡ None →
+    short_of w ≡ None
     → fault_at (at false last rows) w ≡ []
 plain_passes clear rows w d l s = rw (d, l, s) refl
 plain_passes (after_word v) rows w d l s = rw (d, l, s) refl
 plain_passes (after_turn v) rows w d l s = rw (d, l, s) refl
 
-pub plain_step : (last : Last) (rows : List Row) (w : Text) → bytes_eq w (codes "--") ≡ false → long_of w ≡ None → short_of w ≡ None
+pub plain_step : (last : Last) (rows : List Row) (w : Text) → bytes_eq w (codes "--") ≡ false → long_of w ≡ None →
+    short_of w ≡ None
     → step_of (at false last rows) w ≡ at false (after_word w) (rows_with last rows)
 unfolding walked
 plain_step clear rows w d l s = rw (d, l, s) refl
@@ -104,39 +114,46 @@ plain_step (after_word v) rows w d l s = rw (d, l, s) refl
 plain_step (after_turn v) rows w d l s = rw (d, l, s) refl
 
 -- `--`
-pub dashes_passes : (last : Last) (rows : List Row) (w : Text) → bytes_eq w (codes "--") ≡ true → fault_at (at false last rows) w ≡ []
+pub dashes_passes : (last : Last) (rows : List Row) (w : Text) → bytes_eq w (codes "--") ≡ true →
+    fault_at (at false last rows) w ≡ []
 dashes_passes clear rows w d = rw d refl
 dashes_passes (after_word v) rows w d = rw d refl
 dashes_passes (after_turn v) rows w d = rw d refl
 
-pub dashes_step : (last : Last) (rows : List Row) (w : Text) → bytes_eq w (codes "--") ≡ true → step_of (at false last rows) w ≡ at true last rows
+pub dashes_step : (last : Last) (rows : List Row) (w : Text) → bytes_eq w (codes "--") ≡ true →
+    step_of (at false last rows) w ≡ at true last rows
 unfolding walked
 dashes_step clear rows w d = rw d refl
 dashes_step (after_word v) rows w d = rw d refl
 dashes_step (after_turn v) rows w d = rw d refl
 
 -- `--turns=VALUE`
-pub value_passes : (last : Last) (rows : List Row) (w name v : Text) → bytes_eq w (codes "--") ≡ false → long_of w ≡ Some (name, Some v)
+pub value_passes : (last : Last) (rows : List Row) (w name v : Text) → bytes_eq w (codes "--") ≡ false →
+    long_of w ≡ Some (name, Some v)
     → bytes_eq (codes "turns") name ≡ true → fault_at (at false last rows) w ≡ []
 value_passes clear rows w name v d l n = rw (d, l, n) refl
 value_passes (after_word x) rows w name v d l n = rw (d, l, n) refl
 value_passes (after_turn x) rows w name v d l n = rw (d, l, n) refl
 
-pub value_step : (last : Last) (rows : List Row) (w name v : Text) → bytes_eq w (codes "--") ≡ false → long_of w ≡ Some (name, Some v)
-    → bytes_eq (codes "turns") name ≡ true → step_of (at false last rows) w ≡ at false clear (add (codes "turns") v (rows_with last rows))
+pub value_step : (last : Last) (rows : List Row) (w name v : Text) → bytes_eq w (codes "--") ≡ false →
+    long_of w ≡ Some (name, Some v)
+    → bytes_eq (codes "turns") name ≡ true →
+    step_of (at false last rows) w ≡ at false clear (add (codes "turns") v (rows_with last rows))
 unfolding walked
 value_step clear rows w name v d l n = rw (d, l, n) refl
 value_step (after_word x) rows w name v d l n = rw (d, l, n) refl
 value_step (after_turn x) rows w name v d l n = rw (d, l, n) refl
 
 -- `--turns`
-pub turns_passes : (last : Last) (rows : List Row) (w name : Text) → bytes_eq w (codes "--") ≡ false → long_of w ≡ Some (name, None)
+pub turns_passes : (last : Last) (rows : List Row) (w name : Text) → bytes_eq w (codes "--") ≡ false →
+    long_of w ≡ Some (name, None)
     → bytes_eq (codes "turns") name ≡ true → fault_at (at false last rows) w ≡ []
 turns_passes clear rows w name d l n = rw (d, l, n) refl
 turns_passes (after_word x) rows w name d l n = rw (d, l, n) refl
 turns_passes (after_turn x) rows w name d l n = rw (d, l, n) refl
 
-pub turns_step : (last : Last) (rows : List Row) (w name : Text) → bytes_eq w (codes "--") ≡ false → long_of w ≡ Some (name, None)
+pub turns_step : (last : Last) (rows : List Row) (w name : Text) → bytes_eq w (codes "--") ≡ false →
+    long_of w ≡ Some (name, None)
     → bytes_eq (codes "turns") name ≡ true → step_of (at false last rows) w ≡ awaiting (rows_with last rows)
 unfolding walked
 turns_step clear rows w name d l n = rw (d, l, n) refl
@@ -150,7 +167,8 @@ strange_fails clear rows w name v d l n = rw (d, l, n) tt
 strange_fails (after_word x) rows w name v d l n = rw (d, l, n) tt
 strange_fails (after_turn x) rows w name v d l n = rw (d, l, n) tt
 
-pub short_fails : (last : Last) (rows : List Row) (w flags : Text) (c : ℕ) → bytes_eq w (codes "--") ≡ false → long_of w ≡ None
+pub short_fails : (last : Last) (rows : List Row) (w flags : Text) (c : ℕ) → bytes_eq w (codes "--") ≡ false →
+    long_of w ≡ None
     → short_of w ≡ Some flags → slice_get (chars flags) 0 ≡ Some c → Fails (fault_at (at false last rows) w)
 unfolding flags_fault chars
 short_fails last rows w [] c d l s f = cc
@@ -159,7 +177,9 @@ short_fails (after_word x) rows w (y ∷ ys) c d l s f = rw (d, l, s, f) tt
 short_fails (after_turn x) rows w (y ∷ ys) c d l s f = rw (d, l, s, f) tt
 
 -- the value of `--turns`
-pub turn_passes : (rows : List Row) (w : Text) → bytes_eq w (codes "--") ≡ false → long_of w ≡ None → short_of w ≡ None → fault_at (awaiting rows) w ≡ []
+pub turn_passes : (rows : List Row) (w : Text) → bytes_eq w (codes "--") ≡ false → long_of w ≡ None →
+    short_of w ≡ None →
+    fault_at (awaiting rows) w ≡ []
 turn_passes rows w d l s = rw (d, l, s) refl
 
 pub turn_step : (rows : List Row) (w : Text) → bytes_eq w (codes "--") ≡ false → long_of w ≡ None → short_of w ≡ None
@@ -167,12 +187,14 @@ pub turn_step : (rows : List Row) (w : Text) → bytes_eq w (codes "--") ≡ fal
 unfolding walked
 turn_step rows w d l s = rw (d, l, s) refl
 
-pub awaiting_turns : (rows : List Row) (w name : Text) (v : Option Text) → bytes_eq w (codes "--") ≡ false → long_of w ≡ Some (name, v)
+pub awaiting_turns : (rows : List Row) (w name : Text) (v : Option Text) → bytes_eq w (codes "--") ≡ false →
+    long_of w ≡ Some (name, v)
     → bytes_eq (codes "turns") name ≡ true → Fails (fault_at (awaiting rows) w)
 awaiting_turns rows w name (Some v) d l n = rw (d, l, n) tt
 awaiting_turns rows w name None d l n = rw (d, l, n) tt
 
-pub awaiting_strange : (rows : List Row) (w name : Text) (v : Option Text) → bytes_eq w (codes "--") ≡ false → long_of w ≡ Some (name, v)
+pub awaiting_strange : (rows : List Row) (w name : Text) (v : Option Text) → bytes_eq w (codes "--") ≡ false →
+    long_of w ≡ Some (name, v)
     → bytes_eq (codes "turns") name ≡ false → Fails (fault_at (awaiting rows) w)
 awaiting_strange rows w name v d l n = rw (d, l, n) tt
 
@@ -192,11 +214,14 @@ fault_from w ws = or_else (walk_fault (level []) [] w ws) (settle_fault level_ru
 abbrev pub rows_from : Walk → List Text → List Row
 rows_from w ws = (settled level_rules (fold step_of w ws).held).rows
 
-pub fault_steps : (w after : Walk) (x : Text) (xs : List Text) → fault_at w x ≡ [] → step_of w x ≡ after → fault_from w (x ∷ xs) ≡ fault_from after xs
+pub fault_steps : (w after : Walk) (x : Text) (xs : List Text) → fault_at w x ≡ [] → step_of w x ≡ after →
+    fault_from w (x ∷ xs) ≡ fault_from after xs
 unfolding walk_fault
-fault_steps w after x xs f s = ap₂ (λ (k : Kinds) (v : Walk). or_else (or_else k (walk_fault (level []) [] v xs)) (settle_fault level_rules false (fold step_of v xs).held)) f s
+fault_steps w after x xs f s = ap₂ (λ (k : Kinds) (v : Walk).
+    or_else (or_else k (walk_fault (level []) [] v xs)) (settle_fault level_rules false (fold step_of v xs).held)) f s
 
-pub rows_step : (w after : Walk) (x : Text) (xs : List Text) → step_of w x ≡ after → rows_from w (x ∷ xs) ≡ rows_from after xs
+pub rows_step : (w after : Walk) (x : Text) (xs : List Text) → step_of w x ≡ after →
+    rows_from w (x ∷ xs) ≡ rows_from after xs
 rows_step w after x xs s = ap (λ (v : Walk). rows_from v xs) s
 
 pub or_else_fails : (a b : Kinds) → Fails a → Fails (or_else a b)
@@ -208,7 +233,8 @@ unfolding walk_fault
 fault_stops w x xs f = or_else_fails _ _ (or_else_fails _ (walk_fault (level []) [] (step_of w x) xs) f)
 
 -- `--` in place of the value of `--turns`
-pub awaiting_dashes : (rows : List Row) (w : Text) (xs : List Text) → bytes_eq w (codes "--") ≡ true → Fails (fault_from (awaiting rows) (w ∷ xs))
+pub awaiting_dashes : (rows : List Row) (w : Text) (xs : List Text) → bytes_eq w (codes "--") ≡ true →
+    Fails (fault_from (awaiting rows) (w ∷ xs))
 unfolding walk_fault walked
 awaiting_dashes rows w [] d = rw d tt
 awaiting_dashes rows w (x ∷ xs) d = rw d tt

@@ -1,13 +1,16 @@
 -- `clap` reads the whole command line as the rule does.
-use Rattle.std.proofs.Common.{◌≡◌, ◌⊎◌, ◌∙◌, inl, inr, ℕ, Bool, true, false, List, [], ◌∷◌, Option, Some, None, codes, refl, sym, ap, ap₂, subst, is_some, map, find, cond}
+use Rattle.std.proofs.Common.{◌≡◌, ◌⊎◌, ◌∙◌, inl, inr, ℕ, Bool, true, false, List, [], ◌∷◌, Option, Some, None, codes}
+use Rattle.std.proofs.Common.{refl, sym, ap, ap₂, subst, is_some, map, find, cond}
 use Rattle.std.specs.Prelude.{option_and_then, not, ◌&&◌, ◌||◌, fold}
 use Rattle.std.specs.Str.{bytes_eq, IsUtf8, chars}
 use Rattle.std.proofs.Math.Bool.{or-true}
 use Rattle.std.proofs.lemmas.Slice.Eq.{bytes_eq-Decides}
 use Rattle.clap.specs.Kinds.{Kinds, or_else}
-use Rattle.clap.specs.Walk.{Row, Walk, Names, answers_to, walk, walk_from, walked, nothing_held, finished, has_row, settled, stop_after}
+use Rattle.clap.specs.Walk.{Row, Walk, Names, answers_to, walk, walk_from, walked, nothing_held, finished, has_row}
+use Rattle.clap.specs.Walk.{settled, stop_after}
 use Rattle.clap.specs.Simple.{App, Shape, built, entered, label_of, names_of}
-use Rattle.clap.specs.Faults.{flags_fault, walk_fault, turn_fault, settle_fault, defaults_fault, check_fault, level_fault, built_fault, entered_fault}
+use Rattle.clap.specs.Faults.{flags_fault, walk_fault, turn_fault, settle_fault, defaults_fault, check_fault}
+use Rattle.clap.specs.Faults.{level_fault, built_fault, entered_fault}
 use Rattle.clap.proofs.WalkLemmas.{walk_stopped}
 use Rattle.clap.proofs.FaultLemmas.{stopped_fault}
 use Rattle.cpg_words.specs.Parts.{Text, Parts, parts_from}
@@ -15,7 +18,8 @@ use Rattle.cpg_words.specs.Line.{line_app_of}
 use Rattle.cpg_words.specs.Number.{number}
 use Rattle.cpg_words.specs.declared.command.Command.{Command}
 use Rattle.cpg_words.specs.declared.command.Command.TheVariants.{Show, Compile, Check, Node, Live, Tune, Audit}
-use Rattle.cpg_words.specs.Forms.{Form, forms, command_named, command_in, one_word, two_words, three_words, play_of, trial_of, hyper_of}
+use Rattle.cpg_words.specs.Forms.{Form, forms, command_named, command_in, one_word, two_words, three_words, play_of}
+use Rattle.cpg_words.specs.Forms.{trial_of, hyper_of}
 use Rattle.cpg_words.proofs.Looks.{Look, plain, dashes, turns, strange, short, look}
 use Rattle.cpg_words.proofs.Splitting.{AllTexts, reads, is_refused}
 use Rattle.cpg_words.specs.Matches.{values_in}
@@ -36,7 +40,8 @@ line_is = refl
 
 -- ---- a command's own level
 
-same_walk_fault : (n : Text) (w : Walk) (ws : List Text) → walk_fault (Walking.level n) [] w ws ≡ walk_fault (Walking.level []) [] w ws
+same_walk_fault : (n : Text) (w : Walk) (ws : List Text) →
+    walk_fault (Walking.level n) [] w ws ≡ walk_fault (Walking.level []) [] w ws
 unfolding walk_fault
 same_walk_fault n w [] = refl
 same_walk_fault n w (x ∷ xs) = ap (or_else (Walking.fault_at w x)) (same_walk_fault n (Walking.step_of w x) xs)
@@ -49,21 +54,27 @@ or_else_none : (a : Kinds) → or_else a [] ≡ a
 or_else_none [] = refl
 or_else_none (k ∷ ks) = refl
 
-level_fault_is : (n : Text) (ws : List Text) → level_fault (Walking.level n) [] nothing_held ws false [] ≡ Walking.fault_from (Walking.at false Walking.clear []) ws
+level_fault_is : (n : Text) (ws : List Text) →
+    level_fault (Walking.level n) [] nothing_held ws false []
+    ≡ Walking.fault_from (Walking.at false Walking.clear []) ws
 level_fault_is n ws =
     let end = (fold Walking.step_of (Walking.at false Walking.clear []) ws).held in
     let at_end = settle_fault Walking.level_rules false end in
     let defaults = defaults_fault (settled Walking.level_rules end).rows Walking.level_rules in
     let walk_here = walk_fault (Walking.level []) [] (Walking.at false Walking.clear []) ws in
-    ap (λ (k : Kinds). or_else k (or_else at_end (or_else defaults []))) (same_walk_fault n (Walking.at false Walking.clear []) ws)
-    ∙ ap (λ (k : Kinds). or_else walk_here (or_else at_end (or_else k []))) (no_default_fault (settled Walking.level_rules end).rows)
+    ap (λ (k : Kinds). or_else k (or_else at_end (or_else defaults [])))
+    (same_walk_fault n (Walking.at false Walking.clear []) ws)
+    ∙ ap (λ (k : Kinds). or_else walk_here (or_else at_end (or_else k [])))
+    (no_default_fault (settled Walking.level_rules end).rows)
     ∙ ap (or_else walk_here) (or_else_none at_end)
 
 no_default : (id : Text) (rows : List Row) (b : Bool) → has_row id rows ≡ b → cond (has_row id rows) rows rows ≡ rows
 no_default id rows true e = rw e refl
 no_default id rows false e = rw e refl
 
-finished_is : (ws : List Text) → finished Walking.level_rules (walk Walking.level_rules [] nothing_held ws).held ≡ Walking.rows_from (Walking.at false Walking.clear []) ws
+finished_is : (ws : List Text) →
+    finished Walking.level_rules (walk Walking.level_rules [] nothing_held ws).held
+    ≡ Walking.rows_from (Walking.at false Walking.clear []) ws
 finished_is ws =
     let rows = Walking.rows_from (Walking.at false Walking.clear []) ws in
     let first = cond (has_row (codes "words") rows) rows rows in
@@ -88,11 +99,13 @@ pub record Unnamed (fs : List Form) (w : Text) : Type 0 where
   pub in_forms : find (λ f. bytes_eq f.0 w) fs ≡ None
   pub in_names : find (answers_to w) (names_in fs) ≡ None
 
-name_here : (f : Form) (fs : List Form) (w : Text) (b : Bool) → bytes_eq f.0 w ≡ b → Named fs w ⊎ Unnamed fs w → Named (f ∷ fs) w ⊎ Unnamed (f ∷ fs) w
+name_here : (f : Form) (fs : List Form) (w : Text) (b : Bool) → bytes_eq f.0 w ≡ b → Named fs w ⊎ Unnamed fs w →
+    Named (f ∷ fs) w ⊎ Unnamed (f ∷ fs) w
 name_here f fs w true e rest =
     let same : f.0 ≡ w = (bytes_eq-Decides f.0 w).0 e in
     inl (record { form = f; in_forms = rw e refl; in_names = rw e (ap (λ (n : Text). Some (n, [])) same); in_line = rw e (ap (λ (n : Text). Some (Walking.level n)) same) })
-name_here f fs w false e (inl h) = inl (record { form = h.form; in_forms = rw e h.in_forms; in_names = rw e h.in_names; in_line = rw e h.in_line })
+name_here f fs w false e (inl h) =
+    inl (record { form = h.form; in_forms = rw e h.in_forms; in_names = rw e h.in_names; in_line = rw e h.in_line })
 name_here f fs w false e (inr h) = inr (record { in_forms = rw e h.in_forms; in_names = rw e h.in_names })
 
 pub named : (fs : List Form) (w : Text) → Named fs w ⊎ Unnamed fs w
@@ -111,28 +124,35 @@ start = walk_from nothing_held
 abbrev entering : Text → List Text → Walk
 entering w ws = record start { stopped = Some (w, ws) }
 
-first_walked : (fs : List Form) (w : Text) → find (answers_to w) (names_in fs) ≡ Some (w, []) → walked [] (names_in fs) start w ≡ entering w []
+first_walked : (fs : List Form) (w : Text) → find (answers_to w) (names_in fs) ≡ Some (w, []) →
+    walked [] (names_in fs) start w ≡ entering w []
 unfolding walked
 first_walked fs w e = rw e refl
 
-first_fault : (fs : List Form) (w : Text) → find (answers_to w) (names_in fs) ≡ Some (w, []) → turn_fault (line fs).top (names_in fs) start w ≡ []
+first_fault : (fs : List Form) (w : Text) → find (answers_to w) (names_in fs) ≡ Some (w, []) →
+    turn_fault (line fs).top (names_in fs) start w ≡ []
 first_fault fs w e = rw (e, and_false (bytes_eq w (codes "help"))) refl
 
 entered_walk : (fs : List Form) (w : Text) (ws : List Text) → find (answers_to w) (names_in fs) ≡ Some (w, [])
     → walk [] (names_in fs) nothing_held (w ∷ ws) ≡ entering w ws
-entered_walk fs w ws e = ap (λ (v : Walk). fold (walked [] (names_in fs)) v ws) (first_walked fs w e) ∙ sym (walk_stopped [] (names_in fs) start w [] ws)
+entered_walk fs w ws e = ap (λ (v : Walk). fold (walked [] (names_in fs)) v ws) (first_walked fs w e)
+    ∙ sym (walk_stopped [] (names_in fs) start w [] ws)
 
 entered_fault_is : (fs : List Form) (w : Text) (ws : List Text) → find (answers_to w) (names_in fs) ≡ Some (w, [])
     → walk_fault (line fs).top (names_in fs) start (w ∷ ws) ≡ []
 unfolding walk_fault
-entered_fault_is fs w ws e = ap₂ (λ (k : Kinds) (v : Walk). or_else k (walk_fault (line fs).top (names_in fs) v ws)) (first_fault fs w e) (first_walked fs w e)
+entered_fault_is fs w ws e = ap₂ (λ (k : Kinds) (v : Walk). or_else k (walk_fault (line fs).top (names_in fs) v ws))
+    (first_fault fs w e) (first_walked fs w e)
     ∙ stopped_fault (line fs).top (names_in fs) start (w, []) ws
 
 abbrev line_end : List Form → Walk → Kinds → Kinds
-line_end fs end before = or_else before (or_else (entered_fault (line fs) end.stopped) (or_else (settle_fault [] false end.held)
-    (or_else (defaults_fault (settled [] end.held).rows []) (check_fault (line fs).top (finished [] end.held) (is_some (entered (line fs) end.stopped))))))
+line_end fs end before =
+    or_else before (or_else (entered_fault (line fs) end.stopped) (or_else (settle_fault [] false end.held)
+    (or_else (defaults_fault (settled [] end.held).rows [])
+    (check_fault (line fs).top (finished [] end.held) (is_some (entered (line fs) end.stopped))))))
 
-named_fault : (fs : List Form) (w : Text) (ws : List Text) → find (answers_to w) (names_in fs) ≡ Some (w, []) → level_at fs w ≡ Some (Walking.level w)
+named_fault : (fs : List Form) (w : Text) (ws : List Text) → find (answers_to w) (names_in fs) ≡ Some (w, []) →
+    level_at fs w ≡ Some (Walking.level w)
     → built_fault (line fs) nothing_held (w ∷ ws) ≡ Walking.fault_from (Walking.at false Walking.clear []) ws
 unfolding defaults_fault
 named_fault fs w ws n l =
@@ -140,8 +160,10 @@ named_fault fs w ws n l =
     ∙ rw l (or_else_none (level_fault (Walking.level w) [] nothing_held ws false []))
     ∙ level_fault_is w ws
 
-named_rows : (fs : List Form) (w : Text) (ws : List Text) → find (answers_to w) (names_in fs) ≡ Some (w, []) → level_at fs w ≡ Some (Walking.level w)
-    → entered (line fs) (stop_after [] (names_in fs) (w ∷ ws)) ≡ Some (w, Walking.rows_from (Walking.at false Walking.clear []) ws)
+named_rows : (fs : List Form) (w : Text) (ws : List Text) → find (answers_to w) (names_in fs) ≡ Some (w, []) →
+    level_at fs w ≡ Some (Walking.level w)
+    → entered (line fs) (stop_after [] (names_in fs) (w ∷ ws))
+    ≡ Some (w, Walking.rows_from (Walking.at false Walking.clear []) ws)
 named_rows fs w ws n l =
     ap (λ (v : Walk). entered (line fs) v.stopped) (entered_walk fs w ws n)
     ∙ rw l (ap (λ (rows : List Row). Some (w, rows)) (finished_is ws))
@@ -158,7 +180,8 @@ unnamed_turn fs w n (strange name v o d t l e) = inl (rw (n, d, l) tt)
 unnamed_turn fs w n (short [] c o d t l s f) = cc
 unnamed_turn fs w n (short (y ∷ ys) c o d t l s f) = inl (rw (n, d, l, s, f) tt)
 
-unnamed_dashes : (fs : List Form) (w : Text) (ws : List Text) → find (answers_to w) (names_in fs) ≡ None → bytes_eq w (codes "--") ≡ true
+unnamed_dashes : (fs : List Form) (w : Text) (ws : List Text) → find (answers_to w) (names_in fs) ≡ None →
+    bytes_eq w (codes "--") ≡ true
     → Walking.Fails (built_fault (line fs) nothing_held (w ∷ ws))
 unfolding walk_fault walked defaults_fault
 unnamed_dashes fs w [] n d = rw (n, d) tt
@@ -177,22 +200,30 @@ unnamed_fails fs w ws text n = elim (unnamed_turn fs w n (look w text)) [
 -- each form refuses a value of `--turns` that is no number
 abbrev pub EachRefuses : List Form → Type 0
 EachRefuses [] = Unit {0}
-EachRefuses (f ∷ fs) = ((ps ts : List Text) → is_refused (Some (record { positionals = ps; turns = ts })) ≡ true → f.1 ps ts ≡ None) × EachRefuses fs
+EachRefuses (f ∷ fs) =
+    ((ps ts : List Text) → is_refused (Some (record { positionals = ps; turns = ts })) ≡ true → f.1 ps ts ≡ None) ×
+    EachRefuses fs
 
-form_refuses : (f : Form) (fs : List Form) (w : Text) (p : Parts) (b : Bool) → bytes_eq f.0 w ≡ b → (f.1 p.positionals p.turns ≡ None) → command_named fs w p ≡ None
+form_refuses : (f : Form) (fs : List Form) (w : Text) (p : Parts) (b : Bool) → bytes_eq f.0 w ≡ b →
+    (f.1 p.positionals p.turns ≡ None) →
+    command_named fs w p ≡ None
     → command_named (f ∷ fs) w p ≡ None
 form_refuses f fs w p true e h rest = rw e h
 form_refuses f fs w p false e h rest = rw e rest
 
-each_refuses : (fs : List Form) → EachRefuses fs → (w : Text) (p : Parts) → is_refused (Some p) ≡ true → command_named fs w p ≡ None
+each_refuses : (fs : List Form) → EachRefuses fs → (w : Text) (p : Parts) → is_refused (Some p) ≡ true →
+    command_named fs w p ≡ None
 each_refuses [] each w p h = refl
-each_refuses (f ∷ fs) each w p h = form_refuses f fs w p (bytes_eq f.0 w) refl (each.0 p.positionals p.turns h) (each_refuses fs each.1 w p h)
+each_refuses (f ∷ fs) each w p h =
+    form_refuses f fs w p (bytes_eq f.0 w) refl (each.0 p.positionals p.turns h) (each_refuses fs each.1 w p h)
 
-refused_parts : (fs : List Form) → EachRefuses fs → (w : Text) (o : Option Parts) → is_refused o ≡ true → option_and_then (command_named fs w) o ≡ None
+refused_parts : (fs : List Form) → EachRefuses fs → (w : Text) (o : Option Parts) → is_refused o ≡ true →
+    option_and_then (command_named fs w) o ≡ None
 refused_parts fs each w None h = refl
 refused_parts fs each w (Some p) h = each_refuses fs each w p h
 
-no_form : (fs : List Form) (w : Text) (o : Option Parts) → find (λ f. bytes_eq f.0 w) fs ≡ None → option_and_then (command_named fs w) o ≡ None
+no_form : (fs : List Form) (w : Text) (o : Option Parts) → find (λ f. bytes_eq f.0 w) fs ≡ None →
+    option_and_then (command_named fs w) o ≡ None
 no_form fs w None e = refl
 no_form fs w (Some p) e = rw e refl
 
@@ -203,13 +234,15 @@ pub record Accepted (fs : List Form) (words : List Text) : Type 0 where
   pub rows : List Row
   pub no_fault : built_fault (line fs) nothing_held words ≡ []
   pub entered_is : entered (line fs) (stop_after [] (names_in fs) words) ≡ Some (name, rows)
-  pub call : command_in fs words ≡ command_named fs name (record { positionals = values_in (codes "words") rows; turns = values_in (codes "turns") rows })
+  pub call : command_in fs words ≡ command_named fs name
+      (record { positionals = values_in (codes "words") rows; turns = values_in (codes "turns") rows })
 
 pub record Rejected (fs : List Form) (words : List Text) : Type 0 where
   pub fails : Walking.Fails (built_fault (line fs) nothing_held words)
   pub refused : command_in fs words ≡ None
 
-with_name : (fs : List Form) → EachRefuses fs → (w : Text) (ws : List Text) → Named fs w → AllTexts ws → Accepted fs (w ∷ ws) ⊎ Rejected fs (w ∷ ws)
+with_name : (fs : List Form) → EachRefuses fs → (w : Text) (ws : List Text) → Named fs w → AllTexts ws →
+    Accepted fs (w ∷ ws) ⊎ Rejected fs (w ∷ ws)
 with_name fs each w ws n text = elim ((reads ws text).0 Walking.clear []) [
   | inl t ↦ inl (record {
     name = w;
@@ -219,7 +252,8 @@ with_name fs each w ws n text = elim ((reads ws text).0 Walking.clear []) [
     no_fault = named_fault fs w ws n.in_names n.in_line ∙ t.no_fault;
     entered_is = named_rows fs w ws n.in_names n.in_line;
     call = ap (option_and_then (command_named fs w)) t.parts_are
-        ∙ ap₂ (λ (ps ts : List Text). command_named fs w (record { positionals = ps; turns = ts })) (sym t.words) (sym t.turns);
+        ∙ ap₂ (λ (ps ts : List Text). command_named fs w (record { positionals = ps; turns = ts }))
+        (sym t.words) (sym t.turns);
   })
   | inr r ↦ inr (record {
     fails = subst Walking.Fails (sym (named_fault fs w ws n.in_names n.in_line)) r.fails;
@@ -227,7 +261,8 @@ with_name fs each w ws n text = elim ((reads ws text).0 Walking.clear []) [
   })
 ]
 
-pub line_reads : (fs : List Form) → EachRefuses fs → (words : List Text) → AllTexts words → Accepted fs words ⊎ Rejected fs words
+pub line_reads : (fs : List Form) → EachRefuses fs → (words : List Text) → AllTexts words →
+    Accepted fs words ⊎ Rejected fs words
 unfolding walk_fault defaults_fault
 line_reads fs each [] text = inr (record { fails = tt; refused = refl })
 line_reads fs each (w ∷ ws) text = elim (named fs w) [
@@ -241,20 +276,26 @@ not_number : (o : Option ℕ) → (not (is_some o) || false) ≡ true → o ≡ 
 not_number None e = refl
 not_number (Some n) e = cc
 
-one_word_refuses : (f : Text → Command) (ps ts : List Text) → is_refused (Some (record { positionals = ps; turns = ts })) ≡ true → one_word f ps ts ≡ None
+one_word_refuses : (f : Text → Command) (ps ts : List Text) →
+    is_refused (Some (record { positionals = ps; turns = ts })) ≡ true →
+    one_word f ps ts ≡ None
 one_word_refuses f ps [] h = cc
 one_word_refuses f [] (t ∷ ts) h = refl
 one_word_refuses f (a ∷ []) (t ∷ ts) h = refl
 one_word_refuses f (a ∷ b ∷ ps) (t ∷ ts) h = refl
 
-two_words_refuses : (f : Text → Text → Command) (ps ts : List Text) → is_refused (Some (record { positionals = ps; turns = ts })) ≡ true → two_words f ps ts ≡ None
+two_words_refuses : (f : Text → Text → Command) (ps ts : List Text) →
+    is_refused (Some (record { positionals = ps; turns = ts })) ≡ true →
+    two_words f ps ts ≡ None
 two_words_refuses f ps [] h = cc
 two_words_refuses f [] (t ∷ ts) h = refl
 two_words_refuses f (a ∷ []) (t ∷ ts) h = refl
 two_words_refuses f (a ∷ b ∷ []) (t ∷ ts) h = refl
 two_words_refuses f (a ∷ b ∷ c ∷ ps) (t ∷ ts) h = refl
 
-three_words_refuses : (f : Text → Text → Text → Command) (ps ts : List Text) → is_refused (Some (record { positionals = ps; turns = ts })) ≡ true → three_words f ps ts ≡ None
+three_words_refuses : (f : Text → Text → Text → Command) (ps ts : List Text) →
+    is_refused (Some (record { positionals = ps; turns = ts })) ≡ true →
+    three_words f ps ts ≡ None
 three_words_refuses f ps [] h = cc
 three_words_refuses f [] (t ∷ ts) h = refl
 three_words_refuses f (a ∷ []) (t ∷ ts) h = refl
@@ -262,7 +303,8 @@ three_words_refuses f (a ∷ b ∷ []) (t ∷ ts) h = refl
 three_words_refuses f (a ∷ b ∷ c ∷ []) (t ∷ ts) h = refl
 three_words_refuses f (a ∷ b ∷ c ∷ d ∷ ps) (t ∷ ts) h = refl
 
-play_refuses : (ps ts : List Text) → is_refused (Some (record { positionals = ps; turns = ts })) ≡ true → play_of ps ts ≡ None
+play_refuses : (ps ts : List Text) → is_refused (Some (record { positionals = ps; turns = ts })) ≡ true →
+    play_of ps ts ≡ None
 play_refuses [] ts h = refl
 play_refuses (a ∷ []) ts h = refl
 play_refuses (a ∷ b ∷ []) ts h = refl
@@ -271,13 +313,15 @@ play_refuses (a ∷ b ∷ c ∷ []) [] h = refl
 play_refuses (a ∷ b ∷ c ∷ []) (t ∷ u ∷ ts) h = refl
 play_refuses (a ∷ b ∷ c ∷ []) (t ∷ []) h = rw (not_number (number t) h) refl
 
-trial_refuses : (ps ts : List Text) → is_refused (Some (record { positionals = ps; turns = ts })) ≡ true → trial_of ps ts ≡ None
+trial_refuses : (ps ts : List Text) → is_refused (Some (record { positionals = ps; turns = ts })) ≡ true →
+    trial_of ps ts ≡ None
 trial_refuses ps [] h = cc
 trial_refuses [] (t ∷ ts) h = refl
 trial_refuses (a ∷ []) (t ∷ ts) h = refl
 trial_refuses (a ∷ b ∷ ps) (t ∷ ts) h = refl
 
-hyper_refuses : (ps ts : List Text) → is_refused (Some (record { positionals = ps; turns = ts })) ≡ true → hyper_of ps ts ≡ None
+hyper_refuses : (ps ts : List Text) → is_refused (Some (record { positionals = ps; turns = ts })) ≡ true →
+    hyper_of ps ts ≡ None
 hyper_refuses ps [] h = cc
 hyper_refuses ps (t ∷ ts) h = refl
 
@@ -286,7 +330,19 @@ forms_refuse = (
   one_word_refuses Show,
   (
     one_word_refuses Compile,
-    (two_words_refuses Check, (play_refuses, (two_words_refuses Node, (trial_refuses, (three_words_refuses Live, (hyper_refuses, (one_word_refuses Tune, (three_words_refuses Audit, tt)))))))),
+    (
+      two_words_refuses Check,
+      (
+        play_refuses,
+        (
+          two_words_refuses Node,
+          (
+            trial_refuses,
+            (three_words_refuses Live, (hyper_refuses, (one_word_refuses Tune, (three_words_refuses Audit, tt)))),
+          ),
+        ),
+      ),
+    ),
   ),
 )
 
@@ -296,7 +352,9 @@ abbrev pub NotAmong : List Form → Text → Type 0
 NotAmong [] w = Unit {0}
 NotAmong (f ∷ fs) w = (w ≡ f.0 → ⊥) × NotAmong fs w
 
-other_name : (f : Form) (fs : List Form) (w : Text) (p : Parts) (b : Bool) → bytes_eq f.0 w ≡ b → (w ≡ f.0 → ⊥) → command_named fs w p ≡ None → command_named (f ∷ fs) w p ≡ None
+other_name : (f : Form) (fs : List Form) (w : Text) (p : Parts) (b : Bool) → bytes_eq f.0 w ≡ b → (w ≡ f.0 → ⊥) →
+    command_named fs w p ≡ None →
+    command_named (f ∷ fs) w p ≡ None
 other_name f fs w p true e off rest = absurd (off (sym ((bytes_eq-Decides f.0 w).0 e)))
 other_name f fs w p false e off rest = rw e rest
 

@@ -1,9 +1,11 @@
 -- The rule on words: which lists of words form a command, and which one.
-use Rattle.std.specs.Prelude.{ℕ, ◌&&◌, List, [], ◌∷◌, length, codes, Option, Some, None, option_map, option_and_then, if◌then◌else◌, nat_le, nat_lt, find}
+use Rattle.std.specs.Prelude.{ℕ, ◌&&◌, List, [], ◌∷◌, length, codes, Option, Some, None, option_map, option_and_then}
+use Rattle.std.specs.Prelude.{if◌then◌else◌, nat_le, nat_lt, find}
 use Rattle.std.specs.Str.{bytes_eq}
 use Rattle.cpg_words.specs.declared.command.Pair.{Pair}
 use Rattle.cpg_words.specs.declared.command.Command.{Command}
-use Rattle.cpg_words.specs.declared.command.Command.TheVariants.{Show, Compile, Check, Play, Node, Trial, Live, Hyper, Tune, Audit}
+use Rattle.cpg_words.specs.declared.command.Command.TheVariants.{Show, Compile, Check, Play, Node, Trial, Live, Hyper}
+use Rattle.cpg_words.specs.declared.command.Command.TheVariants.{Tune, Audit}
 use Rattle.cpg_words.specs.Number.{number}
 use Rattle.cpg_words.specs.Parts.{Text, Parts, parts_of}
 

@@ -13,14 +13,16 @@ turns_rule = record (new_rule (codes "turns")) { long = Some (codes "turns"); ac
 
 -- A command without help and version.
 abbrev pub plain_app : Text → App
-plain_app name = record (new_app name) { top = record ((new_app name).top) { disable_help_flag = true; disable_version_flag = true } }
+plain_app name = record (new_app name)
+    { top = record ((new_app name).top) { disable_help_flag = true; disable_version_flag = true } }
 
 abbrev pub sub_app : Text → App
 sub_app name = with_rule (with_rule (plain_app name) positionals_rule) turns_rule
 
 abbrev pub top_app : App
 top_app = record (plain_app (codes "cpgc")) {
-  top = record ((plain_app (codes "cpgc")).top) { no_binary_name = true; disable_help_subcommand = true; subcommand_required = true };
+  top = record ((plain_app (codes "cpgc")).top)
+      { no_binary_name = true; disable_help_subcommand = true; subcommand_required = true };
 }
 
 abbrev pub with_command : App → Text → App

@@ -13,4 +13,5 @@ values_in id rows = unwrap_or (all_of id rows) []
 abbrev pub command_at : Option (Text × List Row) → Option Command
 command_at None = None
 command_at (Some p) =
-    command_named forms p.0 (record { positionals = values_in (codes "words") p.1; turns = values_in (codes "turns") p.1 })
+    command_named forms p.0
+    (record { positionals = values_in (codes "words") p.1; turns = values_in (codes "turns") p.1 })

@@ -1,5 +1,6 @@
 -- The words after a command's name, split into positionals and values of `--turns`.
-use Rattle.std.specs.Prelude.{ℕ, ◌==◌, Bool, true, false, List, [], ◌∷◌, codes, map, Option, Some, None, option_map, if◌then◌else◌}
+use Rattle.std.specs.Prelude.{ℕ, ◌==◌, Bool, true, false, List, [], ◌∷◌, codes, map, Option, Some, None, option_map}
+use Rattle.std.specs.Prelude.{if◌then◌else◌}
 use Rattle.std.specs.List.{list_any, before_first, after_first}
 use Rattle.std.specs.Borrow.{Bor}
 use Rattle.std.specs.Str.{bytes_eq}
@@ -48,8 +49,8 @@ with_option w others value_first =
     if is_turns w then (elim (value_in w) [ Some v ↦ with_turns v others | None ↦ value_first ]) else None
 
 -- The parts of a list of words, or None if an option isn't `--turns`, or `--turns` lacks its value. The flag is true if
--- `--turns` comes right before the list: then the first word is its value, whatever it is. The first `--` that isn't a value
--- ends the options; each word after it is a positional.
+-- `--turns` comes right before the list: then the first word is its value, whatever it is. The first `--` that isn't a
+-- value ends the options; each word after it is a positional.
 abbrev pub parts_from : Bool → List Text → Option Parts
 parts_from true [] = None
 parts_from false [] = Some (record { positionals = []; turns = [] })

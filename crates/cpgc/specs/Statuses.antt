@@ -6,9 +6,10 @@ use Rattle.cpg_refusal.specs.Halts.{halt_of_words}
 use Rattle.cpg_refusal.specs.Lines.{line_of, status_of}
 use Rattle.cpg_outputs.specs.Told.{Sent, sent}
 
--- a run without words, since the runtime gave none: nothing was fetched, nothing was written to the first sink, and the line of the
--- fault was sent to the second
-pub record EndsWithout (fault : WordsFault) (old new : ShelfState) (out out' err err' : SinkState) (status : ℕ) : Type 0 where
+-- a run without words, since the runtime gave none: nothing was fetched, nothing was written to the first sink, and the
+-- line of the fault was sent to the second
+pub record EndsWithout (fault : WordsFault) (old new : ShelfState) (out out' err err' : SinkState)
+    (status : ℕ) : Type 0 where
   pub files : new ≡ old
   pub silent : out' ≡ out
   pub said : Sent (sent err err') status (status_of (halt_of_words fault)) (line_of (halt_of_words fault))

@@ -3,4 +3,5 @@ use Rattle.cpg_latest.proofs.latest_are_greatest.Goals as goal
 use Rattle.cpg_latest.proofs.OverTracks.{greatest_are}
 
 pub returns : goal.returns
-returns c = λ g urgency order frozen tracks lates urgent lawful topological are. greatest_are g urgency order frozen tracks lates urgent lawful topological are
+returns c = λ g urgency order frozen tracks lates urgent lawful topological are.
+    greatest_are g urgency order frozen tracks lates urgent lawful topological are

@@ -3,4 +3,5 @@ use Rattle.cpg_latest.proofs.runs_are_no_later.Goals as goal
 use Rattle.cpg_latest.proofs.Above.{no_later}
 
 pub returns : goal.returns
-returns c = λ g order frozen s t late n topological lawful run are h few. no_later g order frozen s t late topological run are n h few
+returns c = λ g order frozen s t late n topological lawful run are h few.
+    no_later g order frozen s t late topological run are n h few

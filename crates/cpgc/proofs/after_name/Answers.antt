@@ -7,5 +7,7 @@ use Rattle.cpgc.proofs.after_name.Goals as goal
 pub returns : goal.returns
 returns c =
     let whole = YieldsList-from_vec {s = c.args.args} (into_iter_items c.args.args) refl c.args.args.rest.ok.0 in
-    let skipped = YieldsList-from_skip 1 (subst (λ s. YieldsList into_iter_steps (λ x. x) s (into_iter_items c.args.args)) (sym c.skip.ensures.source) whole) c.skip.ensures.count in
+    let skipped =
+    YieldsList-from_skip 1 (subst (λ s. YieldsList into_iter_steps (λ x. x) s (into_iter_items c.args.args))
+    (sym c.skip.ensures.source) whole) c.skip.ensures.count in
     items_from_collect c.collect.result c.collect.ensures.ran skipped

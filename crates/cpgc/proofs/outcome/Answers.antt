@@ -4,4 +4,9 @@ use Rattle.cpgc.proofs.outcome.Goals as goal
 
 pub returns-in-Err-clause-keeps : goal.returns-in-Err-clause-keeps
 returns-in-Err-clause-keeps g c =
-    record { names = λ name. refl; fetched = fetched_same (g.S.Shelf.state c.args.shelf.now); later = omega arith; rose = λ fetch past is failed. inl refl }
+    record {
+      names = λ name. refl;
+      fetched = fetched_same (g.S.Shelf.state c.args.shelf.now);
+      later = omega arith;
+      rose = λ fetch past is failed. inl refl;
+    }

@@ -8,5 +8,7 @@ use Rattle.cpg_all_runs.proofs.active.active_numbers.Goals as goal
 pub loop-condition-preserved : goal.loop-condition-preserved
 loop-condition-preserved c =
     let g = c.args.problem.now in
-    map_below_after (active_value g c.args.scenario.now) (map (active_fault g c.args.scenario.now) (numbers_below (process_count g)))
-    c.loop-condition.numbers.items c.push.new.self.items c.active_value.result c.loop-condition.condition c.loop-condition.invariant c.active_value.ensures c.in_ok-push.ensures.items
+    map_below_after (active_value g c.args.scenario.now)
+    (map (active_fault g c.args.scenario.now) (numbers_below (process_count g)))
+    c.loop-condition.numbers.items c.push.new.self.items c.active_value.result c.loop-condition.condition
+    c.loop-condition.invariant c.active_value.ensures c.in_ok-push.ensures.items

@@ -5,4 +5,6 @@ use Rattle.cpg_all_runs.specs.Active.{active_fault, active_value}
 use Rattle.cpg_all_runs.proofs.active.active_numbers.Given as goal
 
 abbrev pub invariant-loop-condition : goal.invariant-loop-condition
-invariant-loop-condition l = l.numbers.items ≡ map (active_fault l.problem l.scenario) (numbers_below (process_count l.problem)) ++ map (active_value l.problem l.scenario) (numbers_below l.condition)
+invariant-loop-condition l =
+    l.numbers.items ≡ map (active_fault l.problem l.scenario) (numbers_below (process_count l.problem))
+    ++ map (active_value l.problem l.scenario) (numbers_below l.condition)

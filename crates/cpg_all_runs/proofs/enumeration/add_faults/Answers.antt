@@ -5,5 +5,7 @@ use Rattle.cpg_all_runs.proofs.enumeration.add_faults.Goals as goal
 
 pub loop-faults-preserved : goal.loop-faults-preserved
 loop-faults-preserved c =
-    appended_push (with_fault c.args.process c.args.scenario.now) c.args.scenarios.now.items c.loop-faults.scenarios.items c.push.new.self.items _ c.loop-faults.faults
-    c.loop-faults.invariant (c.set_fault.ensures ∙ ap (λ s. with_fault c.args.process s c.loop-faults.faults) c.in_ok-other.ensures) c.in_ok-push.ensures.items
+    appended_push (with_fault c.args.process c.args.scenario.now) c.args.scenarios.now.items
+    c.loop-faults.scenarios.items c.push.new.self.items _ c.loop-faults.faults
+    c.loop-faults.invariant (c.set_fault.ensures
+    ∙ ap (λ s. with_fault c.args.process s c.loop-faults.faults) c.in_ok-other.ensures) c.in_ok-push.ensures.items

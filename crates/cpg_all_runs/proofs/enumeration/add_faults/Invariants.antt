@@ -4,4 +4,5 @@ use Rattle.cpg_all_runs.specs.Listing.{with_fault}
 use Rattle.cpg_all_runs.proofs.enumeration.add_faults.Given as goal
 
 abbrev pub invariant-loop-faults : goal.invariant-loop-faults
-invariant-loop-faults l = l.scenarios.items ≡ l.fn.scenarios.items ++ map (with_fault l.process l.scenario) (numbers_below l.faults)
+invariant-loop-faults l =
+    l.scenarios.items ≡ l.fn.scenarios.items ++ map (with_fault l.process l.scenario) (numbers_below l.faults)

@@ -8,17 +8,21 @@ loop-condition-init c = c.in_ok-list.ensures ∙ values_first c.args.problem.now
 
 pub spread_values-requires : goal.spread_values-requires
 spread_values-requires c = record {
-  scenarios = subst (All (HasValue c.loop-condition.condition)) (sym (c.as_slice.ensures.value ∙ c.loop-condition.invariant))
-      (all_within c.args.problem.now c.loop-condition.condition (omega (arith, c.loop-condition-test.true, c.conditions-condition-end.ensures.count)));
+  scenarios =
+      subst (All (HasValue c.loop-condition.condition)) (sym (c.as_slice.ensures.value ∙ c.loop-condition.invariant))
+      (all_within c.args.problem.now c.loop-condition.condition
+      (omega (arith, c.loop-condition-test.true, c.conditions-condition-end.ensures.count)));
 }
 
 pub loop-condition-preserved : goal.loop-condition-preserved
-loop-condition-preserved c = values_more c.args.problem.now c.loop-condition.condition c.as_slice.result.now c.in_ok-list-2.list.items
+loop-condition-preserved c =
+    values_more c.args.problem.now c.loop-condition.condition c.as_slice.result.now c.in_ok-list-2.list.items
     (c.as_slice.ensures.value ∙ c.loop-condition.invariant) c.in_ok-list-2.ensures
 
 pub returns : goal.returns
 returns c =
     let e = c.loop-condition.auto.condition-end in
     subst (AreScenarios c.args.problem.now) (sym
-    (c.loop-condition.invariant ∙ ap (with_values_below c.args.problem.now) (omega (arith, c.loop-condition-test.false, c.conditions-condition-end.ensures.count, e))))
+    (c.loop-condition.invariant ∙ ap (with_values_below c.args.problem.now)
+    (omega (arith, c.loop-condition-test.false, c.conditions-condition-end.ensures.count, e))))
     (are_scenarios c.args.problem.now)

@@ -4,4 +4,5 @@ use Rattle.cpg_all_runs.specs.Listing.{with_each_fault}
 use Rattle.cpg_all_runs.proofs.enumeration.spread_faults.Given as goal
 
 abbrev pub invariant-loop-scenario : goal.invariant-loop-scenario
-invariant-loop-scenario l = l.more.items ≡ flat_map (with_each_fault l.problem l.process) (take l.scenario-index l.scenarios)
+invariant-loop-scenario l =
+    l.more.items ≡ flat_map (with_each_fault l.problem l.process) (take l.scenario-index l.scenarios)

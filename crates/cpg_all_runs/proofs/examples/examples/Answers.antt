@@ -15,10 +15,14 @@ loop-at-preserved c g all alike =
       | then-firsts-at+in_ok-copy+in_ok-push w ↦
           let s = w.index-scenarios-at.result in
           rw w.list-is
-          (examples_more g at list c.loop-at.list.items shown within w.push.new.self.items s (w.index-scenarios-at.is ∙ get_or_default list at s (zero_scenario g) within)
-          (all.lawful s (at, within, sym w.index-scenarios-at.is)) (◌∙◌ {A = List Scenario} w.in_ok-push.ensures.items (ap (λ (r : Scenario). c.loop-at.list.items ++ r ∷ []) w.in_ok-copy.ensures)))
-      | else-firsts-at w ↦ rw w.list-is (examples_kept g at list c.loop-at.list.items shown within c.args.firsts.now alike w.if-firsts-at.false)
+          (examples_more g at list c.loop-at.list.items shown within w.push.new.self.items s
+          (w.index-scenarios-at.is ∙ get_or_default list at s (zero_scenario g) within)
+          (all.lawful s (at, within, sym w.index-scenarios-at.is)) (◌∙◌ {A = List Scenario} w.in_ok-push.ensures.items
+          (ap (λ (r : Scenario). c.loop-at.list.items ++ r ∷ []) w.in_ok-copy.ensures)))
+      | else-firsts-at w ↦ rw w.list-is
+          (examples_kept g at list c.loop-at.list.items shown within c.args.firsts.now alike w.if-firsts-at.false)
     ]
 
 pub returns : goal.returns
-returns c g all alike = examples_all g c.loop-at.at c.args.scenarios.now c.loop-at.list.items all (omega (arith, c.loop-at-test.false, c.loop-at.auto.at-end)) (c.loop-at.invariant g all alike)
+returns c g all alike = examples_all g c.loop-at.at c.args.scenarios.now c.loop-at.list.items all
+    (omega (arith, c.loop-at-test.false, c.loop-at.auto.at-end)) (c.loop-at.invariant g all alike)

@@ -5,4 +5,5 @@ use Rattle.cpg_all_runs.proofs.Showing.{AreFirstExamples}
 use Rattle.cpg_all_runs.proofs.examples.examples.Given as goal
 
 abbrev pub invariant-loop-at : goal.invariant-loop-at
-invariant-loop-at l = (g : Graph) → AreScenarios g l.scenarios → AreFirstAlike g l.scenarios l.firsts → AreFirstExamples g l.at l.scenarios l.list.items
+invariant-loop-at l = (g : Graph) → AreScenarios g l.scenarios → AreFirstAlike g l.scenarios l.firsts →
+    AreFirstExamples g l.at l.scenarios l.list.items

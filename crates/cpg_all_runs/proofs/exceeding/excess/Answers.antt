@@ -11,10 +11,13 @@ use Rattle.cpg_all_runs.proofs.exceeding.excess.Goals as goal
 pub first_greatest-at-requires-clause-urgency : goal.first_greatest-at-requires-clause-urgency
 first_greatest-at-requires-clause-urgency c =
     let g = c.args.admitted.now.graph in
-    ap length c.order.ensures.order ∙ length_order (process_count g) c.args.admitted.now.order c.problem-2.ensures.admitted.urgency.all ∙ sym (ap process_count c.problem-2.ensures.problem)
+    ap length c.order.ensures.order
+    ∙ length_order (process_count g) c.args.admitted.now.order c.problem-2.ensures.admitted.urgency.all
+    ∙ sym (ap process_count c.problem-2.ensures.problem)
 
 pub first_greatest-at-requires-clause-some : goal.first_greatest-at-requires-clause-some
-first_greatest-at-requires-clause-some c = some_listed c.args.admitted.now.graph c.args.scenarios.now c.requires.scenarios
+first_greatest-at-requires-clause-some c =
+    some_listed c.args.admitted.now.graph c.args.scenarios.now c.requires.scenarios
 
 pub returns : goal.returns
 returns c = λ order frozen topological are.
@@ -27,14 +30,19 @@ returns c = λ order frozen topological are.
     let first : IsFirstGreatest g urgency (length list) list numbers at =
     subst (λ ns. IsFirstGreatest g urgency (length list) list ns at) c.as_slice.ensures.value
     (subst (λ u. IsFirstGreatest g u (length list) list c.as_slice.result.now at) c.order.ensures.order
-    (subst (λ h. IsFirstGreatest h c.order.result.now (length list) list c.as_slice.result.now at) c.problem-2.ensures.problem c.first_greatest-at.ensures)) in
+    (subst (λ h. IsFirstGreatest h c.order.result.now (length list) list c.as_slice.result.now at)
+    c.problem-2.ensures.problem c.first_greatest-at.ensures)) in
     let t = c.index-runs-at.result in
     let by = c.most_exceeding-process.result in
     let read = c.in_ok-numbers.ensures ∙ ap (λ h. map (excess_in_run h) runs) c.problem.ensures.problem in
     subst (λ n. IsExcess g urgency order frozen n c.in_ok-scenario.scenario by)
-    (sym (c.index.ensures ∙ get_or_default numbers at c.index.result.now 0 (omega (arith, first.there, ap length read, length-map runs (excess_in_run g), c.requires.count))))
-    (is_excess g order topological urgency frozen list c.requires.scenarios runs are numbers at first c.in_ok-scenario.scenario t
-    (λ d. c.in_ok-scenario.ensures ∙ c.index-scenarios-at.is ∙ get_or_default list at c.index-scenarios-at.result d first.there)
+    (sym (c.index.ensures ∙ get_or_default numbers at c.index.result.now 0
+    (omega (arith, first.there, ap length read, length-map runs (excess_in_run g), c.requires.count))))
+    (is_excess g order topological urgency frozen list c.requires.scenarios runs are numbers at first
+    c.in_ok-scenario.scenario t
+    (λ d. c.in_ok-scenario.ensures ∙ c.index-scenarios-at.is
+    ∙ get_or_default list at c.index-scenarios-at.result d first.there)
     (λ d. c.index-runs-at.is ∙ get_or_default runs at t d (omega (arith, first.there, c.requires.count)))
     by read
-    (subst (λ h. IsLeastExceeding h t (excess_in_run h t) by) c.problem-3.ensures.problem c.most_exceeding-process.ensures))
+    (subst (λ h. IsLeastExceeding h t (excess_in_run h t) by) c.problem-3.ensures.problem
+    c.most_exceeding-process.ensures))

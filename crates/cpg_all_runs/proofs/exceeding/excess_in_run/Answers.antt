@@ -5,5 +5,6 @@ use Rattle.cpg_all_runs.proofs.exceeding.excess_in_run.Goals as goal
 
 pub loop-process-preserved : goal.loop-process-preserved
 loop-process-preserved c =
-    c.max-most.ensures ∙ the_max c.loop-process.most c.excess_of.result ∙ ap₂ max c.loop-process.invariant c.excess_of.ensures
+    c.max-most.ensures ∙ the_max c.loop-process.most c.excess_of.result
+    ∙ ap₂ max c.loop-process.invariant c.excess_of.ensures
     ∙ sym (greatest_more (excess_of c.args.problem.now c.args.times.now) c.loop-process.process)

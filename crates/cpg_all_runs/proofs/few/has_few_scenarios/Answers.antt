@@ -10,20 +10,24 @@ use Rattle.cpg_all_runs.proofs.few.has_few_scenarios.Goals as goal
 pub returns-then-conditions-gt-MOST_DOUBLINGS : goal.returns-then-conditions-gt-MOST_DOUBLINGS
 returns-then-conditions-gt-MOST_DOUBLINGS c = (
   λ n. absurd (false≢true n),
-  λ few. absurd (too_many c.args.problem.now (omega (arith, c.if-conditions-gt-MOST_DOUBLINGS.true, c.conditions-conditions.ensures.count)) few),
+  λ few. absurd (too_many c.args.problem.now
+      (omega (arith, c.if-conditions-gt-MOST_DOUBLINGS.true, c.conditions-conditions.ensures.count)) few),
 )
 
 pub overflow_mul-result : goal.overflow_mul-result
 overflow_mul-result c =
-    let a = all_fit c.conditions-conditions.result (length c.processes.result.now) c.faults.result (omega (arith, c.if-conditions-gt-MOST_DOUBLINGS.false))
-    (omega (arith, ap length c.processes.ensures.processes, c.processes.ensures.within.processes)) (omega (arith, c.faults.ensures.faults, c.faults.ensures.within.faults)) in
+    let a = all_fit c.conditions-conditions.result (length c.processes.result.now) c.faults.result
+    (omega (arith, c.if-conditions-gt-MOST_DOUBLINGS.false))
+    (omega (arith, ap length c.processes.ensures.processes, c.processes.ensures.within.processes))
+    (omega (arith, c.faults.ensures.faults, c.faults.ensures.within.faults)) in
     omega (arith, a, ap₂ ◌*◌ c.pow.ensures c.ways-ways.ensures)
 
 pub returns : goal.returns
 returns c =
     let g = c.args.problem.now in
     let same : c.pow.result * c.ways-ways.result ≡ length (scenarios g) =
-    ap₂ ◌*◌ (c.pow.ensures ∙ ap (λ n. 2 ^ n) c.conditions-conditions.ensures.count) (c.ways-ways.ensures ∙ ap₂ ways (ap length c.processes.ensures.processes) c.faults.ensures.faults) ∙
+    ap₂ ◌*◌ (c.pow.ensures ∙ ap (λ n. 2 ^ n) c.conditions-conditions.ensures.count)
+    (c.ways-ways.ensures ∙ ap₂ ways (ap length c.processes.ensures.processes) c.faults.ensures.faults) ∙
     sym (length-scenarios g) in (
       λ few. omega (arith, same, leb-true (c.pow.result * c.ways-ways.result) MOST_SCENARIOS few),
       λ few. le-leb (c.pow.result * c.ways-ways.result) MOST_SCENARIOS (omega (arith, same, few)),

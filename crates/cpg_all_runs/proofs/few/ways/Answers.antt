@@ -4,9 +4,11 @@ use Rattle.cpg_all_runs.proofs.few.ways.Goals as goal
 
 pub overflow_mul-ways : goal.overflow_mul-ways
 overflow_mul-ways c =
-    let fits = product_fits c.args.counts c.loop-placed.placed c.requires.counts (omega (arith, c.loop-placed-test.true, c.from-placed-end.ensures, c.requires.faults)) in
+    let fits = product_fits c.args.counts c.loop-placed.placed c.requires.counts
+    (omega (arith, c.loop-placed-test.true, c.from-placed-end.ensures, c.requires.faults)) in
     omega (arith, fits, ap (λ w. w * (c.args.counts + c.loop-placed.placed + 1)) c.loop-placed.invariant)
 
 pub loop-placed-preserved : goal.loop-placed-preserved
 loop-placed-preserved c =
-    ap (λ w. w * (c.args.counts + c.loop-placed.placed + 1) / (c.loop-placed.placed + 1)) c.loop-placed.invariant ∙ next_ways c.args.counts c.loop-placed.placed
+    ap (λ w. w * (c.args.counts + c.loop-placed.placed + 1) / (c.loop-placed.placed + 1)) c.loop-placed.invariant
+    ∙ next_ways c.args.counts c.loop-placed.placed

@@ -1,4 +1,5 @@
-use Rattle.std.proofs.Common.{◌≡◌, ◌∙◌, ℕ, ◌+◌, ◌<◌, Bool, List, ◌∷◌, [], ◌++◌, filter, take, length, get_or, Contains, append_assoc, arith, subst, sym, ap}
+use Rattle.std.proofs.Common.{◌≡◌, ◌∙◌, ℕ, ◌+◌, ◌<◌, Bool, List, ◌∷◌, [], ◌++◌, filter, take, length, get_or, Contains}
+use Rattle.std.proofs.Common.{append_assoc, arith, subst, sym, ap}
 use Rattle.std.proofs.lemmas.List.{take_more}
 use Rattle.std.proofs.lemmas.List.Elements.{Contains-get_or, filter-append}
 use Rattle.cpg_base.specs.Graph.{is_frozen}
@@ -11,20 +12,24 @@ one_more : (f : ℕ → Bool) (before items : List ℕ) (first i x : ℕ) → i 
     (before ++ filter f (first ∷ take i items)) ++ filter f (x ∷ []) ≡ before ++ filter f (first ∷ take (i + 1) items)
 one_more f before items first i x l is =
     append_assoc before (filter f (first ∷ take i items)) (filter f (x ∷ []))
-    ∙ ap (λ ys. before ++ ys) (sym (filter-append f (first ∷ take i items) (x ∷ [])) ∙ ap (λ y. filter f (first ∷ (take i items ++ y ∷ []))) is ∙
+    ∙ ap (λ ys. before ++ ys) (sym (filter-append f (first ∷ take i items) (x ∷ []))
+    ∙ ap (λ y. filter f (first ∷ (take i items ++ y ∷ []))) is ∙
     ap (λ ys. filter f (first ∷ ys)) (sym (take_more items i 0 l)))
 
 pub add_if_frozen-requires-in-loop-item : goal.add_if_frozen-requires-in-loop-item
 add_if_frozen-requires-in-loop-item c =
     let x = get_or c.queue-item-items.result.now c.loop-item.item-index 0 in
     (in_queue c.args.problem.now c.args.process x
-    (subst (λ xs. Contains xs x) c.queue-item-items.ensures (Contains-get_or c.queue-item-items.result.now c.loop-item.item-index 0 c.loop-item-test.true))).within
+    (subst (λ xs. Contains xs x) c.queue-item-items.ensures
+    (Contains-get_or c.queue-item-items.result.now c.loop-item.item-index 0 c.loop-item-test.true))).within
 
 pub loop-item-preserved : goal.loop-item-preserved
 loop-item-preserved c =
     let g = c.args.problem.now in
     let i = c.loop-item.item-index in
     let x = get_or c.queue-item-items.result.now i 0 in
-    let l : i < length (queue_of g c.args.process) = omega (arith, ap length c.queue-item-items.ensures, c.loop-item-test.true) in
+    let l : i < length (queue_of g c.args.process) =
+    omega (arith, ap length c.queue-item-items.ensures, c.loop-item-test.true) in
     c.in_ok-add_if_frozen-2.ensures ∙ ap (λ xs. xs ++ filter (is_frozen g) (x ∷ [])) c.loop-item.invariant
-    ∙ one_more (is_frozen g) c.args.items.now.items (queue_of g c.args.process) c.args.process i x l (ap (λ xs. get_or xs i 0) c.queue-item-items.ensures)
+    ∙ one_more (is_frozen g) c.args.items.now.items (queue_of g c.args.process) c.args.process i x l
+    (ap (λ xs. get_or xs i 0) c.queue-item-items.ensures)

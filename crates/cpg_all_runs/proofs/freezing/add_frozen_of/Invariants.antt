@@ -4,4 +4,5 @@ use Rattle.cpg_bus.specs.Plan.{queue_of}
 use Rattle.cpg_all_runs.proofs.freezing.add_frozen_of.Given as goal
 
 abbrev pub invariant-loop-item : goal.invariant-loop-item
-invariant-loop-item l = l.items.items ≡ l.fn.items.items ++ filter (is_frozen l.problem) (l.process ∷ take l.item-index (queue_of l.problem l.process))
+invariant-loop-item l = l.items.items ≡ l.fn.items.items
+    ++ filter (is_frozen l.problem) (l.process ∷ take l.item-index (queue_of l.problem l.process))

@@ -2,5 +2,7 @@ use Rattle.cpg_run.proofs.FrozenOrder.{within_order}
 use Rattle.cpg_all_runs.proofs.freezing.frozen_items.Goals as goal
 
 pub add_frozen_of-requires-clause-process : goal.add_frozen_of-requires-clause-process
-add_frozen_of-requires-clause-process c = within_order c.args.problem.now c.args.order.now c.processes-process-items.result.now c.loop-process.process-index
-    c.processes-process-items.ensures.processes c.processes-process-items.ensures.order c.requires.order c.loop-process-test.true
+add_frozen_of-requires-clause-process c =
+    within_order c.args.problem.now c.args.order.now c.processes-process-items.result.now c.loop-process.process-index
+    c.processes-process-items.ensures.processes c.processes-process-items.ensures.order c.requires.order
+    c.loop-process-test.true

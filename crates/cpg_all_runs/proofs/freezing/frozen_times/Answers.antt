@@ -6,7 +6,9 @@ use Rattle.cpg_run.proofs.Settled.{settled_first, settled_all}
 use Rattle.cpg_all_runs.proofs.freezing.frozen_times.Goals as goal
 
 pub frozen_items-requires-clause-order : goal.frozen_items-requires-clause-order
-frozen_items-requires-clause-order c = length_order (process_count c.args.admitted.now.graph) c.args.order.now c.requires.topological.all ∙ sym (ap process_count c.problem-problem.ensures.problem)
+frozen_items-requires-clause-order c =
+    length_order (process_count c.args.admitted.now.graph) c.args.order.now c.requires.topological.all
+    ∙ sym (ap process_count c.problem-problem.ensures.problem)
 
 pub returns-then-is_empty-clause-frozen : goal.returns-then-is_empty-clause-frozen
 returns-then-is_empty-clause-frozen c =
@@ -17,5 +19,6 @@ returns-then-is_empty-clause-frozen c =
     let none : 0 ≡ length items = search rules in
     settled_all g order c.requires.topological items 0 frozen
     (settled_first g order c.requires.topological items frozen c.problem-problem.result.now
-    (c.in_ok-items.ensures ∙ ap (λ (h : Graph). frozen_along h order) c.problem-problem.ensures.problem) c.in_ok-frozen.ensures c.problem-problem.ensures.problem)
+    (c.in_ok-items.ensures ∙ ap (λ (h : Graph). frozen_along h order) c.problem-problem.ensures.problem)
+    c.in_ok-frozen.ensures c.problem-problem.ensures.problem)
     none

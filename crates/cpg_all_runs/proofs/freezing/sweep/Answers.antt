@@ -6,13 +6,15 @@ use Rattle.cpg_base.specs.Order.{place}
 use Rattle.cpg_base.proofs.Places.{length_order}
 use Rattle.cpg_all_runs.specs.Sweep.{place_of_item}
 use Rattle.cpg_run.proofs.FrozenOrder.{later_moment}
-use Rattle.cpg_run.proofs.Settled.{item_frozen, next_within, next_unset, settled_early, settled_first, settled_more, settled_all}
+use Rattle.cpg_run.proofs.Settled.{item_frozen, next_within, next_unset, settled_early, settled_first, settled_more}
+use Rattle.cpg_run.proofs.Settled.{settled_all}
 use Rattle.cpg_all_runs.proofs.Swept.{along_kept, later_place}
 use Rattle.cpg_all_runs.proofs.freezing.sweep.Goals as goal
 
 pub loop-item-init : goal.loop-item-init
 loop-item-init c = record {
-  settled = settled_first c.args.setting.now.problem.now c.args.setting.now.order.now c.requires.setting.topological c.args.items.now c.in_ok-frozen.frozen c.args.setting.now.problem.now
+  settled = settled_first c.args.setting.now.problem.now c.args.setting.now.order.now c.requires.setting.topological
+      c.args.items.now c.in_ok-frozen.frozen c.args.setting.now.problem.now
       c.requires.items c.in_ok-frozen.ensures refl;
   along = c.in_ok-found.ensures c.args.setting.now.order.now c.in_ok-frozen.frozen;
   ahead = λ j l k. omega arith;
@@ -20,15 +22,22 @@ loop-item-init c = record {
 
 pub producer-requires : goal.producer-requires
 producer-requires c =
-    next_within c.args.setting.now.problem.now c.args.setting.now.order.now c.requires.setting.topological c.args.items.now c.loop-item.item-index c.loop-item.frozen c.loop-item.invariant.settled
+    next_within c.args.setting.now.problem.now c.args.setting.now.order.now c.requires.setting.topological
+    c.args.items.now c.loop-item.item-index c.loop-item.frozen c.loop-item.invariant.settled
     c.loop-item-test.true
 
 pub place-next-requires : goal.place-next-requires
-place-next-requires c = omega (arith, c.producer.ensures.within, length_order (process_count c.args.setting.now.problem.now) c.args.setting.now.order.now c.requires.setting.topological.all)
+place-next-requires c = omega (
+  arith,
+  c.producer.ensures.within,
+  length_order (process_count c.args.setting.now.problem.now) c.args.setting.now.order.now
+      c.requires.setting.topological.all,
+)
 
 pub advance-requires-clause-early : goal.advance-requires-clause-early
 advance-requires-clause-early c =
-    settled_early c.args.setting.now.problem.now c.args.setting.now.order.now c.requires.setting.topological c.args.items.now c.loop-item.item-index c.loop-item.frozen c.loop-item.invariant.settled
+    settled_early c.args.setting.now.problem.now c.args.setting.now.order.now c.requires.setting.topological
+    c.args.items.now c.loop-item.item-index c.loop-item.frozen c.loop-item.invariant.settled
     c.requires.setting.admitted.1.limits
 
 pub advance-requires-clause-ahead : goal.advance-requires-clause-ahead
@@ -36,7 +45,8 @@ advance-requires-clause-ahead c =
     let g = c.args.setting.now.problem.now in
     let order = c.args.setting.now.order.now in
     let x = get_or c.args.items.now c.loop-item.item-index 0 in
-    let there : c.place-next.result ≡ place_of_item g order x = c.place-next.ensures.place ∙ ap (place order) (c.producer.ensures.producer) in
+    let there : c.place-next.result ≡ place_of_item g order x =
+    c.place-next.ensures.place ∙ ap (place order) (c.producer.ensures.producer) in
     omega (arith, there, c.loop-item.invariant.ahead c.loop-item.item-index (omega arith) c.loop-item-test.true)
 
 pub advance-requires-clause-place : goal.advance-requires-clause-place
@@ -49,15 +59,22 @@ advance-requires-clause-place c = omega (
 
 pub settle-requires-clause-early : goal.settle-requires-clause-early
 settle-requires-clause-early c =
-    settled_early c.args.setting.now.problem.now c.args.setting.now.order.now c.requires.setting.topological c.args.items.now c.loop-item.item-index c.loop-item.frozen c.loop-item.invariant.settled
+    settled_early c.args.setting.now.problem.now c.args.setting.now.order.now c.requires.setting.topological
+    c.args.items.now c.loop-item.item-index c.loop-item.frozen c.loop-item.invariant.settled
     c.requires.setting.admitted.1.limits
 
 pub settle-requires-clause-place : goal.settle-requires-clause-place
-settle-requires-clause-place c = omega (arith, c.place-next.ensures.within, length_order (process_count c.args.setting.now.problem.now) c.args.setting.now.order.now c.requires.setting.topological.all)
+settle-requires-clause-place c = omega (
+  arith,
+  c.place-next.ensures.within,
+  length_order (process_count c.args.setting.now.problem.now) c.args.setting.now.order.now
+      c.requires.setting.topological.all,
+)
 
 pub settle-requires-clause-item : goal.settle-requires-clause-item
 settle-requires-clause-item c =
-    next_within c.args.setting.now.problem.now c.args.setting.now.order.now c.requires.setting.topological c.args.items.now c.loop-item.item-index c.loop-item.frozen c.loop-item.invariant.settled
+    next_within c.args.setting.now.problem.now c.args.setting.now.order.now c.requires.setting.topological
+    c.args.items.now c.loop-item.item-index c.loop-item.frozen c.loop-item.invariant.settled
     c.loop-item-test.true
 
 pub settle-requires-clause-there : goal.settle-requires-clause-there
@@ -67,7 +84,8 @@ settle-requires-clause-there c =
 
 pub settle-requires-clause-unset : goal.settle-requires-clause-unset
 settle-requires-clause-unset c =
-    next_unset c.args.setting.now.problem.now c.args.setting.now.order.now c.requires.setting.topological c.args.items.now c.loop-item.item-index c.loop-item.frozen c.loop-item.invariant.settled
+    next_unset c.args.setting.now.problem.now c.args.setting.now.order.now c.requires.setting.topological
+    c.args.items.now c.loop-item.item-index c.loop-item.frozen c.loop-item.invariant.settled
     c.loop-item-test.true
 
 pub loop-item-preserved : goal.loop-item-preserved
@@ -77,29 +95,40 @@ loop-item-preserved c =
     let items = c.args.items.now in
     let n = c.loop-item.item-index in
     let x = get_or items n 0 in
-    let there : place_of_item g order x ≡ c.place-next.result = sym (c.place-next.ensures.place ∙ ap (place order) (c.producer.ensures.producer)) in
+    let there : place_of_item g order x ≡ c.place-next.result =
+    sym (c.place-next.ensures.place ∙ ap (place order) (c.producer.ensures.producer)) in
     let settled = c.loop-item.invariant.settled in
     record {
-      settled = settled_more g order c.requires.setting.topological items n c.loop-item.frozen settled c.requires.setting.admitted.1.limits c.loop-item-test.true
+      settled = settled_more g order c.requires.setting.topological items n c.loop-item.frozen settled
+          c.requires.setting.admitted.1.limits c.loop-item-test.true
           c.settle.new.frozen c.in_ok-settle.ensures.item c.in_ok-settle.ensures.others c.in_ok-settle.ensures.count;
-      along = along_kept g order c.loop-item.frozen c.place-next.result c.args.scenarios.now c.requires.setting.topological c.settle.new.frozen x c.advance.new.found.items there
+      along = along_kept g order c.loop-item.frozen c.place-next.result c.args.scenarios.now
+          c.requires.setting.topological c.settle.new.frozen x c.advance.new.found.items there
           c.in_ok-settle.ensures.others c.in_ok-advance.ensures;
       ahead = λ j l k.
           let within = (item_frozen g order c.requires.setting.topological items n c.loop-item.frozen settled j k).0 in
-          omega (arith, there, later_place g order x (get_or items j 0) within (later_moment g order c.requires.setting.topological items settled.all n j (omega arith) k));
+          omega (
+            arith,
+            there,
+            later_place g order x (get_or items j 0) within
+                (later_moment g order c.requires.setting.topological items settled.all n j (omega arith) k),
+          );
     }
 
 pub returns-clause-frozen : goal.returns-clause-frozen
 returns-clause-frozen c =
-    settled_all c.args.setting.now.problem.now c.args.setting.now.order.now c.requires.setting.topological c.args.items.now c.loop-item.item-index c.loop-item.frozen c.loop-item.invariant.settled
+    settled_all c.args.setting.now.problem.now c.args.setting.now.order.now c.requires.setting.topological
+    c.args.items.now c.loop-item.item-index c.loop-item.frozen c.loop-item.invariant.settled
     (omega (arith, c.loop-item-test.false, c.loop-item.auto.item-index-end))
 
 pub returns-clause-early : goal.returns-clause-early
 returns-clause-early c =
-    settled_early c.args.setting.now.problem.now c.args.setting.now.order.now c.requires.setting.topological c.args.items.now c.loop-item.item-index c.loop-item.frozen c.loop-item.invariant.settled
+    settled_early c.args.setting.now.problem.now c.args.setting.now.order.now c.requires.setting.topological
+    c.args.items.now c.loop-item.item-index c.loop-item.frozen c.loop-item.invariant.settled
     c.requires.setting.admitted.1.limits
 
 pub advance-requires-clause-scenarios : goal.advance-requires-clause-scenarios
 advance-requires-clause-scenarios c =
     let list = c.args.scenarios.now in
-    All-weaker (Contains list) (IsScenario c.args.setting.now.problem.now) c.requires.scenarios.lawful list (All-contains_itself list)
+    All-weaker (Contains list) (IsScenario c.args.setting.now.problem.now) c.requires.scenarios.lawful list
+    (All-contains_itself list)

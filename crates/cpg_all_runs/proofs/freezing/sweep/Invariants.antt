@@ -7,5 +7,6 @@ abbrev pub invariant-loop-item : goal.invariant-loop-item
 invariant-loop-item l = record {
   settled : AreSettled l.setting.problem.now l.setting.order.now l.items l.item-index l.frozen;
   along : AreAlong l.setting.problem.now l.setting.order.now l.frozen l.place l.scenarios l.found.items;
-  ahead : (j : ℕ) → l.item-index ≤ j → j < length l.items → l.place ≤ place_of_item l.setting.problem.now l.setting.order.now (get_or l.items j 0);
+  ahead : (j : ℕ) → l.item-index ≤ j → j < length l.items →
+      l.place ≤ place_of_item l.setting.problem.now l.setting.order.now (get_or l.items j 0);
 }

@@ -12,7 +12,8 @@ time_there-requires-clause-along c =
     let p = c.index-found-at.result in
     let along = c.requires.along in
     subst (λ r. IsAlong g c.args.setting.now.order.now c.args.frozen.now r c.args.place p) (sym c.index-scenarios-at.is)
-    (subst (IsAlong g c.args.setting.now.order.now c.args.frozen.now _ c.args.place) (sym c.index-found-at.is) (along.each c.loop-at.at s p c.loop-at-test.true))
+    (subst (IsAlong g c.args.setting.now.order.now c.args.frozen.now _ c.args.place) (sym c.index-found-at.is)
+    (along.each c.loop-at.at s p c.loop-at-test.true))
 
 pub loop-at-preserved : goal.loop-at-preserved
 loop-at-preserved c =
@@ -21,12 +22,15 @@ loop-at-preserved c =
     let frozen = c.args.frozen.now in
     let list = c.args.scenarios.now in
     let r = a_run g order frozen c.index-scenarios-at.result c.requires.setting.topological in
-    subst (IsLatest g order frozen c.args.item (c.loop-at.at + 1) list) (sym (c.later-latest.ensures ∙ ap (later c.loop-at.latest) (c.in_ok-time.ensures r.0 r.1)))
-    (latest_more g order c.requires.setting.topological frozen c.args.item list c.loop-at.at c.loop-at.latest c.index-scenarios-at.result r.0 c.loop-at-test.true
+    subst (IsLatest g order frozen c.args.item (c.loop-at.at + 1) list)
+    (sym (c.later-latest.ensures ∙ ap (later c.loop-at.latest) (c.in_ok-time.ensures r.0 r.1)))
+    (latest_more g order c.requires.setting.topological frozen c.args.item list c.loop-at.at c.loop-at.latest
+    c.index-scenarios-at.result r.0 c.loop-at-test.true
     (sym c.index-scenarios-at.is) r.1 c.loop-at.invariant)
 
 pub returns : goal.returns
 returns c =
-    latest_is c.args.setting.now.problem.now c.args.setting.now.order.now c.requires.setting.topological c.args.frozen.now c.args.item c.args.scenarios.now c.requires.scenarios c.requires.item
+    latest_is c.args.setting.now.problem.now c.args.setting.now.order.now c.requires.setting.topological
+    c.args.frozen.now c.args.item c.args.scenarios.now c.requires.scenarios c.requires.item
     c.requires.unset
     c.loop-at.at c.loop-at.latest (omega (arith, c.loop-at-test.false, c.loop-at.auto.at-end)) c.loop-at.invariant

@@ -3,7 +3,16 @@ use Rattle.cpg_all_runs.specs.Placed.{place_in}
 use Rattle.cpg_all_runs.proofs.placing.kept_place.Goals as goal
 
 pub returns-in-Some : goal.returns-in-Some
-returns-in-Some c = inl (subst (λ numbers. place_in c.args.places.now.entries numbers ≡ Some c.in-Some.place.now) c.as_slice.ensures.value (sym c.in-Some.ensures.value), refl)
+returns-in-Some c = inl (
+  subst (λ numbers. place_in c.args.places.now.entries numbers ≡ Some c.in-Some.place.now) c.as_slice.ensures.value
+      (sym c.in-Some.ensures.value),
+  refl,
+)
 
 pub returns : goal.returns
-returns c = inr (subst (λ numbers. place_in c.args.places.now.entries numbers ≡ None) c.as_slice.ensures.value (sym c.in_default.ensures.value), refl, c.in_ok-insert.ensures.entries)
+returns c = inr (
+  subst (λ numbers. place_in c.args.places.now.entries numbers ≡ None) c.as_slice.ensures.value
+      (sym c.in_default.ensures.value),
+  refl,
+  c.in_ok-insert.ensures.entries,
+)

@@ -12,23 +12,29 @@ loop-next-init c = starts_it c.args.problem.now c.args.urgency.now c.args.scenar
 pub loop-next-preserved : goal.loop-next-preserved
 loop-next-preserved c =
     let list = c.args.scenarios.now in
-    let at_next : (d : Scenario) → get_or list c.loop-next.next d ≡ c.index-scenarios-next.result = λ d. get_or_default list c.loop-next.next d c.index-scenarios-next.result c.loop-next-test.true ∙
+    let at_next : (d : Scenario) → get_or list c.loop-next.next d ≡ c.index-scenarios-next.result =
+    λ d. get_or_default list c.loop-next.next d c.index-scenarios-next.result c.loop-next-test.true ∙
     sym c.index-scenarios-next.is in
     let at_at : (d : Scenario) → get_or list c.loop-next.at d ≡ c.index-scenarios-at.result =
-    λ d. get_or_default list c.loop-next.at d c.index-scenarios-at.result (omega (arith, c.loop-next.invariant.there, c.loop-next-test.true)) ∙ sym c.index-scenarios-at.is in
+    λ d. get_or_default list c.loop-next.at d c.index-scenarios-at.result
+    (omega (arith, c.loop-next.invariant.there, c.loop-next-test.true)) ∙ sym c.index-scenarios-at.is in
     elim c.if-goes_first.branch [
       | then-goes_first w ↦ rw w.at-is
-          (takes_it c.args.problem.now c.args.urgency.now c.loop-next.next list c.args.numbers.now c.loop-next.at c.loop-next.invariant
+          (takes_it c.args.problem.now c.args.urgency.now c.loop-next.next list c.args.numbers.now c.loop-next.at
+          c.loop-next.invariant
           (elim (cases_lt (get_or c.args.numbers.now c.loop-next.next 0) (get_or c.args.numbers.now c.loop-next.at 0)) [
             | inl l ↦ absurd (both_ways c.goes_first.result (c.goes_first.ensures.below l) w.if-goes_first.true)
             | inr k ↦ k
           ])
-          (λ e d. ap₂ (is_before c.args.problem.now c.args.urgency.now) (at_next d) (at_at d) ∙ sym (c.goes_first.ensures.level e) ∙ w.if-goes_first.true))
+          (λ e d. ap₂ (is_before c.args.problem.now c.args.urgency.now) (at_next d) (at_at d)
+          ∙ sym (c.goes_first.ensures.level e) ∙ w.if-goes_first.true))
       | else-goes_first w ↦ rw w.at-is
-          (skips_it c.args.problem.now c.args.urgency.now c.loop-next.next list c.args.numbers.now c.loop-next.at c.loop-next.invariant
+          (skips_it c.args.problem.now c.args.urgency.now c.loop-next.next list c.args.numbers.now c.loop-next.at
+          c.loop-next.invariant
           (elim (cases_lt (get_or c.args.numbers.now c.loop-next.at 0) (get_or c.args.numbers.now c.loop-next.next 0)) [
             | inl l ↦ absurd (both_ways c.goes_first.result w.if-goes_first.false (c.goes_first.ensures.above l))
             | inr k ↦ k
           ])
-          (λ e d. ap₂ (is_before c.args.problem.now c.args.urgency.now) (at_next d) (at_at d) ∙ sym (c.goes_first.ensures.level e) ∙ w.if-goes_first.false))
+          (λ e d. ap₂ (is_before c.args.problem.now c.args.urgency.now) (at_next d) (at_at d)
+          ∙ sym (c.goes_first.ensures.level e) ∙ w.if-goes_first.false))
     ]

@@ -4,5 +4,7 @@ use Rattle.cpg_all_runs.proofs.sweeping.advance.Goals as goal
 
 pub returns : goal.returns
 returns c =
-    let there : c.loop-place.place ≡ c.args.to = omega (arith, c.loop-place-test.false, c.loop-place.auto.place-end, c.requires.ahead) in
-    subst (λ i. AreAlong c.args.setting.now.problem.now c.args.setting.now.order.now c.args.frozen.now i c.args.scenarios.now c.loop-place.found.items) there c.loop-place.invariant
+    let there : c.loop-place.place ≡ c.args.to =
+    omega (arith, c.loop-place-test.false, c.loop-place.auto.place-end, c.requires.ahead) in
+    subst (λ i. AreAlong c.args.setting.now.problem.now c.args.setting.now.order.now c.args.frozen.now i
+    c.args.scenarios.now c.loop-place.found.items) there c.loop-place.invariant

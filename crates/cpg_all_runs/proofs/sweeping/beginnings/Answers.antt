@@ -2,4 +2,5 @@ use Rattle.cpg_all_runs.proofs.Swept.{beginnings_more}
 use Rattle.cpg_all_runs.proofs.sweeping.beginnings.Goals as goal
 
 pub loop-preserved : goal.loop-preserved
-loop-preserved c = beginnings_more c.args.problem.now c.loop.counter c.loop.found.items c.push.new.self.items c.in_ok-none.field-0 c.loop.invariant c.in_ok-none.ensures c.in_ok-push.ensures.items
+loop-preserved c = beginnings_more c.args.problem.now c.loop.counter c.loop.found.items c.push.new.self.items
+    c.in_ok-none.field-0 c.loop.invariant c.in_ok-none.ensures c.in_ok-push.ensures.items

@@ -9,8 +9,10 @@ abbrev HasName : Process → Type 0
 HasName p = IsName p.name
 
 pub loop-process-preserved : goal.loop-process-preserved
-loop-process-preserved c = All-more HasName c.args.processes.now c.loop-process.process-index c.process-item.result c.loop-process-test.true c.loop-process.invariant
+loop-process-preserved c = All-more HasName c.args.processes.now c.loop-process.process-index c.process-item.result
+    c.loop-process-test.true c.loop-process.invariant
     (subst HasName c.process-item.is c.as_str-text.ensures.name)
 
 pub returns : goal.returns
-returns c = subst (All HasName) (take_all c.loop-process.process-index c.args.processes.now c.loop-process-test.false) c.loop-process.invariant
+returns c = subst (All HasName)
+    (take_all c.loop-process.process-index c.args.processes.now c.loop-process-test.false) c.loop-process.invariant

@@ -16,15 +16,18 @@ follow-requires-clause-may g c =
     let asked = c.requires.may in
     let live : IsLive asked.command asked.values c.in-Ok-Stream.follower c.in-Ok-Stream.stream =
     live_of asked.command asked.values c.in-Ok-Stream.follower c.in-Ok-Stream.stream
-    (subst (Answers asked.command asked.values) c.in-Ok-Stream.field-0-is (c.in-Ok-Stream.ensures.output asked.command asked.values asked.are)) in
-    subst (g.S.Shelf.may_fetch c.args.shelf.now) (sym c.as_str-in-Ok-Stream.ensures) (may_follow (g.S.Shelf.may_fetch c.args.shelf.now) asked.command asked.values _ _ live asked.files)
+    (subst (Answers asked.command asked.values) c.in-Ok-Stream.field-0-is
+    (c.in-Ok-Stream.ensures.output asked.command asked.values asked.are)) in
+    subst (g.S.Shelf.may_fetch c.args.shelf.now) (sym c.as_str-in-Ok-Stream.ensures)
+    (may_follow (g.S.Shelf.may_fetch c.args.shelf.now) asked.command asked.values _ _ live asked.files)
 
 pub follow-requires-clause-opened : goal.follow-requires-clause-opened
 follow-requires-clause-opened g c =
     let asked = c.requires.may in
     let live : IsLive asked.command asked.values c.in-Ok-Stream.follower c.in-Ok-Stream.stream =
     live_of asked.command asked.values c.in-Ok-Stream.follower c.in-Ok-Stream.stream
-    (subst (Answers asked.command asked.values) c.in-Ok-Stream.field-0-is (c.in-Ok-Stream.ensures.output asked.command asked.values asked.are)) in
+    (subst (Answers asked.command asked.values) c.in-Ok-Stream.field-0-is
+    (c.in-Ok-Stream.ensures.output asked.command asked.values asked.are)) in
     is_open live.tables live.name c.in-Ok-Stream.follower live.follower
 
 pub stop-requires : goal.stop-requires
@@ -36,7 +39,8 @@ pub put_node_table-requires : goal.put_node_table-requires
 put_node_table-requires g c =
     let asked = c.requires.may in
     (text_of asked.command asked.values (OfNode c.in-Ok-NodeTable.tables c.in-Ok-NodeTable.node) tt
-    (subst (Answers asked.command asked.values) c.in-Ok-NodeTable.field-0-is (c.in-Ok-NodeTable.ensures.output asked.command asked.values asked.are))).0
+    (subst (Answers asked.command asked.values) c.in-Ok-NodeTable.field-0-is
+    (c.in-Ok-NodeTable.ensures.output asked.command asked.values asked.are))).0
 
 pub returns-in-Ok-Lines-clause-lawful : goal.returns-in-Ok-Lines-clause-lawful
 returns-in-Ok-Lines-clause-lawful g c words start at =
@@ -49,9 +53,12 @@ returns-in-Ok-Lines-clause-lawful g c words start at =
     } in
     let has : Has r at.command at.has.values = record { words = at.words; reads = at.has.reads } in
     let puts = text_of at.command at.has.values (Lines c.in-Ok-Lines.text) tt
-    (subst (Answers at.command at.has.values) c.in-Ok-Lines.field-0-is (c.in-Ok-Lines.ensures.output at.command at.has.values at.has.are)) in
-    let prints : Prints r (string_bytes c.in-Ok-Lines.text) = record { command = at.command; values = at.has.values; has = has; puts = puts } in
-    written_lawful r (string_bytes c.in-Ok-Lines.text) c.put.result prints (subst (λ (bytes : List ℕ). IsWritten r.out c.put.result bytes) c.as_str.ensures.value c.put.ensures) c.end.ensures
+    (subst (Answers at.command at.has.values) c.in-Ok-Lines.field-0-is
+    (c.in-Ok-Lines.ensures.output at.command at.has.values at.has.are)) in
+    let prints : Prints r (string_bytes c.in-Ok-Lines.text) =
+    record { command = at.command; values = at.has.values; has = has; puts = puts } in
+    written_lawful r (string_bytes c.in-Ok-Lines.text) c.put.result prints (subst
+    (λ (bytes : List ℕ). IsWritten r.out c.put.result bytes) c.as_str.ensures.value c.put.ensures) c.end.ensures
 
 pub returns-in-Ok-Table-clause-lawful : goal.returns-in-Ok-Table-clause-lawful
 returns-in-Ok-Table-clause-lawful g c words start at =
@@ -64,9 +71,12 @@ returns-in-Ok-Table-clause-lawful g c words start at =
     } in
     let has : Has r at.command at.has.values = record { words = at.words; reads = at.has.reads } in
     let puts = text_of at.command at.has.values (Shown c.in-Ok-Table.made) tt
-    (subst (Answers at.command at.has.values) c.in-Ok-Table.field-0-is (c.in-Ok-Table.ensures.output at.command at.has.values at.has.are)) in
-    let prints : Prints r (shown_by c.in-Ok-Table.made.admitted.graph c.in-Ok-Table.made.rows) = record { command = at.command; values = at.has.values; has = has; puts = puts } in
-    written_lawful r (shown_by c.in-Ok-Table.made.admitted.graph c.in-Ok-Table.made.rows) c.put_tables.result prints (c.put_tables.ensures) c.end-in-Ok-Table.ensures
+    (subst (Answers at.command at.has.values) c.in-Ok-Table.field-0-is
+    (c.in-Ok-Table.ensures.output at.command at.has.values at.has.are)) in
+    let prints : Prints r (shown_by c.in-Ok-Table.made.admitted.graph c.in-Ok-Table.made.rows) =
+    record { command = at.command; values = at.has.values; has = has; puts = puts } in
+    written_lawful r (shown_by c.in-Ok-Table.made.admitted.graph c.in-Ok-Table.made.rows) c.put_tables.result prints
+    (c.put_tables.ensures) c.end-in-Ok-Table.ensures
 
 pub returns-in-Ok-NodeTable-clause-lawful : goal.returns-in-Ok-NodeTable-clause-lawful
 returns-in-Ok-NodeTable-clause-lawful g c words start at =
@@ -79,9 +89,12 @@ returns-in-Ok-NodeTable-clause-lawful g c words start at =
     } in
     let has : Has r at.command at.has.values = record { words = at.words; reads = at.has.reads } in
     let puts = text_of at.command at.has.values (OfNode c.in-Ok-NodeTable.tables c.in-Ok-NodeTable.node) tt
-    (subst (Answers at.command at.has.values) c.in-Ok-NodeTable.field-0-is (c.in-Ok-NodeTable.ensures.output at.command at.has.values at.has.are)) in
-    let prints : Prints r (node_text c.in-Ok-NodeTable.tables c.in-Ok-NodeTable.node) = record { command = at.command; values = at.has.values; has = has; puts = puts.1 } in
-    written_lawful r (node_text c.in-Ok-NodeTable.tables c.in-Ok-NodeTable.node) c.put_node_table.result prints c.put_node_table.ensures c.end-in-Ok-NodeTable.ensures
+    (subst (Answers at.command at.has.values) c.in-Ok-NodeTable.field-0-is
+    (c.in-Ok-NodeTable.ensures.output at.command at.has.values at.has.are)) in
+    let prints : Prints r (node_text c.in-Ok-NodeTable.tables c.in-Ok-NodeTable.node) =
+    record { command = at.command; values = at.has.values; has = has; puts = puts.1 } in
+    written_lawful r (node_text c.in-Ok-NodeTable.tables c.in-Ok-NodeTable.node) c.put_node_table.result prints
+    c.put_node_table.ensures c.end-in-Ok-NodeTable.ensures
 
 pub returns-in-Ok-Pack-clause-lawful : goal.returns-in-Ok-Pack-clause-lawful
 returns-in-Ok-Pack-clause-lawful g c words start at =
@@ -94,8 +107,10 @@ returns-in-Ok-Pack-clause-lawful g c words start at =
     } in
     let has : Has r at.command at.has.values = record { words = at.words; reads = at.has.reads } in
     let puts = text_of at.command at.has.values (Pack c.in-Ok-Pack.tables) tt
-    (subst (Answers at.command at.has.values) c.in-Ok-Pack.field-0-is (c.in-Ok-Pack.ensures.output at.command at.has.values at.has.are)) in
-    let prints : Prints r (spelling c.in-Ok-Pack.tables) = record { command = at.command; values = at.has.values; has = has; puts = puts } in
+    (subst (Answers at.command at.has.values) c.in-Ok-Pack.field-0-is
+    (c.in-Ok-Pack.ensures.output at.command at.has.values at.has.are)) in
+    let prints : Prints r (spelling c.in-Ok-Pack.tables) =
+    record { command = at.command; values = at.has.values; has = has; puts = puts } in
     written_lawful r (spelling c.in-Ok-Pack.tables) c.put_pack.result prints c.put_pack.ensures c.end-in-Ok-Pack.ensures
 
 pub returns-in-Ok-Stream-clause-lawful : goal.returns-in-Ok-Stream-clause-lawful
@@ -108,8 +123,10 @@ returns-in-Ok-Stream-clause-lawful g c words start at =
       status = c.follow.result;
     } in
     let live = live_of at.command at.has.values c.in-Ok-Stream.follower c.in-Ok-Stream.stream
-    (subst (Answers at.command at.has.values) c.in-Ok-Stream.field-0-is (c.in-Ok-Stream.ensures.output at.command at.has.values at.has.are)) in
-    followed_lawful r at.command at.has.values c.in-Ok-Stream.follower c.in-Ok-Stream.stream (g.S.Shelf.state c.args.shelf.now).history at.words at.has.reads live
+    (subst (Answers at.command at.has.values) c.in-Ok-Stream.field-0-is
+    (c.in-Ok-Stream.ensures.output at.command at.has.values at.has.are)) in
+    followed_lawful r at.command at.has.values c.in-Ok-Stream.follower c.in-Ok-Stream.stream
+    (g.S.Shelf.state c.args.shelf.now).history at.words at.has.reads live
     (rw c.as_str-in-Ok-Stream.ensures at c.follow.ensures.followed)
 
 pub returns-in-Err-clause-lawful : goal.returns-in-Err-clause-lawful
@@ -122,7 +139,8 @@ returns-in-Err-clause-lawful g c words start at =
       status = c.stop.result;
     } in
     let has : Has r at.command at.has.values = record { words = at.words; reads = at.has.reads } in
-    stopped_lawful r c.in-Err.halt (inr (inr (record { command = at.command; values = at.has.values; has = has; stops = c.in-Err.ensures.halt at.command at.has.values at.has.are })))
+    stopped_lawful r c.in-Err.halt
+    (inr (inr (record { command = at.command; values = at.has.values; has = has; stops = c.in-Err.ensures.halt at.command at.has.values at.has.are })))
     (record { faultless = refl; taken = refl }) c.stop.ensures
 
 pub returns-in-Ok-Lines-clause-keeps : goal.returns-in-Ok-Lines-clause-keeps

@@ -10,19 +10,28 @@ use Rattle.cpg_app.proofs.Named.{files_named}
 use Rattle.cpg_app.proofs.top.run.Goals as goal
 
 pub read_inputs-requires : goal.read_inputs-requires
-read_inputs-requires g c = subst (All (g.S.Shelf.may_fetch c.args.shelf.now)) (ap file_words_if c.in-Ok.ensures.command) c.requires
+read_inputs-requires g c =
+    subst (All (g.S.Shelf.may_fetch c.args.shelf.now)) (ap file_words_if c.in-Ok.ensures.command) c.requires
 
 pub finish-requires-clause-may : goal.finish-requires-clause-may
 finish-requires-clause-may g c =
     let has = c.in-Ok-read_inputs.ensures.inputs in
-    let files = subst (All (g.S.Shelf.may_fetch c.args.shelf.now)) (ap file_words_if c.in-Ok.ensures.command) c.requires in
-    record { command = c.in-Ok.command; values = has.values; are = has.are; files = λ i d l. (c.in-Ok-read_inputs.ensures.access _).0 (files i d l) }
+    let files =
+    subst (All (g.S.Shelf.may_fetch c.args.shelf.now)) (ap file_words_if c.in-Ok.ensures.command) c.requires in
+    record {
+      command = c.in-Ok.command;
+      values = has.values;
+      are = has.are;
+      files = λ i d l. (c.in-Ok-read_inputs.ensures.access _).0 (files i d l);
+    }
 
 pub finish-requires-clause-fit : goal.finish-requires-clause-fit
-finish-requires-clause-fit g c = inputs_fit c.in-Ok.command _ _ c.in-Ok-read_inputs.inputs c.in-Ok-read_inputs.ensures.inputs
+finish-requires-clause-fit g c =
+    inputs_fit c.in-Ok.command _ _ c.in-Ok-read_inputs.inputs c.in-Ok-read_inputs.ensures.inputs
 
 pub stop-requires : goal.stop-requires
-stop-requires g c = files_named None (files_of c.in-Ok.command) _ _ c.in-Err-read_inputs.halt c.in-Err-read_inputs.ensures.inputs
+stop-requires g c =
+    files_named None (files_of c.in-Ok.command) _ _ c.in-Err-read_inputs.halt c.in-Err-read_inputs.ensures.inputs
 
 pub returns-in-Ok-read_inputs-clause-lawful : goal.returns-in-Ok-read_inputs-clause-lawful
 returns-in-Ok-read_inputs-clause-lawful g c =
@@ -38,7 +47,8 @@ returns-in-Err-read_inputs-clause-lawful g c =
       err = sent (g.E.Sink.state c.args.err.now) (g.E.Sink.state c.stop.new.err);
       status = c.stop.result;
     } in
-    stopped_lawful r c.in-Err-read_inputs.halt (inr (inl (record { command = c.in-Ok.command; words = c.in-Ok.ensures.command; stops = c.in-Err-read_inputs.ensures.inputs })))
+    stopped_lawful r c.in-Err-read_inputs.halt
+    (inr (inl (record { command = c.in-Ok.command; words = c.in-Ok.ensures.command; stops = c.in-Err-read_inputs.ensures.inputs })))
     (record { faultless = refl; taken = refl }) c.stop.ensures
 
 pub returns-in-Err-clause-lawful : goal.returns-in-Err-clause-lawful
@@ -50,11 +60,13 @@ returns-in-Err-clause-lawful g c =
       err = sent (g.E.Sink.state c.args.err.now) (g.E.Sink.state c.run_without_words.new.err);
       status = c.run_without_words.result;
     } in
-    wordless_lawful r c.in-Err.fault (λ e. search rules) refl (record { faultless = refl; taken = refl }) c.run_without_words.ensures
+    wordless_lawful r c.in-Err.fault (λ e. search rules) refl
+    (record { faultless = refl; taken = refl }) c.run_without_words.ensures
 
 pub returns-in-Ok-read_inputs-clause-keeps : goal.returns-in-Ok-read_inputs-clause-keeps
 returns-in-Ok-read_inputs-clause-keeps g c =
-    keeps_on (g.S.Shelf.state c.args.shelf.now) (g.S.Shelf.state c.read_inputs.new.shelf) (g.S.Shelf.state c.finish.new.shelf) c.in-Ok-read_inputs.ensures.keeps c.finish.ensures.keeps
+    keeps_on (g.S.Shelf.state c.args.shelf.now) (g.S.Shelf.state c.read_inputs.new.shelf)
+    (g.S.Shelf.state c.finish.new.shelf) c.in-Ok-read_inputs.ensures.keeps c.finish.ensures.keeps
 
 pub returns-in-Err-clause-keeps : goal.returns-in-Err-clause-keeps
 returns-in-Err-clause-keeps g c = keeps_same (g.S.Shelf.state c.args.shelf.now)

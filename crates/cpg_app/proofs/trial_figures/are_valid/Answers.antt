@@ -13,9 +13,13 @@ returns c =
     let g = c.args.admitted.now.graph in
     let t = c.args.tables.now in
     let Says : Bool → Type 0 = λ found. IsTrue found ↔ (IsHeadFor g t.head × IsValid g t.nodes) in
-    let whole = verdict_is g c.args.admitted.now.order t c.in_ok-check.field-0 c.head-head.ensures.lawful c.in_ok-check.ensures in
+    let whole = verdict_is g c.args.admitted.now.order t c.in_ok-check.field-0 c.head-head.ensures.lawful
+    c.in_ok-check.ensures in
     elim c.match-branch-2.branch [
-      | in-Yes w ↦ subst (λ (r : Result Bool OutOfMemory). IfOk r Says) (sym w.result-is) (subst (λ (v : Verdict). Says (is_yes v)) w.in-Yes.is whole)
-      | in-Other w ↦ subst (λ (r : Result Bool OutOfMemory). IfOk r Says) (sym w.result-is) (subst (λ (v : Verdict). Says (is_yes v)) w.in-Other.is whole)
-      | in-No w ↦ subst (λ (r : Result Bool OutOfMemory). IfOk r Says) (sym w.result-is) (subst (λ (v : Verdict). Says (is_yes v)) w.in-No.is whole)
+      | in-Yes w ↦ subst (λ (r : Result Bool OutOfMemory). IfOk r Says) (sym w.result-is)
+          (subst (λ (v : Verdict). Says (is_yes v)) w.in-Yes.is whole)
+      | in-Other w ↦ subst (λ (r : Result Bool OutOfMemory). IfOk r Says) (sym w.result-is)
+          (subst (λ (v : Verdict). Says (is_yes v)) w.in-Other.is whole)
+      | in-No w ↦ subst (λ (r : Result Bool OutOfMemory). IfOk r Says) (sym w.result-is)
+          (subst (λ (v : Verdict). Says (is_yes v)) w.in-No.is whole)
     ]

@@ -6,7 +6,8 @@ use Rattle.cpg_app.proofs.trial_figures.figures_of.Goals as goal
 
 pub unreachable-requires : goal.unreachable-requires
 unreachable-requires c = both_ways c.in_ok-are_valid.field-0 c.if-not-branch.true
-    (c.in_ok-are_valid.ensures.1 (compiled_valid c.args.admitted.now.graph c.args.admitted.now.order c.args.compiled.now c.requires.compilation))
+    (c.in_ok-are_valid.ensures.1
+    (compiled_valid c.args.admitted.now.graph c.args.admitted.now.order c.args.compiled.now c.requires.compilation))
 
 pub returns : goal.returns
 returns c = record {
@@ -16,6 +17,7 @@ returns c = record {
   columns = c.column_total.ensures;
   worst = refl;
   plays = c.in_ok-endings.ensures;
-  reached = reaches_worst c.args.admitted.now.graph c.problem-problem.ensures.admitted.well_formed c.args.admitted.now.order c.args.compiled.now c.requires.compilation c.args.number
+  reached = reaches_worst c.args.admitted.now.graph c.problem-problem.ensures.admitted.well_formed
+      c.args.admitted.now.order c.args.compiled.now c.requires.compilation c.args.number
       c.in_ok-endings.endings.worst_case c.in_ok-endings.ensures.worst_case;
 }

@@ -6,4 +6,5 @@ use Rattle.cpg_app.proofs.trial_plays.all_true.Goals as goal
 pub ending_of-requires-clause-scenario : goal.ending_of-requires-clause-scenario
 ending_of-requires-clause-scenario c =
     let g = c.args.admitted.now.graph in
-    subst (IsScenario g) (sym (rw c.problem.ensures.problem at c.in_ok-scenario.ensures)) (true_lawful g c.requires.processes c.requires.faults)
+    subst (IsScenario g) (sym (rw c.problem.ensures.problem at c.in_ok-scenario.ensures))
+    (true_lawful g c.requires.processes c.requires.faults)

@@ -5,7 +5,8 @@ use Rattle.cpg_app.proofs.trial_plays.set_values.Goals as goal
 
 pub loop-condition-preserved : goal.loop-condition-preserved
 loop-condition-preserved c = record {
-  values = next_true c.args.count c.loop-condition.condition c.loop-condition.scenario.values c.set_value.new.self.values (omega (arith, c.loop-condition-test.true)) c.loop-condition.invariant.values
+  values = next_true c.args.count c.loop-condition.condition c.loop-condition.scenario.values
+      c.set_value.new.self.values (omega (arith, c.loop-condition-test.true)) c.loop-condition.invariant.values
       (ap (λ (s : Scenario). s.values) c.set_value.ensures);
   faults = ap (λ (s : Scenario). s.faults) c.set_value.ensures ∙ c.loop-condition.invariant.faults;
 }

@@ -7,6 +7,7 @@ returns-in-Ok-trial_text-clause-text c =
     record {
       trial = c.in-Ok.trial;
       is = is;
-      safe = compilations_are_safe is.admission.graph is.admitted.well_formed is.admission.order is.compiled is.compilation;
+      safe = compilations_are_safe is.admission.graph is.admitted.well_formed is.admission.order
+          is.compiled is.compilation;
       spelled = c.in-Ok-trial_text.ensures;
     }

@@ -8,13 +8,15 @@ returns-in-Ok c =
     let g = c.args.admitted.now.graph in
     let urgency = c.args.admitted.now.order in
     let narrow = c.in-Ok.ensures.narrow in
-    let tables = accepted_have_tables g urgency c.args.admitted.now.guards c.in-Ok.finish c.first_order-order.ensures.admitted narrow c.in-Ok.ensures.accepted in
+    let tables = accepted_have_tables g urgency c.args.admitted.now.guards c.in-Ok.finish
+    c.first_order-order.ensures.admitted narrow c.in-Ok.ensures.accepted in
     (narrow, tables.0, tables.1, tables.2)
 
 pub returns-in-Err-Late : goal.returns-in-Err-Late
 returns-in-Err-Late c =
     let g = c.args.admitted.now.graph in
     let urgency = c.args.admitted.now.order in
-    let shows : ShowsNoFinish g urgency (CompileFault.Late c.in-Err-Late.field-0-0 c.in-Err-Late.field-0-1 c.in-Err-Late.finish) =
+    let shows : ShowsNoFinish g urgency
+    (CompileFault.Late c.in-Err-Late.field-0-0 c.in-Err-Late.field-0-1 c.in-Err-Late.finish) =
     rw c.in-Err-Late.field-0-is at c.in-Err-Late.ensures.fault in
     (shows.0, c.in-Err-Late.field-0-0, c.in-Err-Late.field-0-1, shows.1)

@@ -14,7 +14,8 @@ use Rattle.cpg_app.proofs.tuning.tuned.Goals as goal
 pub tune-requires : goal.tune-requires
 tune-requires c =
     let a = c.args.admitted.now in
-    subst (MayAskRows ShowsNoFault) (sym c.problem.ensures.problem) (λ faults few. tuned_no_fault a.graph a.order a.guards c.problem.ensures.admitted faults)
+    subst (MayAskRows ShowsNoFault) (sym c.problem.ensures.problem)
+    (λ faults few. tuned_no_fault a.graph a.order a.guards c.problem.ensures.admitted faults)
 
 pub returns-clause-named : goal.returns-clause-named
 returns-clause-named c =

@@ -9,5 +9,6 @@ use Rattle.cpg_app.proofs.work.play.Goals as goal
 pub play_text-requires-clause-tables : goal.play_text-requires-clause-tables
 play_text-requires-clause-tables c =
     let t = c.args.tables in
-    subst (λ (h : Graph). AreTablesOf (head_of h) t.nodes) (sym (ap (λ (a : Admission). a.graph) c.in_ok-admitted.ensures.same))
+    subst (λ (h : Graph). AreTablesOf (head_of h) t.nodes)
+    (sym (ap (λ (a : Admission). a.graph) c.in_ok-admitted.ensures.same))
     (tables_of_graph c.args.admitted.graph t.head t.nodes c.in_ok-admitted.ensures.safe.head c.head-head.ensures.lawful)

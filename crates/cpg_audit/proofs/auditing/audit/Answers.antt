@@ -25,14 +25,19 @@ abbrev seen : Bor (List Literal) → List Literal
 seen b = b.now
 
 pub all_idle-requires : goal.all_idle-requires
-all_idle-requires c = (c.args.log.now.until, subst (All (IsActBy c.args.admitted.now.graph c.args.log.now.until)) (sym c.acts.ensures) c.requires.log.acts)
+all_idle-requires c = (
+  c.args.log.now.until,
+  subst (All (IsActBy c.args.admitted.now.graph c.args.log.now.until)) (sym c.acts.ensures) c.requires.log.acts,
+)
 
 pub uncovered-requires-clause-order : goal.uncovered-requires-clause-order
-uncovered-requires-clause-order c = rw (c.order-order.ensures.order, c.problem-problem.ensures.problem) (long_order c.order-order.ensures.admitted)
+uncovered-requires-clause-order c =
+    rw (c.order-order.ensures.order, c.problem-problem.ensures.problem) (long_order c.order-order.ensures.admitted)
 
 pub excluded-requires : goal.excluded-requires
 excluded-requires c x =
-    let are = tables_of_graph c.args.admitted.now.graph c.args.tables.now.head c.args.tables.now.nodes c.requires.head c.head-head.ensures.lawful in
+    let are = tables_of_graph c.args.admitted.now.graph c.args.tables.now.head c.args.tables.now.nodes c.requires.head
+    c.head-head.ensures.lawful in
     rw c.problem-problem.ensures.problem (columns_known c.order-order.ensures.admitted c.args.tables.now.nodes are x)
 
 pub uncovered-requires-clause-list : goal.uncovered-requires-clause-list
@@ -43,7 +48,8 @@ uncovered-requires-clause-list c =
     (All-map (IsKnown c.problem-problem.result.now) seen c.in_ok-by.by.items c.in_ok-by.ensures.known) in
     let cubes : All (IsKnown g) (map seen c.push_cubes.new.by.items) = subst (All (IsKnown g)) (sym by)
     (idle_known g (map seen c.in_ok-by.by.items) c.in_ok-idle.idle.items kept c.in_ok-idle.ensures.known) in
-    rw (c.problem-problem.ensures.problem, c.as_slice-2.ensures.value) (all_unmapped (IsKnown g) seen c.push_cubes.new.by.items cubes)
+    rw (c.problem-problem.ensures.problem, c.as_slice-2.ensures.value)
+    (all_unmapped (IsKnown g) seen c.push_cubes.new.by.items cubes)
 
 pub returns-clause-least : goal.returns-clause-least
 returns-clause-least c =
@@ -53,18 +59,29 @@ returns-clause-least c =
     let log = c.args.log.now in
     let a = c.order-order.ensures.admitted in
     let are = tables_of_graph g c.args.tables.now.head nodes c.requires.head c.head-head.ensures.lawful in
-    let setting : (s : Scenario) → IsScenario g s → Setting g nodes s = λ s law. record { formed = a.well_formed; shape = has_shape g a.limits nodes are; valid = c.requires.valid; law = law } in
+    let setting : (s : Scenario) → IsScenario g s → Setting g nodes s = λ s law. record {
+      formed = a.well_formed;
+      shape = has_shape g a.limits nodes are;
+      valid = c.requires.valid;
+      law = law;
+    } in
     let told = rw c.acts.ensures at c.in_ok-idle.ensures.idle in
     let idle = map (λ (d : Column). d.cube) c.in_ok-idle.idle.items in
     let all = flat_map (excluded_of nodes log) (numbers_below (item_count g)) in
     let by = rw c.as_slice.ensures.value at c.in_ok-push_cubes.ensures in
-    let same : (s : Scenario) → IsScenario g s → is_left (map seen c.push_cubes.new.by.items) c.in_ok-cube.cube s ≡ is_left (all ++ idle) [] s = λ s law.
-    let lies = c.whole-space.ensures.lies s (rw (c.faults.ensures.faults, c.problem-problem.ensures.problem) (scenario_few g s law)) in
-    left_of_whole c.in_ok-by.by.items c.push_cubes.new.by.items idle all c.in_ok-cube.cube s by (rw c.problem-problem.ensures.problem at (c.in_ok-by.ensures.same s lies)) (λ off.
+    let same : (s : Scenario) → IsScenario g s →
+    is_left (map seen c.push_cubes.new.by.items) c.in_ok-cube.cube s ≡ is_left (all ++ idle) [] s = λ s law.
+    let lies = c.whole-space.ensures.lies s
+    (rw (c.faults.ensures.faults, c.problem-problem.ensures.problem) (scenario_few g s law)) in
+    left_of_whole c.in_ok-by.by.items c.push_cubes.new.by.items idle all c.in_ok-cube.cube s by
+    (rw c.problem-problem.ensures.problem at (c.in_ok-by.ensures.same s lies)) (λ off.
     c.in_ok-cube.ensures.matches s (c.in_ok-by.ensures.space s lies off)) in
-    let first = rw (c.problem-problem.ensures.problem, c.order-order.ensures.order, c.as_slice-2.ensures.value) at c.in_ok-found.ensures.first in
-    least_gives g order nodes setting log c.requires.log c.in_ok-idle.idle.items told (all ++ idle) refl c.in_ok-found.found
-    (first_same g order (is_left (map seen c.push_cubes.new.by.items) c.in_ok-cube.cube) (is_left (all ++ idle) []) c.in_ok-found.found same first)
+    let first = rw (c.problem-problem.ensures.problem, c.order-order.ensures.order, c.as_slice-2.ensures.value) at
+    c.in_ok-found.ensures.first in
+    least_gives g order nodes setting log c.requires.log c.in_ok-idle.idle.items told
+    (all ++ idle) refl c.in_ok-found.found
+    (first_same g order (is_left (map seen c.push_cubes.new.by.items) c.in_ok-cube.cube)
+    (is_left (all ++ idle) []) c.in_ok-found.found same first)
 
 pub returns-clause-none : goal.returns-clause-none
 returns-clause-none c =
@@ -74,15 +91,26 @@ returns-clause-none c =
     let log = c.args.log.now in
     let a = c.order-order.ensures.admitted in
     let are = tables_of_graph g c.args.tables.now.head nodes c.requires.head c.head-head.ensures.lawful in
-    let setting : (s : Scenario) → IsScenario g s → Setting g nodes s = λ s law. record { formed = a.well_formed; shape = has_shape g a.limits nodes are; valid = c.requires.valid; law = law } in
+    let setting : (s : Scenario) → IsScenario g s → Setting g nodes s = λ s law. record {
+      formed = a.well_formed;
+      shape = has_shape g a.limits nodes are;
+      valid = c.requires.valid;
+      law = law;
+    } in
     let told = rw c.acts.ensures at c.in_ok-idle.ensures.idle in
     let idle = map (λ (d : Column). d.cube) c.in_ok-idle.idle.items in
     let all = flat_map (excluded_of nodes log) (numbers_below (item_count g)) in
     let by = rw c.as_slice.ensures.value at c.in_ok-push_cubes.ensures in
-    let same : (s : Scenario) → IsScenario g s → is_left (map seen c.push_cubes.new.by.items) c.in_ok-cube.cube s ≡ is_left (all ++ idle) [] s = λ s law.
-    let lies = c.whole-space.ensures.lies s (rw (c.faults.ensures.faults, c.problem-problem.ensures.problem) (scenario_few g s law)) in
-    left_of_whole c.in_ok-by.by.items c.push_cubes.new.by.items idle all c.in_ok-cube.cube s by (rw c.problem-problem.ensures.problem at (c.in_ok-by.ensures.same s lies)) (λ off.
+    let same : (s : Scenario) → IsScenario g s →
+    is_left (map seen c.push_cubes.new.by.items) c.in_ok-cube.cube s ≡ is_left (all ++ idle) [] s = λ s law.
+    let lies = c.whole-space.ensures.lies s
+    (rw (c.faults.ensures.faults, c.problem-problem.ensures.problem) (scenario_few g s law)) in
+    left_of_whole c.in_ok-by.by.items c.push_cubes.new.by.items idle all c.in_ok-cube.cube s by
+    (rw c.problem-problem.ensures.problem at (c.in_ok-by.ensures.same s lies)) (λ off.
     c.in_ok-cube.ensures.matches s (c.in_ok-by.ensures.space s lies off)) in
-    let first = rw (c.problem-problem.ensures.problem, c.order-order.ensures.order, c.as_slice-2.ensures.value) at c.in_ok-found.ensures.first in
-    none_gives g order nodes setting log c.requires.log c.in_ok-idle.idle.items told (all ++ idle) refl c.in_ok-found.found
-    (first_same g order (is_left (map seen c.push_cubes.new.by.items) c.in_ok-cube.cube) (is_left (all ++ idle) []) c.in_ok-found.found same first)
+    let first = rw (c.problem-problem.ensures.problem, c.order-order.ensures.order, c.as_slice-2.ensures.value) at
+    c.in_ok-found.ensures.first in
+    none_gives g order nodes setting log c.requires.log c.in_ok-idle.idle.items told
+    (all ++ idle) refl c.in_ok-found.found
+    (first_same g order (is_left (map seen c.push_cubes.new.by.items) c.in_ok-cube.cube)
+    (is_left (all ++ idle) []) c.in_ok-found.found same first)

@@ -1,4 +1,5 @@
-use Rattle.std.proofs.Common.{◌≡◌, ◌-◌, ◌∙◌, ◌||◌, ℕ, Bool, List, All, Bor, get_or, length, map, flat_map, take, sym, ap, subst, arith}
+use Rattle.std.proofs.Common.{◌≡◌, ◌-◌, ◌∙◌, ◌||◌, ℕ, Bool, List, All, Bor, get_or, length, map, flat_map, take, sym}
+use Rattle.std.proofs.Common.{ap, subst, arith}
 use Rattle.std.specs.List.{list_any}
 use Rattle.std.proofs.lemmas.List.{take_all}
 use Rattle.std.proofs.lemmas.List.Folds.{list_any-append}
@@ -28,7 +29,8 @@ loop-timed-preserved c =
     let xs : List TimedItem = c.as_slice-timed-items.result.now in
     let i : ℕ = c.loop-timed.timed-index in
     let x : TimedItem = get_or xs i blank in
-    let one : map (λ (b : Bor (List Literal)). b.now) c.in_ok-by.by.items ≡ f x.item = rw (c.until.ensures, c.time_of.ensures, c.columns_of-columns.ensures.columns) at c.in_ok-by.ensures in
+    let one : map (λ (b : Bor (List Literal)). b.now) c.in_ok-by.by.items ≡ f x.item =
+    rw (c.until.ensures, c.time_of.ensures, c.columns_of-columns.ensures.columns) at c.in_ok-by.ensures in
     let inv = c.loop-timed.invariant in
     let kept = c.take_off_all.new.kept.items in
     record {
@@ -36,16 +38,21 @@ loop-timed-preserved c =
           let test : List Literal → Bool = λ b. matches b s in
           rw c.as_slice.ensures.value at (c.in_ok-take_off_all.ensures.same s (inv.left s lies))
           ∙ ap (λ b. b || list_any (λ (b : Bor (List Literal)). matches b.now s) c.in_ok-by.by.items) (inv.same s lies)
-          ∙ ap (λ b. list_any test (flat_map f (map item (take i xs))) || b) (sym (any_map test (λ (b : Bor (List Literal)). b.now) c.in_ok-by.by.items) ∙ ap (list_any test) one)
+          ∙ ap (λ b. list_any test (flat_map f (map item (take i xs))) || b)
+          (sym (any_map test (λ (b : Bor (List Literal)). b.now) c.in_ok-by.by.items) ∙ ap (list_any test) one)
           ∙ sym (list_any-append test (flat_map f (map item (take i xs))) (f x.item))
           ∙ sym (ap (list_any test) (flat_more f item xs i blank (omega arith)));
       left = λ s lies off.
-          let window = any_within (λ b. matches b.now s) c.len-first.result (length kept - c.len-first.result) kept off in
-          c.narrow.ensures s (rw c.deref.ensures.value window) (c.in_ok-take_off_all.ensures.space s (inv.left s lies) off);
+          let window =
+          any_within (λ b. matches b.now s) c.len-first.result (length kept - c.len-first.result) kept off in
+          c.narrow.ensures s (rw c.deref.ensures.value window)
+          (c.in_ok-take_off_all.ensures.space s (inv.left s lies) off);
       known =
-          let cubes : All (IsKnown c.args.problem.now) (f x.item) = excluded_known c.args.problem.now c.args.tables.now.nodes c.args.log.now x.item (c.requires x.item) in
+          let cubes : All (IsKnown c.args.problem.now) (f x.item) =
+          excluded_known c.args.problem.now c.args.tables.now.nodes c.args.log.now x.item (c.requires x.item) in
           c.in_ok-take_off_all.ensures.known c.args.problem.now
-          (rw c.as_slice.ensures.value (all_unmapped (IsKnown c.args.problem.now) (λ (b : Bor (List Literal)). b.now) c.in_ok-by.by.items
+          (rw c.as_slice.ensures.value
+          (all_unmapped (IsKnown c.args.problem.now) (λ (b : Bor (List Literal)). b.now) c.in_ok-by.by.items
           (subst (All (IsKnown c.args.problem.now)) (sym one) cubes))) inv.known;
     }
 
@@ -54,5 +61,7 @@ returns-clause-same c s lies =
     let f : ℕ → List (List Literal) = excluded_of c.args.tables.now.nodes c.args.log.now in
     let xs : List TimedItem = c.as_slice-timed-items.result.now in
     c.loop-timed.invariant.same s lies
-    ∙ ap (λ ts. list_any (λ b. matches b s) (flat_map f (map item ts))) (take_all c.loop-timed.timed-index xs (omega arith) ∙ c.as_slice-timed-items.ensures.value)
-    ∙ any_in_order (λ b. matches b s) f (numbers_below (item_count c.args.problem.now)) (map item c.in_ok-ordered.ordered.items) c.in_ok-ordered.ensures
+    ∙ ap (λ ts. list_any (λ b. matches b s) (flat_map f (map item ts)))
+    (take_all c.loop-timed.timed-index xs (omega arith) ∙ c.as_slice-timed-items.ensures.value)
+    ∙ any_in_order (λ b. matches b s) f (numbers_below (item_count c.args.problem.now))
+    (map item c.in_ok-ordered.ordered.items) c.in_ok-ordered.ensures

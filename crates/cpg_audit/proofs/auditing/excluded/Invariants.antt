@@ -10,7 +10,8 @@ use Rattle.cpg_audit.proofs.auditing.excluded.Given as goal
 
 abbrev pub invariant-loop-timed : goal.invariant-loop-timed
 invariant-loop-timed l = record {
-  same : (s : Scenario) → IsInSpace l.fn.space s → list_any (λ b. matches b.now s) l.kept.items ≡ list_any (λ b. matches b s)
+  same : (s : Scenario) → IsInSpace l.fn.space s →
+      list_any (λ b. matches b.now s) l.kept.items ≡ list_any (λ b. matches b s)
       (flat_map (excluded_of l.tables.nodes l.log) (map (λ t. t.item) (take l.timed-index l.timed-items)));
   left : (s : Scenario) → IsInSpace l.fn.space s → Leaves l.space l.kept.items s;
   known : All (λ b. IsKnown l.problem b.now) l.kept.items;

@@ -2,4 +2,5 @@ use Rattle.std.proofs.Common.{◌≡◌, ◌++◌, map, take}
 use Rattle.cpg_audit.proofs.auditing.push_cubes.Given as goal
 
 abbrev pub invariant-loop-column : goal.invariant-loop-column
-invariant-loop-column l = map (λ b. b.now) l.by.items ≡ map (λ b. b.now) l.fn.by.items ++ map (λ c. c.cube) (take l.column-index l.columns)
+invariant-loop-column l =
+    map (λ b. b.now) l.by.items ≡ map (λ b. b.now) l.fn.by.items ++ map (λ c. c.cube) (take l.column-index l.columns)

@@ -14,7 +14,9 @@ loop-act-preserved c =
     let columns = c.in_ok-columns.columns.items in
     record {
       known = subst (All (λ (d : Column). IsKnown g d.cube)) (sym c.in_ok-append.ensures.items)
-          (All-append (λ (d : Column). IsKnown g d.cube) old columns c.loop-act.invariant.known c.in_ok-columns.ensures.known);
+          (All-append (λ (d : Column). IsKnown g d.cube) old columns c.loop-act.invariant.known
+          c.in_ok-columns.ensures.known);
       idle = λ s law. ap (list_any (λ (d : Column). matches d.cube s)) c.in_ok-append.ensures.items
-          ∙ idle_more g s c.args.acts.now c.loop-act.act-index _ c.loop-act-test.true old columns (c.loop-act.invariant.idle s law) (c.in_ok-columns.ensures.idle s law);
+          ∙ idle_more g s c.args.acts.now c.loop-act.act-index _ c.loop-act-test.true old columns
+          (c.loop-act.invariant.idle s law) (c.in_ok-columns.ensures.idle s law);
     }

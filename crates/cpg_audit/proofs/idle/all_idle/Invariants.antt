@@ -9,5 +9,6 @@ use Rattle.cpg_audit.proofs.idle.all_idle.Given as goal
 abbrev pub invariant-loop-act : goal.invariant-loop-act
 invariant-loop-act l = record {
   known : All (λ c. IsKnown l.admitted.graph c.cube) l.all.items;
-  idle : (s : Scenario) → IsScenario l.admitted.graph s → list_any (λ c. matches c.cube s) l.all.items ≡ is_some_idle l.admitted.graph (take l.act-index l.acts) s;
+  idle : (s : Scenario) → IsScenario l.admitted.graph s →
+      list_any (λ c. matches c.cube s) l.all.items ≡ is_some_idle l.admitted.graph (take l.act-index l.acts) s;
 }

@@ -12,15 +12,18 @@ use Rattle.cpg_audit.proofs.idle.idle_columns.Goals as goal
 pub columns-requires-clause-known : goal.columns-requires-clause-known
 columns-requires-clause-known c =
     let g = c.args.admitted.now.graph in
-    rw c.problem.ensures.problem (known_from g c.in_ok-idle.idle.paths (c.in_ok-idle.ensures.pass (is_variable g) c.in_ok-active.ensures.tree.known))
+    rw c.problem.ensures.problem (known_from g c.in_ok-idle.idle.paths
+    (c.in_ok-idle.ensures.pass (is_variable g) c.in_ok-active.ensures.tree.known))
 
 pub returns-clause-known : goal.returns-clause-known
 returns-clause-known c =
     let g = c.args.admitted.now.graph in
-    All-weaker (IsTidyColumn c.problem.result.now) (λ (column : Column). IsKnown g column.cube) (λ column tidy. subst (λ (h : Graph). IsKnown h column.cube) c.problem.ensures.problem tidy.cube.known)
+    All-weaker (IsTidyColumn c.problem.result.now) (λ (column : Column). IsKnown g column.cube)
+    (λ column tidy. subst (λ (h : Graph). IsKnown h column.cube) c.problem.ensures.problem tidy.cube.known)
     c.in_ok-columns.columns.items c.in_ok-columns.ensures.tidy
 
 pub returns-clause-idle : goal.returns-clause-idle
-returns-clause-idle c = idle_columns c.args.admitted.now.graph c.args.item c.in_ok-active.active c.in_ok-active.ensures.tree c.in_ok-active.ensures.active c.in_ok-idle.idle c.in_ok-idle.ensures.is
+returns-clause-idle c = idle_columns c.args.admitted.now.graph c.args.item c.in_ok-active.active
+    c.in_ok-active.ensures.tree c.in_ok-active.ensures.active c.in_ok-idle.idle c.in_ok-idle.ensures.is
     c.in_ok-idle.ensures.each
     c.in_ok-columns.columns.items c.in_ok-columns.ensures.all

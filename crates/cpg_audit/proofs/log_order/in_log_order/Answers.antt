@@ -14,10 +14,13 @@ item t = t.item
 pub loop-item-preserved : goal.loop-item-preserved
 loop-item-preserved c =
     let timed : TimedItem = record { time = c.unwrap_or-time.result; item = c.loop-item.item } in
-    ap (map item) c.in_ok-push.ensures.items ∙ map-append item c.loop-item.ordered.items (timed ∷ []) ∙ ap (λ xs. xs ++ c.loop-item.item ∷ []) c.loop-item.invariant ∙ sym (below_push c.loop-item.item)
+    ap (map item) c.in_ok-push.ensures.items ∙ map-append item c.loop-item.ordered.items (timed ∷ [])
+    ∙ ap (λ xs. xs ++ c.loop-item.item ∷ []) c.loop-item.invariant ∙ sym (below_push c.loop-item.item)
 
 pub returns : goal.returns
 returns c =
     let last : c.loop-item.item ≡ item_count c.args.problem.now = search rules in
-    let all : map item c.loop-item.ordered.items ≡ numbers_below (item_count c.args.problem.now) = c.loop-item.invariant ∙ ap numbers_below last in
-    subst (λ xs. IsPermutation xs (map item c.sort_by_key.new.self.items)) all (IsPermutation-map item c.loop-item.ordered.items c.sort_by_key.new.self.items c.in_ok-sort_by_key.ensures.permutation)
+    let all : map item c.loop-item.ordered.items ≡ numbers_below (item_count c.args.problem.now) =
+    c.loop-item.invariant ∙ ap numbers_below last in
+    subst (λ xs. IsPermutation xs (map item c.sort_by_key.new.self.items)) all (IsPermutation-map item
+    c.loop-item.ordered.items c.sort_by_key.new.self.items c.in_ok-sort_by_key.ensures.permutation)

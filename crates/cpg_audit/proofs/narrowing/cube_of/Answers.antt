@@ -4,11 +4,15 @@ use Rattle.cpg_audit.proofs.narrowing.cube_of.Goals as goal
 
 pub push_ranges-requires-2-clause-before : goal.push_ranges-requires-2-clause-before
 push_ranges-requires-2-clause-before c =
-    let few : length c.processes.result.now ≤ 128 = rw c.processes.ensures.processes c.processes.ensures.within.few_processes in
-    ranges_weaker c.args.problem.now c.args.space.now (length c.processes.result.now) 128 few c.push_ranges.new.cube c.in_ok-push_ranges.ensures
+    let few : length c.processes.result.now ≤ 128 =
+    rw c.processes.ensures.processes c.processes.ensures.within.few_processes in
+    ranges_weaker c.args.problem.now c.args.space.now
+    (length c.processes.result.now) 128 few c.push_ranges.new.cube c.in_ok-push_ranges.ensures
 
 pub returns-clause-matches : goal.returns-clause-matches
-returns-clause-matches c s lies = matches_space c.args.problem.now c.args.space.now _ c.push_ranges-2.new.cube c.in_ok-push_ranges-2.ensures s lies
+returns-clause-matches c s lies =
+    matches_space c.args.problem.now c.args.space.now _ c.push_ranges-2.new.cube c.in_ok-push_ranges-2.ensures s lies
 
 pub returns-clause-known : goal.returns-clause-known
-returns-clause-known c = known_ranges c.args.problem.now c.args.space.now _ c.push_ranges-2.new.cube c.in_ok-push_ranges-2.ensures
+returns-clause-known c =
+    known_ranges c.args.problem.now c.args.space.now _ c.push_ranges-2.new.cube c.in_ok-push_ranges-2.ensures

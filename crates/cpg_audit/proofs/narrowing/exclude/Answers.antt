@@ -4,4 +4,5 @@ use Rattle.cpg_cube.specs.Cube.{holds}
 use Rattle.cpg_audit.proofs.narrowing.exclude.Goals as goal
 
 pub returns-in-Some-within : goal.returns-in-Some-within
-returns-in-Some-within c s lies off = c.in-Some-within.ensures.lies s lies (and-true (holds s c.in-Some.range) ∙ c.in-Some.ensures s lies off)
+returns-in-Some-within c s lies off =
+    c.in-Some-within.ensures.lies s lies (and-true (holds s c.in-Some.range) ∙ c.in-Some.ensures s lies off)

@@ -21,19 +21,26 @@ loop-literal-preserved c =
           let none : c.loop-literal.open ≡ None = search rules in
           rw w.open-is (record {
             none = tt;
-            some = first_open c.args.space.now c.args.literals.now c.loop-literal.literal-index blank (omega arith) c.loop-literal.open none inv.none;
+            some = first_open c.args.space.now c.args.literals.now c.loop-literal.literal-index blank
+                (omega arith) c.loop-literal.open none inv.none;
           })
       | else-not-implies w ↦
-          let told : (s : Scenario) → IsInSpace c.args.space.now s → holds s (get_or c.args.literals.now c.loop-literal.literal-index blank) ≡ true = search rules in
+          let told : (s : Scenario) → IsInSpace c.args.space.now s →
+          holds s (get_or c.args.literals.now c.loop-literal.literal-index blank) ≡ true = search rules in
           rw w.open-is (record {
-            none = none_with_told c.args.space.now c.args.literals.now c.loop-literal.literal-index blank (omega arith) told c.loop-literal.open inv.none;
-            some = some_with_told c.args.space.now c.args.literals.now c.loop-literal.literal-index blank (omega arith) told c.loop-literal.open inv.some;
+            none = none_with_told c.args.space.now c.args.literals.now c.loop-literal.literal-index blank
+                (omega arith) told c.loop-literal.open inv.none;
+            some = some_with_told c.args.space.now c.args.literals.now c.loop-literal.literal-index blank
+                (omega arith) told c.loop-literal.open inv.some;
           })
     ]
 
 pub returns-then-is_apart : goal.returns-then-is_apart
-returns-then-is_apart c s lies = unmatched s c.args.literals.now c.loop-literal.literal-index blank (omega arith) (search rules)
+returns-then-is_apart c s lies =
+    unmatched s c.args.literals.now c.loop-literal.literal-index blank (omega arith) (search rules)
 
 pub returns-in-Some : goal.returns-in-Some
-returns-in-Some c = subst (λ (ls : List Literal). (s : Scenario) → IsInSpace c.args.space.now s → matches ls s ≡ holds s c.in-Some.literal)
-    (take_all c.loop-literal.literal-index c.args.literals.now (omega arith)) (rw c.in-Some.is at c.loop-literal.invariant.some)
+returns-in-Some c = subst
+    (λ (ls : List Literal). (s : Scenario) → IsInSpace c.args.space.now s → matches ls s ≡ holds s c.in-Some.literal)
+    (take_all c.loop-literal.literal-index c.args.literals.now (omega arith))
+    (rw c.in-Some.is at c.loop-literal.invariant.some)

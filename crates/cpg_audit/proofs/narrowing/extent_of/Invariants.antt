@@ -8,5 +8,6 @@ use Rattle.cpg_audit.proofs.narrowing.extent_of.Given as goal
 abbrev pub invariant-loop-literal : goal.invariant-loop-literal
 invariant-loop-literal l = record {
   none : IfNone l.open ((s : Scenario) → IsInSpace l.space s → matches (take l.literal-index l.literals) s ≡ true);
-  some : IfSome l.open (λ o. (s : Scenario) → IsInSpace l.space s → matches (take l.literal-index l.literals) s ≡ holds s o);
+  some : IfSome l.open
+      (λ o. (s : Scenario) → IsInSpace l.space s → matches (take l.literal-index l.literals) s ≡ holds s o);
 }

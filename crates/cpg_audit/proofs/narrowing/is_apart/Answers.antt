@@ -6,8 +6,10 @@ use Rattle.cpg_audit.proofs.narrowing.is_apart.Goals as goal
 
 pub returns-then-most-literal : goal.returns-then-most-literal
 returns-then-most-literal c = OnTrue_from (nat_lt c.most.result c.args.literal.now.low) _
-    (λ e s lies. below_low s c.args.literal.now (omega (arith, c.most.ensures s lies, ltb-true c.most.result c.args.literal.now.low e)))
+    (λ e s lies. below_low s c.args.literal.now
+    (omega (arith, c.most.ensures s lies, ltb-true c.most.result c.args.literal.now.low e)))
 
 pub returns-else-most-literal : goal.returns-else-most-literal
 returns-else-most-literal c = OnTrue_from (nat_lt c.args.literal.now.high c.least.result) _
-    (λ e s lies. above_high s c.args.literal.now (omega (arith, c.least.ensures s lies, ltb-true c.args.literal.now.high c.least.result e)))
+    (λ e s lies. above_high s c.args.literal.now
+    (omega (arith, c.least.ensures s lies, ltb-true c.args.literal.now.high c.least.result e)))

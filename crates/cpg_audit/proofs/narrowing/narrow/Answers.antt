@@ -8,7 +8,8 @@ pub loop-place-preserved-in-Where : goal.loop-place-preserved-in-Where
 loop-place-preserved-in-Where c = record {
   within = omega (arith, c.loop-place.invariant.within);
   left = λ s off lies.
-      let parts = one_before (λ b. matches b.now s) c.args.by.now c.loop-place.place c.index-by-place.result c.loop-place-test.true c.loop-place.invariant.within c.index-by-place.is off in
+      let parts = one_before (λ b. matches b.now s) c.args.by.now c.loop-place.place c.index-by-place.result
+      c.loop-place-test.true c.loop-place.invariant.within c.index-by-place.is off in
       let old = c.loop-place.invariant.left s parts.0 lies in
       c.exclude.ensures s old (sym (rw c.literals.ensures.literals at c.in-Where.ensures s old) ∙ parts.1);
 }
@@ -17,7 +18,8 @@ pub loop-place-preserved : goal.loop-place-preserved
 loop-place-preserved c = record {
   within = omega (arith, c.loop-place.invariant.within);
   left = λ s off lies.
-      let parts = one_before (λ b. matches b.now s) c.args.by.now c.loop-place.place c.index-by-place.result c.loop-place-test.true c.loop-place.invariant.within c.index-by-place.is off in
+      let parts = one_before (λ b. matches b.now s) c.args.by.now c.loop-place.place c.index-by-place.result
+      c.loop-place-test.true c.loop-place.invariant.within c.index-by-place.is off in
       c.loop-place.invariant.left s parts.0 lies;
 }
 

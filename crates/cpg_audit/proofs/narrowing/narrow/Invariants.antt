@@ -8,7 +8,8 @@ use Rattle.cpg_audit.proofs.narrowing.narrow.Given as goal
 abbrev pub invariant-loop-place : goal.invariant-loop-place
 invariant-loop-place l = record {
   within : l.place ≤ length l.by;
-  left : (s : Scenario) → list_any (λ b. matches b.now s) (drop l.place l.by) ≡ false → IsInSpace l.fn.space s → IsInSpace l.space s;
+  left : (s : Scenario) → list_any (λ b. matches b.now s) (drop l.place l.by) ≡ false → IsInSpace l.fn.space s →
+      IsInSpace l.space s;
 }
 
 abbrev pub decreases-loop-place : goal.decreases-loop-place

@@ -12,10 +12,11 @@ loop-variable-preserved c =
     let v = c.loop-variable.variable in
     let old = ranges_weaker g c.args.space.now v (v + 1) (omega arith) c.loop-variable.cube c.loop-variable.invariant in
     elim c.if-low-gt0.branch [
-      | then-low-gt0+in_ok-push w ↦ rw (w.cube-is, w.in_ok-push.ensures.pushed) (All-push (IsRange g c.args.space.now (v + 1)) c.loop-variable.cube _ old (record {
-        known = c.requires.known v (omega arith) (omega arith);
-        below = omega arith;
-        told = λ s lies. holds-from s _ (c.least-low.ensures s lies) (c.most-high.ensures s lies);
-      }))
+      | then-low-gt0+in_ok-push w ↦ rw (w.cube-is, w.in_ok-push.ensures.pushed)
+          (All-push (IsRange g c.args.space.now (v + 1)) c.loop-variable.cube _ old (record {
+            known = c.requires.known v (omega arith) (omega arith);
+            below = omega arith;
+            told = λ s lies. holds-from s _ (c.least-low.ensures s lies) (c.most-high.ensures s lies);
+          }))
       | else-low-gt0+else-high-top w ↦ rw w.cube-is old
     ]

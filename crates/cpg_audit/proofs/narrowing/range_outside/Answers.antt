@@ -3,7 +3,9 @@ use Rattle.cpg_audit.proofs.NarrowingLaws.{above_range, below_range}
 use Rattle.cpg_audit.proofs.narrowing.range_outside.Goals as goal
 
 pub returns-then-literal-most : goal.returns-then-literal-most
-returns-then-literal-most c s lies off = above_range s c.args.literal off c.most-most.result (omega (arith, c.if-literal-least.true, c.least-least.ensures s lies)) (c.most-most.ensures s lies)
+returns-then-literal-most c s lies off = above_range s c.args.literal off c.most-most.result
+    (omega (arith, c.if-literal-least.true, c.least-least.ensures s lies)) (c.most-most.ensures s lies)
 
 pub returns-then-most-literal : goal.returns-then-most-literal
-returns-then-most-literal c s lies off = below_range s c.args.literal off c.least-least.result (c.least-least.ensures s lies) (omega (arith, c.if-most-literal.true, c.most-most.ensures s lies))
+returns-then-most-literal c s lies off = below_range s c.args.literal off c.least-least.result
+    (c.least-least.ensures s lies) (omega (arith, c.if-most-literal.true, c.most-most.ensures s lies))

@@ -7,7 +7,8 @@ use Rattle.cpg_audit.proofs.narrowing.take_off.Goals as goal
 use Rattle.cpg_audit.proofs.narrowing.take_off.Goals.{in-Where, in-Unknown}
 
 pub returns-in-Nowhere-clause-same : goal.returns-in-Nowhere-clause-same
-returns-in-Nowhere-clause-same c s leaves = passed c.args.kept.now.items c.args.cube s (λ off. rw c.literals.ensures.literals at c.in-Nowhere.ensures s (leaves off))
+returns-in-Nowhere-clause-same c s leaves = passed c.args.kept.now.items c.args.cube s
+    (λ off. rw c.literals.ensures.literals at c.in-Nowhere.ensures s (leaves off))
 
 pub returns-clause-same : goal.returns-clause-same
 returns-clause-same c s leaves = rw c.in_ok-push.ensures.items (pushed c.args.kept.now.items c.args.cube s)
@@ -17,6 +18,7 @@ returns-clause-space c s leaves off =
     let parts = or_parts (list_any (λ b. matches b.now s) c.args.kept.now.items) (matches c.args.cube.now s)
     (sym (pushed c.args.kept.now.items c.args.cube s) ∙ rw c.in_ok-push.ensures.items at off) in
     elim c.match-extent_of.branch [
-      | in-Where w ↦ rw w.space-is (w.exclude.ensures s (leaves parts.0) (sym (rw c.literals.ensures.literals at w.in-Where.ensures s (leaves parts.0)) ∙ parts.1))
+      | in-Where w ↦ rw w.space-is (w.exclude.ensures s (leaves parts.0)
+          (sym (rw c.literals.ensures.literals at w.in-Where.ensures s (leaves parts.0)) ∙ parts.1))
       | in-Unknown w ↦ rw w.space-is (leaves parts.0)
     ]

@@ -16,15 +16,18 @@ loop-place-preserved c =
           let held = list_any (λ b. matches b.now s) c.args.kept.now.items in
           c.in_ok-take_off.ensures.same s (inv.left s leaves)
           ∙ ap (λ b. b || matches c.index-by-place.result.now s) (inv.same s leaves)
-          ∙ before_place (λ b. matches b.now s) by c.loop-place.place c.index-by-place.result held c.loop-place-test.true inv.within c.index-by-place.is;
+          ∙ before_place (λ b. matches b.now s) by c.loop-place.place c.index-by-place.result held
+          c.loop-place-test.true inv.within c.index-by-place.is;
       left = λ s leaves. c.in_ok-take_off.ensures.space s (inv.left s leaves);
       grows = search rules;
       known = λ g all first. c.in_ok-take_off.ensures.known g
-          (subst (λ (b : Bor (List Literal)). IsKnown g b.now) (sym c.index-by-place.is) (all (c.loop-place.place - 1) c.index-by-place.result (omega (arith, c.loop-place-test.true, inv.within))))
+          (subst (λ (b : Bor (List Literal)). IsKnown g b.now) (sym c.index-by-place.is) (all (c.loop-place.place - 1)
+          c.index-by-place.result (omega (arith, c.loop-place-test.true, inv.within))))
           (inv.known g all first);
     }
 
 pub returns-clause-same : goal.returns-clause-same
 returns-clause-same c s leaves =
     let first : c.loop-place.place ≡ 0 = omega (arith, c.loop-place-test.false) in
-    c.loop-place.invariant.same s leaves ∙ ap (λ k. list_any (λ b. matches b.now s) c.args.kept.now.items || list_any (λ b. matches b.now s) (drop k c.args.by.now)) first
+    c.loop-place.invariant.same s leaves ∙ ap (λ k. list_any (λ b. matches b.now s) c.args.kept.now.items
+    || list_any (λ b. matches b.now s) (drop k c.args.by.now)) first

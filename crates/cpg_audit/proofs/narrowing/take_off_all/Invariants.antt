@@ -14,7 +14,8 @@ invariant-loop-place l = record {
       (list_any (λ b. matches b.now s) l.fn.kept.items || list_any (λ b. matches b.now s) (drop l.place l.by));
   left : (s : Scenario) → Leaves l.fn.space l.fn.kept.items s → Leaves l.space l.kept.items s;
   grows : length l.fn.kept.items ≤ length l.kept.items;
-  known : (g : Graph) → All (λ b. IsKnown g b.now) l.by → All (λ b. IsKnown g b.now) l.fn.kept.items → All (λ b. IsKnown g b.now) l.kept.items;
+  known : (g : Graph) → All (λ b. IsKnown g b.now) l.by → All (λ b. IsKnown g b.now) l.fn.kept.items →
+      All (λ b. IsKnown g b.now) l.kept.items;
 }
 
 abbrev pub decreases-loop-place : goal.decreases-loop-place

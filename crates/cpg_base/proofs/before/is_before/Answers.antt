@@ -8,5 +8,10 @@ at_process-requires c =
     let e = c.processes-process-items.ensures in
     let order = c.args.order.now in
     let within : c.loop-process.process-index < length order = rw e.processes at c.loop-process-test.true in
-    let below = from_order (length order) order e.order.all (get_or order c.loop-process.process-index 0) (Contains-get_or order c.loop-process.process-index 0 within) in
-    record { process = rw e.processes (rw c.requires.order at below); first = c.requires.first; second = c.requires.second }
+    let below = from_order (length order) order e.order.all (get_or order c.loop-process.process-index 0)
+    (Contains-get_or order c.loop-process.process-index 0 within) in
+    record {
+      process = rw e.processes (rw c.requires.order at below);
+      first = c.requires.first;
+      second = c.requires.second;
+    }

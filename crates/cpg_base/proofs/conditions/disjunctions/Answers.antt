@@ -15,12 +15,14 @@ pub loop-edge-preserved : goal.loop-edge-preserved
 loop-edge-preserved c = elim c.if-is_some.branch [
   | then-is_some w ↦
       let source = c.requires c.loop-edge.edge-index none c.loop-edge-test.true in record {
-        marks = rw w.found-is (marks_set c.args.edges.now c.loop-edge.edge-index none c.loop-edge-test.true c.loop-edge.found c.loop-edge.invariant.marks
+        marks = rw w.found-is (marks_set c.args.edges.now c.loop-edge.edge-index none c.loop-edge-test.true
+            c.loop-edge.found c.loop-edge.invariant.marks
             (sym c.is_some.ensures ∙ w.if-is_some.true) (omega arith));
         long = ap length w.found-is ∙ length-set c.loop-edge.found _ true ∙ c.loop-edge.invariant.long;
       }
   | else-is_some w ↦ record {
-    marks = rw w.found-is (marks_keep c.args.edges.now c.loop-edge.edge-index none c.loop-edge-test.true c.loop-edge.found c.loop-edge.invariant.marks
+    marks = rw w.found-is (marks_keep c.args.edges.now c.loop-edge.edge-index none c.loop-edge-test.true
+        c.loop-edge.found c.loop-edge.invariant.marks
         (sym c.is_some.ensures ∙ w.if-is_some.false));
     long = ap length w.found-is ∙ c.loop-edge.invariant.long;
   }

@@ -4,15 +4,18 @@ use Rattle.cpg_base.proofs.order.places_of.Goals as goal
 
 pub index_mut-requires : goal.index_mut-requires
 index_mut-requires c =
-    let long : length c.as_slice-process-items.result.now ≡ length c.args.processes.now.items = ap length c.as_slice-process-items.ensures.value in
+    let long : length c.as_slice-process-items.result.now ≡ length c.args.processes.now.items =
+    ap length c.as_slice-process-items.ensures.value in
     let w = process_within c.args.processes.now.items c.requires c.loop-i.i (omega arith) in
     rw c.as_slice-process-items.ensures.value (omega (arith, c.loop-i.invariant.long))
 
 pub loop-i-preserved : goal.loop-i-preserved
 loop-i-preserved c = rw c.as_slice-process-items.ensures.value
-    (written_more c.args.processes.now.items c.requires c.loop-i.places.items c.loop-i.i (omega (arith, ap length c.as_slice-process-items.ensures.value)) c.loop-i.invariant)
+    (written_more c.args.processes.now.items c.requires c.loop-i.places.items c.loop-i.i
+    (omega (arith, ap length c.as_slice-process-items.ensures.value)) c.loop-i.invariant)
 
 pub returns : goal.returns
 returns c = all_written c.args.processes.now.items c.requires c.loop-i.places.items
-    (let e : c.loop-i.i ≡ length c.args.processes.now.items = omega (arith, ap length c.as_slice-process-items.ensures.value) in
+    (let e : c.loop-i.i ≡ length c.args.processes.now.items =
+    omega (arith, ap length c.as_slice-process-items.ensures.value) in
     subst (AreWritten c.args.processes.now.items c.loop-i.places.items) e c.loop-i.invariant)

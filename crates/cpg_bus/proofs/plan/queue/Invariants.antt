@@ -4,5 +4,6 @@ use Rattle.cpg_bus.specs.Plan.{broadcasts_of}
 use Rattle.cpg_bus.proofs.plan.queue.Given as goal
 
 abbrev pub invariant-loop-edge : goal.invariant-loop-edge
-invariant-loop-edge l = l.items.items ≡ broadcasts_of l.problem (condition_of l.problem l.process) ++ map (message_item l.problem)
+invariant-loop-edge l =
+    l.items.items ≡ broadcasts_of l.problem (condition_of l.problem l.process) ++ map (message_item l.problem)
     (filter (is_message l.problem) (take l.edge-index (outputs l.problem l.process)))

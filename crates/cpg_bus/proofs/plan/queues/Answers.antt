@@ -3,5 +3,6 @@ use Rattle.cpg_bus.specs.Plan.{queue_of}
 use Rattle.cpg_bus.proofs.plan.queues.Goals as goal
 
 pub loop-process-preserved : goal.loop-process-preserved
-loop-process-preserved c = map_below_push (queue_of c.args.problem.now) c.loop-process.queues.items c.push.new.self.items c.in_ok-queue.field-0 c.loop-process.process c.loop-process.invariant
+loop-process-preserved c = map_below_push (queue_of c.args.problem.now) c.loop-process.queues.items
+    c.push.new.self.items c.in_ok-queue.field-0 c.loop-process.process c.loop-process.invariant
     c.in_ok-queue.ensures c.in_ok-push.ensures.items

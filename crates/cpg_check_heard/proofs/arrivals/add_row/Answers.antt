@@ -13,9 +13,12 @@ loop-place-preserved c =
     let t = c.args.teller.now in
     let places = c.as_slice-place-items.result.now in
     record {
-      each = λ g known can old. c.in_ok-add_column.ensures.each g known can (c.loop-place.invariant.each g known can old);
-      told = λ g b s. row_more (is_telling_at g t.telling c.args.time b t.line.now.columns.now s) places c.loop-place.place-index 0 c.loop-place-test.true
-          (do_tell g c.args.time b c.args.arrivals.now.items s) (do_tell g c.args.time b c.loop-place.arrivals.items s) (do_tell g c.args.time b c.add_column.new.arrivals.items s)
+      each =
+          λ g known can old. c.in_ok-add_column.ensures.each g known can (c.loop-place.invariant.each g known can old);
+      told = λ g b s. row_more (is_telling_at g t.telling c.args.time b t.line.now.columns.now s) places
+          c.loop-place.place-index 0 c.loop-place-test.true
+          (do_tell g c.args.time b c.args.arrivals.now.items s) (do_tell g c.args.time b c.loop-place.arrivals.items s)
+          (do_tell g c.args.time b c.add_column.new.arrivals.items s)
           (c.loop-place.invariant.told g b s)
           (c.in_ok-add_column.ensures.told g b s);
     }
@@ -25,12 +28,15 @@ returns-clause-told c = λ g b s m.
     let t = c.args.teller.now in
     let places = c.as_slice-place-items.result.now in
     c.loop-place.invariant.told g b s ∙ ap (λ x. do_tell g c.args.time b c.args.arrivals.now.items s || x)
-    (ap (list_any (is_telling_at g t.telling c.args.time b t.line.now.columns.now s)) (take_all c.loop-place.place-index places c.loop-place-test.false)
+    (ap (list_any (is_telling_at g t.telling c.args.time b t.line.now.columns.now s))
+    (take_all c.loop-place.place-index places c.loop-place-test.false)
     ∙ row_all g t.telling c.args.time b t.line.now.columns.now places s
-    (λ j l at. subst (λ xs. Contains xs j) (sym c.as_slice-place-items.ensures.value) (c.in_ok-places.ensures s j l at m)))
+    (λ j l at.
+    subst (λ xs. Contains xs j) (sym c.as_slice-place-items.ensures.value) (c.in_ok-places.ensures s j l at m)))
 
 pub returns-then-not-may_have_come-clause-told : goal.returns-then-not-may_have_come-clause-told
 returns-then-not-may_have_come-clause-told c = λ g b s m.
     let t = c.args.teller.now in
     let told = do_tell g c.args.time b c.args.arrivals.now.items s in
-    sym (ap (λ x. told || x) (late_row (is_telling g t.telling c.args.time b s) t.line.now.columns.now t.line.now.first c.requires.first (c.if-not-may_have_come.ensures g b s)) ∙ or-false told)
+    sym (ap (λ x. told || x) (late_row (is_telling g t.telling c.args.time b s) t.line.now.columns.now t.line.now.first
+    c.requires.first (c.if-not-may_have_come.ensures g b s)) ∙ or-false told)

@@ -11,8 +11,12 @@ use Rattle.cpg_check_heard.proofs.arrivals.add_row.Given as goal
 
 abbrev pub invariant-loop-place : goal.invariant-loop-place
 invariant-loop-place l = record {
-  each : (g : Graph) → All (λ (c : Column). IsKnown g c.cube) l.teller.line.now.columns.now → ((b : LiteralBound) → CanTell g b l.teller.telling) → All (IsArrival g) l.fn.arrivals.items →
+  each : (g : Graph) → All (λ (c : Column). IsKnown g c.cube) l.teller.line.now.columns.now →
+      ((b : LiteralBound) → CanTell g b l.teller.telling) →
+      All (IsArrival g) l.fn.arrivals.items →
       All (IsArrival g) l.arrivals.items;
   told : (g : Graph) (b : LiteralBound) (s : Scenario) → do_tell g l.time b l.arrivals.items s ≡
-      (do_tell g l.time b l.fn.arrivals.items s || list_any (is_telling_at g l.teller.telling l.time b l.teller.line.now.columns.now s) (take l.place-index l.place-items));
+      (do_tell g l.time b l.fn.arrivals.items s
+      || list_any (is_telling_at g l.teller.telling l.time b l.teller.line.now.columns.now s)
+      (take l.place-index l.place-items));
 }

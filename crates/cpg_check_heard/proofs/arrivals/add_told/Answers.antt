@@ -9,12 +9,14 @@ use Rattle.cpg_check_heard.proofs.arrivals.add_told.Goals as goal
 
 pub part_of-requires-clause-can : goal.part_of-requires-clause-can
 part_of-requires-clause-can c =
-    let is = subst (IsArrival c.args.problem.now) (sym c.arrival-item.is) (c.requires.arrivals c.loop-arrival.arrival-index c.arrival-item.result c.loop-arrival-test.true) in
+    let is = subst (IsArrival c.args.problem.now) (sym c.arrival-item.is)
+    (c.requires.arrivals c.loop-arrival.arrival-index c.arrival-item.result c.loop-arrival-test.true) in
     is.can c.args.bound
 
 pub part_of-requires-clause-cube : goal.part_of-requires-clause-cube
 part_of-requires-clause-cube c =
-    let is = subst (IsArrival c.args.problem.now) (sym c.arrival-item.is) (c.requires.arrivals c.loop-arrival.arrival-index c.arrival-item.result c.loop-arrival-test.true) in
+    let is = subst (IsArrival c.args.problem.now) (sym c.arrival-item.is)
+    (c.requires.arrivals c.loop-arrival.arrival-index c.arrival-item.result c.loop-arrival-test.true) in
     is.known
 
 pub loop-arrival-preserved : goal.loop-arrival-preserved
@@ -22,11 +24,16 @@ loop-arrival-preserved c =
     let g = c.args.problem.now in
     let d = c.arrival-item.result in
     record {
-      known = rw c.in_ok-add.ensures (known_add g c.loop-arrival.told.items c.in_ok-part.part c.loop-arrival.invariant.known c.in_ok-part.ensures.known);
-      told = λ s i. row_more (λ (a : Arrival). is_telling g a.telling c.args.time c.args.bound s a.column.now) c.args.arrivals.now c.loop-arrival.arrival-index d c.loop-arrival-test.true
-          (list_any (λ b. matches b s) c.args.told.now.items) (list_any (λ b. matches b s) c.loop-arrival.told.items) (list_any (λ b. matches b s) c.add.new.told.items)
+      known = rw c.in_ok-add.ensures (known_add g c.loop-arrival.told.items c.in_ok-part.part
+          c.loop-arrival.invariant.known c.in_ok-part.ensures.known);
+      told = λ s i. row_more (λ (a : Arrival). is_telling g a.telling c.args.time c.args.bound s a.column.now)
+          c.args.arrivals.now c.loop-arrival.arrival-index d c.loop-arrival-test.true
+          (list_any (λ b. matches b s) c.args.told.now.items) (list_any (λ b. matches b s) c.loop-arrival.told.items)
+          (list_any (λ b. matches b s) c.add.new.told.items)
           (c.loop-arrival.invariant.told s i)
           (ap (list_any (λ b. matches b s)) c.in_ok-add.ensures
-          ∙ told_add g (λ t. is_telling g d.telling c.args.time c.args.bound t d.column.now) c.loop-arrival.told.items c.in_ok-part.part c.in_ok-part.ensures.part s i
-          ∙ ap (λ (a : Arrival). list_any (λ b. matches b s) c.loop-arrival.told.items || is_telling g a.telling c.args.time c.args.bound s a.column.now) c.arrival-item.is);
+          ∙ told_add g (λ t. is_telling g d.telling c.args.time c.args.bound t d.column.now) c.loop-arrival.told.items
+          c.in_ok-part.part c.in_ok-part.ensures.part s i
+          ∙ ap (λ (a : Arrival). list_any (λ b. matches b s) c.loop-arrival.told.items
+          || is_telling g a.telling c.args.time c.args.bound s a.column.now) c.arrival-item.is);
     }

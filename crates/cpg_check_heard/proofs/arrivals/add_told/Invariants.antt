@@ -10,5 +10,6 @@ abbrev pub invariant-loop-arrival : goal.invariant-loop-arrival
 invariant-loop-arrival l = record {
   known : All (IsKnown l.problem) l.told.items;
   told : (s : Scenario) → IsScenario l.problem s → list_any (λ b. matches b s) l.told.items ≡
-      (list_any (λ b. matches b s) l.fn.told.items || do_tell l.problem l.time l.bound (take l.arrival-index l.arrivals) s);
+      (list_any (λ b. matches b s) l.fn.told.items
+      || do_tell l.problem l.time l.bound (take l.arrival-index l.arrivals) s);
 }

@@ -6,5 +6,6 @@ use Rattle.cpg_check_heard.proofs.arrivals.tells_one_whole.Goals as goal
 
 pub any-requires-clause-callable : goal.any-requires-clause-callable
 any-requires-clause-callable c =
-    let known : All (λ (a : Arrival). IsKnown c.args.problem.now a.column.now.cube) c.args.arrivals.now = λ i d l. (c.requires.arrivals i d l).known in
+    let known : All (λ (a : Arrival). IsKnown c.args.problem.now a.column.now.cube) c.args.arrivals.now =
+    λ i d l. (c.requires.arrivals i d l).known in
     grind (serving, known)

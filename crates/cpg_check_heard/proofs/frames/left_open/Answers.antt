@@ -9,15 +9,19 @@ use Rattle.cpg_check_heard.proofs.frames.left_open.Goals as goal
 pub loop-bound-preserved-then-tells_one_whole : goal.loop-bound-preserved-then-tells_one_whole
 loop-bound-preserved-then-tells_one_whole c = record {
   known = c.loop-bound.invariant.known;
-  left = λ s test law m off. left_more test c.args.bounds.now c.loop-bound.bound-index _ c.loop-bound-test.true c.loop-bound.left.items (c.loop-bound.invariant.left s test law m off)
-      (off _ (c.requires.bounds c.loop-bound.bound-index _ c.loop-bound-test.true) (c.if-tells_one_whole.ensures s law m));
+  left = λ s test law m off. left_more test c.args.bounds.now c.loop-bound.bound-index _ c.loop-bound-test.true
+      c.loop-bound.left.items (c.loop-bound.invariant.left s test law m off)
+      (off _ (c.requires.bounds c.loop-bound.bound-index _ c.loop-bound-test.true)
+      (c.if-tells_one_whole.ensures s law m));
 }
 
 pub loop-bound-preserved : goal.loop-bound-preserved
 loop-bound-preserved c =
     let P = λ (b : LiteralBound). IsVariable c.args.problem.now (variable_of b) in
     record {
-      known = subst (All P) (sym c.in_ok-push.ensures.items) (All-push P c.loop-bound.left.items _ c.loop-bound.invariant.known (c.requires.bounds c.loop-bound.bound-index _ c.loop-bound-test.true));
-      left = λ s test law m off. kept_more test c.args.bounds.now c.loop-bound.bound-index _ c.loop-bound-test.true c.loop-bound.left.items
+      known = subst (All P) (sym c.in_ok-push.ensures.items) (All-push P c.loop-bound.left.items _
+          c.loop-bound.invariant.known (c.requires.bounds c.loop-bound.bound-index _ c.loop-bound-test.true));
+      left = λ s test law m off.
+          kept_more test c.args.bounds.now c.loop-bound.bound-index _ c.loop-bound-test.true c.loop-bound.left.items
           (c.loop-bound.invariant.left s test law m off) c.push.new.self.items c.in_ok-push.ensures.items;
     }

@@ -12,6 +12,7 @@ abbrev pub invariant-loop-bound : goal.invariant-loop-bound
 invariant-loop-bound l = record {
   known : All (λ (b : LiteralBound). IsVariable l.problem (variable_of b)) l.left.items;
   left : (s : Scenario) (test : LiteralBound → Bool) → IsScenario l.problem s → matches l.column.cube s ≡ true →
-      ((b : LiteralBound) → IsVariable l.problem (variable_of b) → do_tell l.problem l.column.time b l.arrivals s ≡ true → test b ≡ false)
+      ((b : LiteralBound) → IsVariable l.problem (variable_of b) →
+      do_tell l.problem l.column.time b l.arrivals s ≡ true → test b ≡ false)
       → list_any test l.left.items ≡ list_any test (take l.bound-index l.bounds);
 }

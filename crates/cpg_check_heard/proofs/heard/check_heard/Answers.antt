@@ -18,46 +18,76 @@ use Rattle.cpg_check_heard.proofs.heard.check_heard.Goals as goal
 
 pub first_unheard-requires-clause-hearing : goal.first_unheard-requires-clause-hearing
 first_unheard-requires-clause-hearing c =
-    let are : AreTablesOf (head_of c.args.admitted.now.graph) c.args.tables.now.nodes = tables_of_graph c.args.admitted.now.graph c.args.tables.now.head c.args.tables.now.nodes c.requires.head
+    let are : AreTablesOf (head_of c.args.admitted.now.graph) c.args.tables.now.nodes =
+    tables_of_graph c.args.admitted.now.graph c.args.tables.now.head c.args.tables.now.nodes c.requires.head
     c.columns_of-columns.ensures.lawful in
-    record { admitted = c.problem-problem.ensures.admitted; head = c.requires.head; tables = are; rules = c.requires.rules; tellers = c.in_ok-tellers.ensures c.args.tables.now.nodes c.requires.lines }
+    record {
+      admitted = c.problem-problem.ensures.admitted;
+      head = c.requires.head;
+      tables = are;
+      rules = c.requires.rules;
+      tellers = c.in_ok-tellers.ensures c.args.tables.now.nodes c.requires.lines;
+    }
 
 pub first_unheard-requires-clause-active : goal.first_unheard-requires-clause-active
 first_unheard-requires-clause-active c =
     let g = c.args.admitted.now.graph in
     let tables = c.args.tables.now.nodes in
     let x = c.loop-item.item in
-    let below : x < item_count g = omega (arith, c.loop-item-test.true, c.item_count-item-end.ensures, ap item_count c.problem-problem.ensures.problem) in
-    rw c.columns_of-columns.ensures.columns (All-weaker (Contains (columns_of tables x)) (HasActive g) (λ d k s l law m n. literal_active g tables s law x below c.requires.rules d k m l n)
+    let below : x < item_count g = omega (
+      arith,
+      c.loop-item-test.true,
+      c.item_count-item-end.ensures,
+      ap item_count c.problem-problem.ensures.problem,
+    ) in
+    rw c.columns_of-columns.ensures.columns (All-weaker (Contains (columns_of tables x)) (HasActive g)
+    (λ d k s l law m n. literal_active g tables s law x below c.requires.rules d k m l n)
     (columns_of tables x) (All-contains_itself (columns_of tables x)))
 
 pub first_unheard-requires-clause-columns : goal.first_unheard-requires-clause-columns
 first_unheard-requires-clause-columns c =
-    let are : AreTablesOf (head_of c.args.admitted.now.graph) c.args.tables.now.nodes = tables_of_graph c.args.admitted.now.graph c.args.tables.now.head c.args.tables.now.nodes c.requires.head
+    let are : AreTablesOf (head_of c.args.admitted.now.graph) c.args.tables.now.nodes =
+    tables_of_graph c.args.admitted.now.graph c.args.tables.now.head c.args.tables.now.nodes c.requires.head
     c.columns_of-columns.ensures.lawful in
-    rw c.columns_of-columns.ensures.columns (columns_known c.problem-problem.ensures.admitted c.args.tables.now.nodes are c.loop-item.item)
+    rw c.columns_of-columns.ensures.columns
+    (columns_known c.problem-problem.ensures.admitted c.args.tables.now.nodes are c.loop-item.item)
 
 pub first_unheard-requires-clause-few : goal.first_unheard-requires-clause-few
-first_unheard-requires-clause-few c = rw c.columns_of-columns.ensures.columns (columns_few c.args.tables.now.head c.args.tables.now.nodes c.columns_of-columns.ensures.lawful c.loop-item.item)
+first_unheard-requires-clause-few c = rw c.columns_of-columns.ensures.columns
+    (columns_few c.args.tables.now.head c.args.tables.now.nodes c.columns_of-columns.ensures.lawful c.loop-item.item)
 
 pub returns-in-Some-clause-first : goal.returns-in-Some-clause-first
 returns-in-Some-clause-first c =
     let g = c.args.admitted.now.graph in
-    let first : IsFirstColumn g c.args.admitted.now.order (is_unheard g c.args.tables.now.nodes c.loop-item.item (columns_of c.args.tables.now.nodes c.loop-item.item))
+    let first : IsFirstColumn g c.args.admitted.now.order
+    (is_unheard g c.args.tables.now.nodes c.loop-item.item (columns_of c.args.tables.now.nodes c.loop-item.item))
     (c.in-Some.column, c.in-Some.scenario) =
     rw (← c.columns_of-columns.ensures.columns) (rw c.in-Some.is at c.in_ok-unheard.ensures.first) in
-    first_violation Rule.Heard g c.args.tables.now.nodes c.loop-item.item (λ y s. refl) c.number.result c.number.ensures c.args.admitted.now.order c.in-Some.column c.in-Some.scenario
-    (omega (arith, c.loop-item-test.true, c.item_count-item-end.ensures, ap item_count c.problem-problem.ensures.problem)) c.loop-item.invariant first
+    first_violation Rule.Heard g c.args.tables.now.nodes c.loop-item.item
+    (λ y s. refl) c.number.result c.number.ensures c.args.admitted.now.order c.in-Some.column c.in-Some.scenario
+    (omega (
+      arith,
+      c.loop-item-test.true,
+      c.item_count-item-end.ensures,
+      ap item_count c.problem-problem.ensures.problem,
+    )) c.loop-item.invariant first
 
 pub loop-item-preserved : goal.loop-item-preserved
 loop-item-preserved c =
     let g = c.args.admitted.now.graph in
-    let none : (i : ℕ) (s : Scenario) → IsScenario g s → is_unheard g c.args.tables.now.nodes c.loop-item.item (columns_of c.args.tables.now.nodes c.loop-item.item) i s ≡ false =
+    let none : (i : ℕ) (s : Scenario) → IsScenario g s → is_unheard g c.args.tables.now.nodes c.loop-item.item
+    (columns_of c.args.tables.now.nodes c.loop-item.item) i s ≡ false =
     rw (← c.columns_of-columns.ensures.columns) (rw c.in_default.is at c.in_ok-unheard.ensures.none) in
     none_more Rule.Heard g c.args.tables.now.nodes c.loop-item.item (λ y s. refl) c.loop-item.invariant none
 
 pub loop-item-preserved-then-is_marked : goal.loop-item-preserved-then-is_marked
 loop-item-preserved-then-is_marked c =
     let g = c.args.admitted.now.graph in
-    let below : c.loop-item.item < item_count g = omega (arith, c.loop-item-test.true, c.item_count-item-end.ensures, ap item_count c.problem-problem.ensures.problem) in
-    marked_more g c.args.tables.now.nodes Rule.Heard c.args.marks.now c.requires.marks c.loop-item.item below (sym c.if-is_marked.ensures) c.loop-item.invariant
+    let below : c.loop-item.item < item_count g = omega (
+      arith,
+      c.loop-item-test.true,
+      c.item_count-item-end.ensures,
+      ap item_count c.problem-problem.ensures.problem,
+    ) in
+    marked_more g c.args.tables.now.nodes Rule.Heard c.args.marks.now c.requires.marks c.loop-item.item below
+    (sym c.if-is_marked.ensures) c.loop-item.invariant

@@ -1,4 +1,5 @@
-use Rattle.std.proofs.Common.{◌≡◌, ◌<◌, ◌&&◌, ◌∙◌, false, Some, None, All, Contains, length, ap, sym, subst, arith, inl, inr}
+use Rattle.std.proofs.Common.{◌≡◌, ◌<◌, ◌&&◌, ◌∙◌, false, Some, None, All, Contains, length, ap, sym, subst, arith, inl}
+use Rattle.std.proofs.Common.{inr}
 use Rattle.std.proofs.lemmas.Bool.{cases_lt}
 use Rattle.std.proofs.lemmas.List.Elements.{All-contains_itself}
 use Rattle.cpg_base.specs.Graph.{home}
@@ -16,18 +17,25 @@ use Rattle.cpg_check_heard.proofs.heard.first_unheard.Goals as goal
 pub ranks-requires-clause-items : goal.ranks-requires-clause-items
 ranks-requires-clause-items c =
     let g = c.args.hearing.now.admitted.now.graph in
-    let inside : c.home-node.result < length g.nodes = rw c.problem-problem.ensures.problem at c.home-node.ensures.within in
-    let are : c.hears-hears.result.now ≡ heard_by g c.home-node.result = c.hears-hears.ensures ∙ ap (λ (i : ItemLists). i.hears) c.in_ok-items.ensures ∙
+    let inside : c.home-node.result < length g.nodes =
+    rw c.problem-problem.ensures.problem at c.home-node.ensures.within in
+    let are : c.hears-hears.result.now ≡ heard_by g c.home-node.result =
+    c.hears-hears.ensures ∙ ap (λ (i : ItemLists). i.hears) c.in_ok-items.ensures ∙
     ap (λ h. hears_of h c.home-node.result) c.head.ensures.head
-    ∙ hears_of_graph g c.args.hearing.now.tables.now.head c.requires.hearing.head c.requires.hearing.admitted.limits c.home-node.result inside in
-    subst (All (Contains (heard_by g c.home-node.result))) (sym are) (All-contains_itself (heard_by g c.home-node.result))
+    ∙ hears_of_graph g c.args.hearing.now.tables.now.head c.requires.hearing.head c.requires.hearing.admitted.limits
+    c.home-node.result inside in
+    subst (All (Contains (heard_by g c.home-node.result))) (sym are)
+    (All-contains_itself (heard_by g c.home-node.result))
 
 pub least_unheard-requires-clause-items : goal.least_unheard-requires-clause-items
 least_unheard-requires-clause-items c =
     let g = c.args.hearing.now.admitted.now.graph in
-    let inside : c.home-node.result < length g.nodes = rw c.problem-problem.ensures.problem at c.home-node.ensures.within in
-    c.hears-hears.ensures ∙ ap (λ (i : ItemLists). i.hears) c.in_ok-items.ensures ∙ ap (λ h. hears_of h c.home-node.result) c.head.ensures.head
-    ∙ hears_of_graph g c.args.hearing.now.tables.now.head c.requires.hearing.head c.requires.hearing.admitted.limits c.home-node.result inside
+    let inside : c.home-node.result < length g.nodes =
+    rw c.problem-problem.ensures.problem at c.home-node.ensures.within in
+    c.hears-hears.ensures ∙ ap (λ (i : ItemLists). i.hears) c.in_ok-items.ensures
+    ∙ ap (λ h. hears_of h c.home-node.result) c.head.ensures.head
+    ∙ hears_of_graph g c.args.hearing.now.tables.now.head c.requires.hearing.head c.requires.hearing.admitted.limits
+    c.home-node.result inside
 
 pub returns-in-Some-clause-first : goal.returns-in-Some-clause-first
 returns-in-Some-clause-first c =
@@ -35,11 +43,16 @@ returns-in-Some-clause-first c =
     let order = c.args.hearing.now.admitted.now.order in
     let tables = c.args.hearing.now.tables.now.nodes in
     let d = c.index-columns-place.result in
-    let node : c.home-node.result ≡ home g c.args.item = c.home-node.ensures.home ∙ ap (λ h. home h c.args.item) c.problem-problem.ensures.problem in
-    let found = subst (λ e. IsFirst g order (λ s. matches e.cube s && is_column_unheard g tables (home g c.args.item) s e) (Some c.in-Some.scenario)) c.index-columns-place.is
-    (subst (λ n. IsFirst g order (λ s. matches d.cube s && is_column_unheard g tables n s d) (Some c.in-Some.scenario)) node (rw c.in-Some.is at c.in_ok-unheard.ensures)) in
+    let node : c.home-node.result ≡ home g c.args.item =
+    c.home-node.ensures.home ∙ ap (λ h. home h c.args.item) c.problem-problem.ensures.problem in
+    let found =
+    subst (λ e. IsFirst g order (λ s. matches e.cube s && is_column_unheard g tables (home g c.args.item) s e)
+    (Some c.in-Some.scenario)) c.index-columns-place.is
+    (subst (λ n. IsFirst g order (λ s. matches d.cube s && is_column_unheard g tables n s d) (Some c.in-Some.scenario))
+    node (rw c.in-Some.is at c.in_ok-unheard.ensures)) in
     record {
-      least = broken_place (λ s e. breaks_heard g tables s c.args.item e) c.args.columns.now c.loop-place.place g order d c.loop-place-test.true (Some c.in-Some.scenario) found;
+      least = broken_place (λ s e. breaks_heard g tables s c.args.item e) c.args.columns.now c.loop-place.place g order
+          d c.loop-place-test.true (Some c.in-Some.scenario) found;
       columns = c.loop-place.invariant;
     }
 
@@ -49,12 +62,19 @@ loop-place-preserved c =
     let order = c.args.hearing.now.admitted.now.order in
     let tables = c.args.hearing.now.tables.now.nodes in
     let d = c.index-columns-place.result in
-    let node : c.home-node.result ≡ home g c.args.item = c.home-node.ensures.home ∙ ap (λ h. home h c.args.item) c.problem-problem.ensures.problem in
-    let found = subst (λ e. IsFirst g order (λ s. matches e.cube s && is_column_unheard g tables (home g c.args.item) s e) None) c.index-columns-place.is
-    (subst (λ n. IsFirst g order (λ s. matches d.cube s && is_column_unheard g tables n s d) None) node (rw c.in_default.is at c.in_ok-unheard.ensures)) in
-    let none : (s : Scenario) → IsScenario g s → is_unheard g tables c.args.item c.args.columns.now c.loop-place.place s ≡ false =
-    broken_place (λ s e. breaks_heard g tables s c.args.item e) c.args.columns.now c.loop-place.place g order d c.loop-place-test.true None found in
+    let node : c.home-node.result ≡ home g c.args.item =
+    c.home-node.ensures.home ∙ ap (λ h. home h c.args.item) c.problem-problem.ensures.problem in
+    let found =
+    subst (λ e. IsFirst g order (λ s. matches e.cube s && is_column_unheard g tables (home g c.args.item) s e) None)
+    c.index-columns-place.is
+    (subst (λ n. IsFirst g order (λ s. matches d.cube s && is_column_unheard g tables n s d) None) node
+    (rw c.in_default.is at c.in_ok-unheard.ensures)) in
+    let none : (s : Scenario) → IsScenario g s →
+    is_unheard g tables c.args.item c.args.columns.now c.loop-place.place s ≡ false =
+    broken_place (λ s e. breaks_heard g tables s c.args.item e) c.args.columns.now c.loop-place.place g order d
+    c.loop-place-test.true None found in
     λ i s l law. elim (cases_lt i c.loop-place.place) [
       | inl lt ↦ c.loop-place.invariant i s lt law
-      | inr ge ↦ let same : c.loop-place.place ≡ i = omega arith in subst (λ j. is_unheard g tables c.args.item c.args.columns.now j s ≡ false) same (none s law)
+      | inr ge ↦ let same : c.loop-place.place ≡ i = omega arith in
+          subst (λ j. is_unheard g tables c.args.item c.args.columns.now j s ≡ false) same (none s law)
     ]

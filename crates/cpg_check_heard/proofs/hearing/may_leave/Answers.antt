@@ -4,5 +4,6 @@ use Rattle.cpg_check_heard.proofs.Untolds.{left_nowhere}
 use Rattle.cpg_check_heard.proofs.hearing.may_leave.Goals as goal
 
 pub returns : goal.returns
-returns c = rw c.is_some.ensures (left_nowhere c.args.admitted.now.graph c.args.admitted.now.order c.args.cube.now c.args.told.now c.in_ok-left.left (λ s. list_any (λ b. matches b s) c.args.told.now)
+returns c = rw c.is_some.ensures (left_nowhere c.args.admitted.now.graph c.args.admitted.now.order c.args.cube.now
+    c.args.told.now c.in_ok-left.left (λ s. list_any (λ b. matches b s) c.args.told.now)
     (λ s i m t. t) c.in_ok-left.ensures)

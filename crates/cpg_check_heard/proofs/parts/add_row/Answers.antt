@@ -13,11 +13,15 @@ loop-place-preserved c =
     let g = c.args.problem.now in
     let places = c.as_slice-place-items.result.now in
     record {
-      known = rw c.in_ok-add.ensures (known_add g c.loop-place.told.items c.in_ok-part.part c.loop-place.invariant.known c.in_ok-part.ensures.known);
-      told = λ s i. row_more (is_telling_at g c.args.teller.now.telling c.args.time c.args.bound c.args.teller.now.line.now.columns.now s) places c.loop-place.place-index 0 c.loop-place-test.true
-          (list_any (λ b. matches b s) c.args.told.now.items) (list_any (λ b. matches b s) c.loop-place.told.items) (list_any (λ b. matches b s) c.add.new.told.items) (c.loop-place.invariant.told s i)
+      known = rw c.in_ok-add.ensures (known_add g c.loop-place.told.items c.in_ok-part.part c.loop-place.invariant.known
+          c.in_ok-part.ensures.known);
+      told = λ s i. row_more (is_telling_at g c.args.teller.now.telling c.args.time c.args.bound
+          c.args.teller.now.line.now.columns.now s) places c.loop-place.place-index 0 c.loop-place-test.true
+          (list_any (λ b. matches b s) c.args.told.now.items) (list_any (λ b. matches b s) c.loop-place.told.items)
+          (list_any (λ b. matches b s) c.add.new.told.items) (c.loop-place.invariant.told s i)
           (ap (list_any (λ b. matches b s)) c.in_ok-add.ensures
-          ∙ told_add g (λ t. is_telling_at g c.args.teller.now.telling c.args.time c.args.bound c.args.teller.now.line.now.columns.now t (get_or places c.loop-place.place-index 0))
+          ∙ told_add g (λ t. is_telling_at g c.args.teller.now.telling c.args.time c.args.bound
+          c.args.teller.now.line.now.columns.now t (get_or places c.loop-place.place-index 0))
           c.loop-place.told.items c.in_ok-part.part c.in_ok-part.ensures.part s i);
     }
 
@@ -26,14 +30,17 @@ returns-clause-told c = λ s i m.
     let g = c.args.problem.now in
     let places = c.as_slice-place-items.result.now in
     c.loop-place.invariant.told s i ∙ ap (λ t. list_any (λ b. matches b s) c.args.told.now.items || t)
-    (ap (list_any (is_telling_at g c.args.teller.now.telling c.args.time c.args.bound c.args.teller.now.line.now.columns.now s)) (take_all c.loop-place.place-index places c.loop-place-test.false)
+    (ap (list_any (is_telling_at g c.args.teller.now.telling c.args.time c.args.bound
+    c.args.teller.now.line.now.columns.now s)) (take_all c.loop-place.place-index places c.loop-place-test.false)
     ∙ row_all g c.args.teller.now.telling c.args.time c.args.bound c.args.teller.now.line.now.columns.now places s
-    (λ j l t. subst (λ xs. Contains xs j) (sym c.as_slice-place-items.ensures.value) (c.in_ok-places.ensures s j l t m)))
+    (λ j l t.
+    subst (λ xs. Contains xs j) (sym c.as_slice-place-items.ensures.value) (c.in_ok-places.ensures s j l t m)))
 
 pub returns-then-not-may_have_come-clause-told : goal.returns-then-not-may_have_come-clause-told
 returns-then-not-may_have_come-clause-told c = λ s i m.
     let g = c.args.problem.now in
     let t = c.args.teller.now in
     let told = list_any (λ b. matches b s) c.args.told.now.items in
-    sym (ap (λ x. told || x) (late_row (is_telling g t.telling c.args.time c.args.bound s) t.line.now.columns.now t.line.now.first c.requires.line.first
+    sym (ap (λ x. told || x) (late_row (is_telling g t.telling c.args.time c.args.bound s) t.line.now.columns.now
+    t.line.now.first c.requires.line.first
     (c.if-not-may_have_come.ensures g c.args.bound s)) ∙ or-false told)

@@ -10,5 +10,7 @@ abbrev pub invariant-loop-place : goal.invariant-loop-place
 invariant-loop-place l = record {
   known : All (IsKnown l.problem) l.told.items;
   told : (s : Scenario) → IsScenario l.problem s → list_any (λ b. matches b s) l.told.items ≡
-      (list_any (λ b. matches b s) l.fn.told.items || list_any (is_telling_at l.problem l.teller.telling l.time l.bound l.teller.line.now.columns.now s) (take l.place-index l.place-items));
+      (list_any (λ b. matches b s) l.fn.told.items
+      || list_any (is_telling_at l.problem l.teller.telling l.time l.bound l.teller.line.now.columns.now s)
+      (take l.place-index l.place-items));
 }

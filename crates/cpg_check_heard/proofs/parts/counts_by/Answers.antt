@@ -5,5 +5,7 @@ use Rattle.cpg_check_heard.proofs.parts.counts_by.Goals as goal
 
 pub returns-then-duration-left-clause-counts : goal.returns-then-duration-left-clause-counts
 returns-then-duration-left-clause-counts c =
-    let here : c.args.time - c.args.start < duration c.args.problem.now c.args.process c.loop-count.count = omega (arith, c.if-duration-left.true, c.duration.ensures.duration) in
-    counts_here c.args.problem.now c.args.process c.args.start c.args.time c.if-start-time.false c.loop-count.count c.loop-count.invariant here
+    let here : c.args.time - c.args.start < duration c.args.problem.now c.args.process c.loop-count.count =
+    omega (arith, c.if-duration-left.true, c.duration.ensures.duration) in
+    counts_here c.args.problem.now c.args.process c.args.start c.args.time c.if-start-time.false c.loop-count.count
+    c.loop-count.invariant here

@@ -9,7 +9,8 @@ use Rattle.cpg_check_heard.proofs.PartLaws.{end_none, end_apart, end_told, part_
 use Rattle.cpg_check_heard.proofs.parts.end_part.Goals as goal
 
 pub returns-then-counts-eq0-clause-part : goal.returns-then-counts-eq0-clause-part
-returns-then-counts-eq0-clause-part c = end_none c.args.problem.now c.counts_by-counts.ensures.limits.few_processes c.args.process c.args.column.now c.args.time c.args.bound c.requires.can
+returns-then-counts-eq0-clause-part c = end_none c.args.problem.now c.counts_by-counts.ensures.limits.few_processes
+    c.args.process c.args.column.now c.args.time c.args.bound c.requires.can
     c.requires.variable
     c.counts_by-counts.result c.counts_by-counts.ensures.counts c.if-counts-eq0.true
 
@@ -17,25 +18,33 @@ pub overflow_cast-come : goal.overflow_cast-come
 overflow_cast-come c = omega (arith, c.requires.can.0, c.counts_by-counts.ensures.limits.few_processes)
 
 pub returns-in_default-clause-part : goal.returns-in_default-clause-part
-returns-in_default-clause-part c = end_apart c.args.problem.now c.counts_by-counts.ensures.limits.few_processes c.args.process c.args.column.now c.args.time c.args.bound c.requires.can
+returns-in_default-clause-part c = end_apart c.args.problem.now c.counts_by-counts.ensures.limits.few_processes
+    c.args.process c.args.column.now c.args.time c.args.bound c.requires.can
     c.requires.variable
-    c.counts_by-counts.result c.counts_by-counts.ensures.counts (omega (arith, c.if-counts-eq0.false)) (rw c.in_default.is at c.in_ok-part.ensures.none)
+    c.counts_by-counts.result c.counts_by-counts.ensures.counts (omega (arith, c.if-counts-eq0.false))
+    (rw c.in_default.is at c.in_ok-part.ensures.none)
 
 pub returns-clause-part : goal.returns-clause-part
 returns-clause-part c =
     let g = c.args.problem.now in
     let told : IsPart g (λ s. holds s (range_of g.faults c.args.bound) && matches c.in-Some.part s) c.in_ok-told.told =
-    subst (λ l. IsPart g (λ s. holds s l && matches c.in-Some.part s) c.in_ok-told.told) (c.range.ensures ∙ ap (λ k. range_of k c.args.bound) c.faults.ensures.faults)
+    subst (λ l. IsPart g (λ s. holds s l && matches c.in-Some.part s) c.in_ok-told.told)
+    (c.range.ensures ∙ ap (λ k. range_of k c.args.bound) c.faults.ensures.faults)
     (part_with g c.range.result c.in-Some.part c.in_ok-told.told c.in_ok-told.ensures.both c.in_ok-told.ensures.none) in
-    end_told g c.counts_by-counts.ensures.limits.few_processes c.args.process c.args.column.now c.args.time c.args.bound c.requires.can c.requires.variable
-    c.counts_by-counts.result c.counts_by-counts.ensures.counts (omega (arith, c.if-counts-eq0.false)) c.in-Some.part c.in_ok-told.told (rw c.in-Some.is at c.in_ok-part.ensures.both) told
+    end_told g c.counts_by-counts.ensures.limits.few_processes c.args.process c.args.column.now c.args.time c.args.bound
+    c.requires.can c.requires.variable
+    c.counts_by-counts.result c.counts_by-counts.ensures.counts (omega (arith, c.if-counts-eq0.false)) c.in-Some.part
+    c.in_ok-told.told (rw c.in-Some.is at c.in_ok-part.ensures.both) told
 
 pub returns-clause-known : goal.returns-clause-known
 returns-clause-known c =
     let g = c.args.problem.now in
-    let some : Some c.in-Some.part ≡ with_literal (record { variable = c.args.process; low = 0; high = c.counts_by-counts.result - 1 }) c.args.column.now.cube =
+    let some : Some c.in-Some.part ≡ with_literal
+    (record { variable = c.args.process; low = 0; high = c.counts_by-counts.result - 1 }) c.args.column.now.cube =
     rw (← c.in-Some.is) c.in_ok-part.ensures.cube in
-    let part : IsKnown g c.in-Some.part = known_with g (record { variable = c.args.process; low = 0; high = c.counts_by-counts.result - 1 }) c.args.column.now.cube (Some c.in-Some.part) some
+    let part : IsKnown g c.in-Some.part =
+    known_with g (record { variable = c.args.process; low = 0; high = c.counts_by-counts.result - 1 })
+    c.args.column.now.cube (Some c.in-Some.part) some
     (inl c.requires.can.0) c.requires.cube in
     let variable : IsVariable g c.range.result.variable = rw (c.range.ensures, range_variable) c.requires.variable in
     known_with g c.range.result c.in-Some.part c.in_ok-told.told c.in_ok-told.ensures.cube variable part

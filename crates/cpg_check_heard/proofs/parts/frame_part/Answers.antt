@@ -11,16 +11,25 @@ use Rattle.cpg_check_heard.proofs.parts.frame_part.Goals as goal
 pub returns-clause-part : goal.returns-clause-part
 returns-clause-part c =
     let g = c.args.problem.now in
-    let told : IsPart g (λ s. holds s (range_of g.faults c.args.bound) && matches c.args.column.now.cube s) c.in_ok-told.told =
-    subst (λ l. IsPart g (λ s. holds s l && matches c.args.column.now.cube s) c.in_ok-told.told) (c.range.ensures ∙ ap (λ k. range_of k c.args.bound) c.faults.ensures.faults)
-    (part_with g c.range.result c.args.column.now.cube c.in_ok-told.told c.in_ok-told.ensures.both c.in_ok-told.ensures.none) in
-    let come : nat_le (c.args.column.now.time + c.args.delay) c.args.time ≡ true = sym c.has_come.ensures ∙ c.if-not-has_come.false in
-    let off : list_any (tells c.args.bound) c.args.column.now.cube ≡ false = sym (c.is_told_by_any.ensures ∙ ap (list_any (tells c.args.bound)) c.literals.ensures.literals) ∙
+    let told : IsPart g
+    (λ s. holds s (range_of g.faults c.args.bound) && matches c.args.column.now.cube s) c.in_ok-told.told =
+    subst (λ l. IsPart g (λ s. holds s l && matches c.args.column.now.cube s) c.in_ok-told.told)
+    (c.range.ensures ∙ ap (λ k. range_of k c.args.bound) c.faults.ensures.faults)
+    (part_with g c.range.result c.args.column.now.cube c.in_ok-told.told c.in_ok-told.ensures.both
+    c.in_ok-told.ensures.none) in
+    let come : nat_le (c.args.column.now.time + c.args.delay) c.args.time ≡ true =
+    sym c.has_come.ensures ∙ c.if-not-has_come.false in
+    let off : list_any (tells c.args.bound) c.args.column.now.cube ≡ false =
+    sym (c.is_told_by_any.ensures ∙ ap (list_any (tells c.args.bound)) c.literals.ensures.literals) ∙
     c.if-is_told_by_any.false in
-    let value : is_value c.args.condition (variable_of c.args.bound) ≡ true = ap (is_value c.args.condition) (sym c.variable.ensures) ∙ sym c.is_value.ensures ∙ c.if-not-is_value.false in
-    frame_value g c.faults.ensures.within.few_processes c.args.delay c.args.condition c.args.column.now c.args.time c.args.bound c.requires.variable come off value c.in_ok-told.told told
+    let value : is_value c.args.condition (variable_of c.args.bound) ≡ true =
+    ap (is_value c.args.condition) (sym c.variable.ensures) ∙ sym c.is_value.ensures ∙ c.if-not-is_value.false in
+    frame_value g c.faults.ensures.within.few_processes c.args.delay c.args.condition c.args.column.now c.args.time
+    c.args.bound c.requires.variable come off value c.in_ok-told.told told
 
 pub returns-clause-known : goal.returns-clause-known
 returns-clause-known c =
-    let variable : IsVariable c.args.problem.now c.range.result.variable = rw (c.range.ensures, range_variable) c.requires.variable in
-    known_with c.args.problem.now c.range.result c.args.column.now.cube c.in_ok-told.told c.in_ok-told.ensures.cube variable c.requires.cube
+    let variable : IsVariable c.args.problem.now c.range.result.variable =
+    rw (c.range.ensures, range_variable) c.requires.variable in
+    known_with c.args.problem.now c.range.result c.args.column.now.cube c.in_ok-told.told c.in_ok-told.ensures.cube
+    variable c.requires.cube

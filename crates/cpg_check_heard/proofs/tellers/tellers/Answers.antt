@@ -10,13 +10,26 @@ pub loop-item-preserved : goal.loop-item-preserved
 loop-item-preserved c = λ tables are.
     let g = c.args.admitted.now.graph in
     let x = c.loop-item.item in
-    let below : x < item_count g = omega (arith, c.loop-item-test.true, c.item_count-item-end.ensures, ap item_count c.problem-problem.ensures.problem) in
-    let line : IsLine (columns_of tables x) c.index-lines-item.result = subst (IsLine (columns_of tables x)) (sym c.index-lines-item.is) (are.each x c.index-lines-item.result below) in
-    tellers_more g tables x c.loop-item.tellers.items c.push.new.self.items _ c.in_ok-push.ensures.items (c.loop-item.invariant tables are)
+    let below : x < item_count g = omega (
+      arith,
+      c.loop-item-test.true,
+      c.item_count-item-end.ensures,
+      ap item_count c.problem-problem.ensures.problem,
+    ) in
+    let line : IsLine (columns_of tables x) c.index-lines-item.result =
+    subst (IsLine (columns_of tables x)) (sym c.index-lines-item.is) (are.each x c.index-lines-item.result below) in
+    tellers_more g tables x c.loop-item.tellers.items c.push.new.self.items _ c.in_ok-push.ensures.items
+    (c.loop-item.invariant tables are)
     (record { line = line; telling = rw (← c.problem-problem.ensures.problem) c.telling_of-telling.ensures })
 
 pub returns : goal.returns
 returns c = λ tables are.
     let g = c.args.admitted.now.graph in
-    let last : c.loop-item.item ≡ item_count g = omega (arith, c.loop-item-test.false, c.loop-item.auto.item-end, c.item_count-item-end.ensures, ap item_count c.problem-problem.ensures.problem) in
+    let last : c.loop-item.item ≡ item_count g = omega (
+      arith,
+      c.loop-item-test.false,
+      c.loop-item.auto.item-end,
+      c.item_count-item-end.ensures,
+      ap item_count c.problem-problem.ensures.problem,
+    ) in
     subst (λ n. AreTellers g tables n c.loop-item.tellers.items) last (c.loop-item.invariant tables are)

@@ -6,4 +6,5 @@ use Rattle.cpg_check_heard.specs.Tellings.{AreTellers}
 use Rattle.cpg_check_heard.proofs.tellers.tellers.Given as goal
 
 abbrev pub invariant-loop-item : goal.invariant-loop-item
-invariant-loop-item l = (tables : List NodeTable) → AreLines tables (item_count l.admitted.graph) l.lines → AreTellers l.admitted.graph tables l.item l.tellers.items
+invariant-loop-item l = (tables : List NodeTable) → AreLines tables (item_count l.admitted.graph) l.lines →
+    AreTellers l.admitted.graph tables l.item l.tellers.items

@@ -3,4 +3,5 @@ use Rattle.cpg_check_quick.specs.Bounds.{unknown_bounds}
 use Rattle.cpg_check_quick.proofs.bounds.list_unknown.Given as goal
 
 abbrev pub invariant-loop-literal : goal.invariant-loop-literal
-invariant-loop-literal l = flat_map (unknown_bounds l.k l.known) l.literals ≡ l.bounds.items ++ flat_map (unknown_bounds l.k l.known) (drop l.literal-index l.literals)
+invariant-loop-literal l = flat_map (unknown_bounds l.k l.known) l.literals ≡ l.bounds.items
+    ++ flat_map (unknown_bounds l.k l.known) (drop l.literal-index l.literals)

@@ -10,13 +10,18 @@ pub returns : goal.returns
 returns c =
     let g = c.args.admitted.now.graph in
     let same = c.columns_of-columns.ensures.columns in
-    let faults : c.faults.result ≡ g.faults = c.faults.ensures.faults ∙ ap (λ (h : Graph). h.faults) c.problem.ensures.problem in
+    let faults : c.faults.result ≡ g.faults =
+    c.faults.ensures.faults ∙ ap (λ (h : Graph). h.faults) c.problem.ensures.problem in
     λ lasts span. record {
       item = c.requires.item;
       columns = same;
-      tree = tree_of_row g c.args.tables.now.nodes c.args.trees.now c.args.item c.requires.trees c.requires.item c.index-trees-item.result c.index-trees-item.is;
-      first = subst (λ (columns : List Column). All (λ (d : Column). c.first_time.result ≤ d.time) columns) same c.first_time.ensures.all;
-      last = subst (λ (columns : List Column). All (λ (d : Column). d.time ≤ c.last_time.result) columns) same c.last_time.ensures.all;
+      tree = tree_of_row g c.args.tables.now.nodes c.args.trees.now c.args.item c.requires.trees c.requires.item
+          c.index-trees-item.result c.index-trees-item.is;
+      first = subst (λ (columns : List Column). All (λ (d : Column). c.first_time.result ≤ d.time) columns) same
+          c.first_time.ensures.all;
+      last = subst (λ (columns : List Column). All (λ (d : Column). d.time ≤ c.last_time.result) columns) same
+          c.last_time.ensures.all;
       span = span;
-      always = λ e s law. OnTrue_at e c.is_item_running.ensures s law (c.whole-everywhere.ensures.lies s (few_of g c.faults.result faults s law));
+      always = λ e s law. OnTrue_at e c.is_item_running.ensures s law
+          (c.whole-everywhere.ensures.lies s (few_of g c.faults.result faults s law));
     }

@@ -7,13 +7,16 @@ use Rattle.cpg_check_quick.proofs.course.executions.Goals as goal
 
 pub loop-process-preserved : goal.loop-process-preserved
 loop-process-preserved c = rw c.in_ok-push.ensures.items
-    (courses_more (execution c.args.admitted.now.graph) c.args.admitted.now.graph c.args.tables.now.nodes c.loop-process.process c.loop-process.list.items c.course_of.result c.loop-process.invariant
-    (c.course_of.ensures (execution c.args.admitted.now.graph c.loop-process.process) (rw c.problem-problem.ensures.problem at c.of_execution-span.ensures)))
+    (courses_more (execution c.args.admitted.now.graph) c.args.admitted.now.graph c.args.tables.now.nodes
+    c.loop-process.process c.loop-process.list.items c.course_of.result c.loop-process.invariant
+    (c.course_of.ensures (execution c.args.admitted.now.graph c.loop-process.process)
+    (rw c.problem-problem.ensures.problem at c.of_execution-span.ensures)))
 
 pub returns-clause-courses : goal.returns-clause-courses
 returns-clause-courses c =
     let g = c.args.admitted.now.graph in
-    let faults : c.faults.result ≡ g.faults = c.faults.ensures.faults ∙ ap (λ (h : Graph). h.faults) c.problem-problem.ensures.problem in
+    let faults : c.faults.result ≡ g.faults =
+    c.faults.ensures.faults ∙ ap (λ (h : Graph). h.faults) c.problem-problem.ensures.problem in
     record {
       everywhere = record { lies = λ s law. c.whole.ensures.lies s (few_of g c.faults.result faults s law) };
       each = c.loop-process.invariant.each;

@@ -10,15 +10,19 @@ use Rattle.cpg_check_quick.proofs.course.frames.Goals as goal
 pub loop-item-preserved : goal.loop-item-preserved
 loop-item-preserved c =
     let g = c.args.admitted.now.graph in
-    let length : c.slot_length.result ≡ slot_length g (home g c.loop-item.item) = c.slot_length.ensures ∙ ap (slot_length c.problem-problem.result.now) c.home.ensures.home ∙
+    let length : c.slot_length.result ≡ slot_length g (home g c.loop-item.item) =
+    c.slot_length.ensures ∙ ap (slot_length c.problem-problem.result.now) c.home.ensures.home ∙
     ap (λ h. slot_length h (home h c.loop-item.item)) c.problem-problem.ensures.problem in
-    rw c.in_ok-push.ensures.items (courses_more (frame g) g c.args.tables.now.nodes c.loop-item.item c.loop-item.list.items c.course_of.result c.loop-item.invariant
-    (c.course_of.ensures (frame g c.loop-item.item) (subst (λ n. IsSpan g (λ _. n) c.fixed-span.result) length (c.fixed-span.ensures g))))
+    rw c.in_ok-push.ensures.items (courses_more (frame g) g c.args.tables.now.nodes c.loop-item.item
+    c.loop-item.list.items c.course_of.result c.loop-item.invariant
+    (c.course_of.ensures (frame g c.loop-item.item)
+    (subst (λ n. IsSpan g (λ _. n) c.fixed-span.result) length (c.fixed-span.ensures g))))
 
 pub returns : goal.returns
 returns c =
     let g = c.args.admitted.now.graph in
-    let faults : c.faults.result ≡ g.faults = c.faults.ensures.faults ∙ ap (λ (h : Graph). h.faults) c.problem-problem.ensures.problem in
+    let faults : c.faults.result ≡ g.faults =
+    c.faults.ensures.faults ∙ ap (λ (h : Graph). h.faults) c.problem-problem.ensures.problem in
     record {
       courses = record {
         everywhere = record { lies = λ s law. c.whole.ensures.lies s (few_of g c.faults.result faults s law) };

@@ -7,13 +7,15 @@ use Rattle.cpg_check_quick.proofs.course.sends.Goals as goal
 
 pub loop-item-preserved : goal.loop-item-preserved
 loop-item-preserved c = rw c.in_ok-push.ensures.items
-    (courses_more (sending) c.args.admitted.now.graph c.args.tables.now.nodes c.loop-item.item c.loop-item.list.items c.course_of.result c.loop-item.invariant
+    (courses_more (sending) c.args.admitted.now.graph c.args.tables.now.nodes c.loop-item.item c.loop-item.list.items
+    c.course_of.result c.loop-item.invariant
     (c.course_of.ensures (sending c.loop-item.item) (c.one.ensures c.args.admitted.now.graph)))
 
 pub returns-clause-courses : goal.returns-clause-courses
 returns-clause-courses c =
     let g = c.args.admitted.now.graph in
-    let faults : c.faults.result ≡ g.faults = c.faults.ensures.faults ∙ ap (λ (h : Graph). h.faults) c.problem-problem.ensures.problem in
+    let faults : c.faults.result ≡ g.faults =
+    c.faults.ensures.faults ∙ ap (λ (h : Graph). h.faults) c.problem-problem.ensures.problem in
     record {
       everywhere = record { lies = λ s law. c.whole.ensures.lies s (few_of g c.faults.result faults s law) };
       each = c.loop-item.invariant.each;

@@ -7,10 +7,14 @@ use Rattle.cpg_check_quick.proofs.heard.heard_marks.Goals as goal
 
 pub loop-item-preserved : goal.loop-item-preserved
 loop-item-preserved c =
-    let below : c.loop-item.item < item_count c.args.admitted.now.graph = omega (arith, c.loop-item-test.true, c.item_count-count.ensures, ap item_count c.problem-2.ensures.problem) in
-    rw c.in_ok-push.ensures.items (one_more c.args.admitted.now.graph c.args.tables.now.nodes Rule.Heard c.loop-item.item c.loop-item.marks.items c.in_ok-sure.sure c.loop-item.invariant
-    (of_true c.in_ok-sure.sure c.in_ok-sure.ensures (λ sure. sure c.args.tables.now.nodes c.requires.turns c.requires.frames c.requires.rules
-    (λ marked. c.requires.inputs c.loop-item.item below (sym c.is_marked-is_in_time.ensures ∙ marked)) c.columns_of.ensures.columns)))
+    let below : c.loop-item.item < item_count c.args.admitted.now.graph =
+    omega (arith, c.loop-item-test.true, c.item_count-count.ensures, ap item_count c.problem-2.ensures.problem) in
+    rw c.in_ok-push.ensures.items (one_more c.args.admitted.now.graph c.args.tables.now.nodes Rule.Heard
+    c.loop-item.item c.loop-item.marks.items c.in_ok-sure.sure c.loop-item.invariant
+    (of_true c.in_ok-sure.sure c.in_ok-sure.ensures
+    (λ sure. sure c.args.tables.now.nodes c.requires.turns c.requires.frames c.requires.rules
+    (λ marked. c.requires.inputs c.loop-item.item below (sym c.is_marked-is_in_time.ensures ∙ marked))
+    c.columns_of.ensures.columns)))
 
 pub returns : goal.returns
 returns c = c.loop-item.invariant.sure

@@ -5,9 +5,11 @@ use Rattle.cpg_check_quick.proofs.inputs.inputs_marks.Goals as goal
 
 pub loop-item-preserved : goal.loop-item-preserved
 loop-item-preserved c = rw c.in_ok-push.ensures.items
-    (one_more c.args.admitted.now.graph c.args.tables.now.nodes Rule.Inputs c.loop-item.item c.loop-item.marks.items c.in_ok-sure.sure c.loop-item.invariant
+    (one_more c.args.admitted.now.graph c.args.tables.now.nodes Rule.Inputs c.loop-item.item c.loop-item.marks.items
+    c.in_ok-sure.sure c.loop-item.invariant
     (of_true c.in_ok-sure.sure c.in_ok-sure.ensures (λ sure. sure c.args.tables.now.nodes
-    (record { links = rw c.problem.ensures.problem at c.in_ok-links.ensures; turns = c.requires.turns; frames = c.requires.frames }) c.requires.rules c.columns_of.ensures.columns)))
+    (record { links = rw c.problem.ensures.problem at c.in_ok-links.ensures; turns = c.requires.turns; frames = c.requires.frames })
+    c.requires.rules c.columns_of.ensures.columns)))
 
 pub returns : goal.returns
 returns c = c.loop-item.invariant.sure

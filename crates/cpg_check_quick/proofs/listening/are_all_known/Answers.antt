@@ -6,10 +6,14 @@ use Rattle.cpg_violation.proofs.SureLaws.{each_all, each_more}
 use Rattle.cpg_check_quick.proofs.listening.are_all_known.Goals as goal
 
 pub loop-column-preserved : goal.loop-column-preserved
-loop-column-preserved c = each_more (λ (d : Column). All (λ (m : Literal). get_or c.args.known.now m.variable false ≡ true) d.cube) c.args.columns.now c.loop-column.column-index c.column-item.result
+loop-column-preserved c =
+    each_more (λ (d : Column). All (λ (m : Literal). get_or c.args.known.now m.variable false ≡ true) d.cube)
+    c.args.columns.now c.loop-column.column-index c.column-item.result
     c.loop-column-test.true c.column-item.is c.loop-column.invariant
-    (OnTrue_at {P = All (λ (m : Literal). get_or c.args.known.now m.variable false ≡ true) c.column-item.result.cube} c.if-not-is_cube_known.false c.is_cube_known.ensures)
+    (OnTrue_at {P = All (λ (m : Literal). get_or c.args.known.now m.variable false ≡ true) c.column-item.result.cube}
+    c.if-not-is_cube_known.false c.is_cube_known.ensures)
 
 pub returns : goal.returns
-returns c = each_all (λ (d : Column). All (λ (m : Literal). get_or c.args.known.now m.variable false ≡ true) d.cube) c.args.columns.now c.loop-column.column-index c.loop-column-test.false
+returns c = each_all (λ (d : Column). All (λ (m : Literal). get_or c.args.known.now m.variable false ≡ true) d.cube)
+    c.args.columns.now c.loop-column.column-index c.loop-column-test.false
     c.loop-column.invariant

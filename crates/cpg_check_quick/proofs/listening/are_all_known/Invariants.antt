@@ -4,4 +4,5 @@ use Rattle.cpg_cube.specs.Column.{Column}
 use Rattle.cpg_check_quick.proofs.listening.are_all_known.Given as goal
 
 abbrev pub invariant-loop-column : goal.invariant-loop-column
-invariant-loop-column l = All (λ (c : Column). All (λ (m : Literal). get_or l.known m.variable false ≡ true) c.cube) (take l.column-index l.columns)
+invariant-loop-column l = All (λ (c : Column). All (λ (m : Literal). get_or l.known m.variable false ≡ true) c.cube)
+    (take l.column-index l.columns)

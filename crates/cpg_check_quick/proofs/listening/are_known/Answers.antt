@@ -8,9 +8,11 @@ use Rattle.cpg_check_quick.proofs.listening.are_known.Goals as goal
 pub loop-literal-preserved : goal.loop-literal-preserved
 loop-literal-preserved c both =
     let parts = and_parts _ _ both in
-    All-more (λ (m : Literal). get_or c.args.known.now m.variable false ≡ true) c.args.literals.now c.loop-literal.literal-index (record { variable = 0; low = 0; high = 0 }) c.loop-literal-test.true
+    All-more (λ (m : Literal). get_or c.args.known.now m.variable false ≡ true) c.args.literals.now
+    c.loop-literal.literal-index (record { variable = 0; low = 0; high = 0 }) c.loop-literal-test.true
     (c.loop-literal.invariant parts.0) parts.1
 
 pub returns : goal.returns
-returns c = OnTrue_from _ _ (λ are. each_all (λ (m : Literal). get_or c.args.known.now m.variable false ≡ true) c.args.literals.now c.loop-literal.literal-index c.loop-literal-test.false
+returns c = OnTrue_from _ _ (λ are. each_all (λ (m : Literal). get_or c.args.known.now m.variable false ≡ true)
+    c.args.literals.now c.loop-literal.literal-index c.loop-literal-test.false
     (c.loop-literal.invariant are))

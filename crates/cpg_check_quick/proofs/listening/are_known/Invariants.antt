@@ -3,4 +3,5 @@ use Rattle.cpg_cube.specs.declared.literal.Literal.{Literal}
 use Rattle.cpg_check_quick.proofs.listening.are_known.Given as goal
 
 abbrev pub invariant-loop-literal : goal.invariant-loop-literal
-invariant-loop-literal l = l.are_known ≡ true → All (λ (m : Literal). get_or l.known m.variable false ≡ true) (take l.literal-index l.literals)
+invariant-loop-literal l =
+    l.are_known ≡ true → All (λ (m : Literal). get_or l.known m.variable false ≡ true) (take l.literal-index l.literals)

@@ -14,14 +14,29 @@ returns-then-item-processes c = of_true c.is_before.result c.is_before.ensures (
 pub returns-then-process-producer : goal.returns-then-process-producer
 returns-then-process-producer c = λ tables turns rules sent.
     let g = c.args.admitted.now.graph in
-    let from : c.producer-producer.result ≡ producer g c.args.item = c.producer-producer.ensures.producer ∙ ap (λ h. producer h c.args.item) c.problem-problem.ensures.problem in
-    let send : process_count g ≤ c.args.item = omega (arith, c.if-item-processes.false, ap length c.processes.ensures.processes, ap process_count c.problem-problem.ensures.problem) in
-    subst (λ q. IsEndedBy g tables q c.args.item) (sym (c.if-process-producer.true ∙ from)) (producer_ended g tables rules c.args.item c.requires.item send (sent c.if-not-is_sent_in_time.false))
+    let from : c.producer-producer.result ≡ producer g c.args.item =
+    c.producer-producer.ensures.producer ∙ ap (λ h. producer h c.args.item) c.problem-problem.ensures.problem in
+    let send : process_count g ≤ c.args.item = omega (
+      arith,
+      c.if-item-processes.false,
+      ap length c.processes.ensures.processes,
+      ap process_count c.problem-problem.ensures.problem,
+    ) in
+    subst (λ q. IsEndedBy g tables q c.args.item) (sym (c.if-process-producer.true ∙ from))
+    (producer_ended g tables rules c.args.item c.requires.item send (sent c.if-not-is_sent_in_time.false))
 
 pub returns : goal.returns
 returns c = of_true c.is_before-2.result c.is_before-2.ensures (λ before tables turns rules sent.
     let g = c.args.admitted.now.graph in
-    let from : c.producer-producer.result ≡ producer g c.args.item = c.producer-producer.ensures.producer ∙ ap (λ h. producer h c.args.item) c.problem-problem.ensures.problem in
-    let send : process_count g ≤ c.args.item = omega (arith, c.if-item-processes.false, ap length c.processes.ensures.processes, ap process_count c.problem-problem.ensures.problem) in
-    earlier_ended g tables rules c.args.item c.requires.item send c.problem-problem.ensures.admitted.well_formed c.args.process c.requires.process
-    (subst (λ p. IsBefore g tables c.args.process p) from (before g tables (execution g) turns)) (sent c.if-not-is_sent_in_time.false))
+    let from : c.producer-producer.result ≡ producer g c.args.item =
+    c.producer-producer.ensures.producer ∙ ap (λ h. producer h c.args.item) c.problem-problem.ensures.problem in
+    let send : process_count g ≤ c.args.item = omega (
+      arith,
+      c.if-item-processes.false,
+      ap length c.processes.ensures.processes,
+      ap process_count c.problem-problem.ensures.problem,
+    ) in
+    earlier_ended g tables rules c.args.item c.requires.item send c.problem-problem.ensures.admitted.well_formed
+    c.args.process c.requires.process
+    (subst (λ p. IsBefore g tables c.args.process p) from (before g tables (execution g) turns))
+    (sent c.if-not-is_sent_in_time.false))

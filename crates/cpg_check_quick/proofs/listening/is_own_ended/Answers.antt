@@ -7,7 +7,8 @@ pub returns : goal.returns
 returns c = of_true c.has_ended.result c.has_ended.ensures (λ ended tables turns rules sent. record {
   process = c.in-Some.process;
   owner = rw c.problem-problem.ensures.problem at c.in-Some.ensures;
-  near = sym (c.node_of.ensures.node ∙ ap (λ h. node_of h c.in-Some.process) c.problem-problem.ensures.problem) ∙ c.if-node_of-home.false ∙ c.home.ensures.home ∙
+  near = sym (c.node_of.ensures.node ∙ ap (λ h. node_of h c.in-Some.process) c.problem-problem.ensures.problem)
+      ∙ c.if-node_of-home.false ∙ c.home.ensures.home ∙
       ap (λ h. home h c.args.item) c.problem-problem.ensures.problem;
   ended = ended tables turns rules sent;
 })

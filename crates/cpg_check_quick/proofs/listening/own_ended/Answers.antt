@@ -9,8 +9,11 @@ loop-variable-init c = record { long = refl; ended = λ tables turns rules sent 
 
 pub loop-variable-preserved : goal.loop-variable-preserved
 loop-variable-preserved c = record {
-  long = length-set c.loop-variable.known c.loop-variable.variable c.is_own_ended.result ∙ c.loop-variable.invariant.long;
-  ended = λ tables turns rules sent. own_more c.args.admitted.now.graph tables c.args.item c.loop-variable.known c.loop-variable.variable c.is_own_ended.result
+  long =
+      length-set c.loop-variable.known c.loop-variable.variable c.is_own_ended.result ∙ c.loop-variable.invariant.long;
+  ended = λ tables turns rules sent. own_more c.args.admitted.now.graph tables c.args.item c.loop-variable.known
+      c.loop-variable.variable c.is_own_ended.result
       (omega (arith, c.loop-variable-test.true, c.loop-variable.invariant.long))
-      (c.loop-variable.invariant.ended tables turns rules sent) (of_true c.is_own_ended.result c.is_own_ended.ensures (λ own. own tables turns rules sent));
+      (c.loop-variable.invariant.ended tables turns rules sent)
+      (of_true c.is_own_ended.result c.is_own_ended.ensures (λ own. own tables turns rules sent));
 }

@@ -11,6 +11,8 @@ use Rattle.cpg_check_quick.proofs.listening.own_ended.Given as goal
 abbrev pub invariant-loop-variable : goal.invariant-loop-variable
 invariant-loop-variable l = record {
   long : length l.known ≡ 256;
-  ended : (tables : List NodeTable) → AreTurns (execution l.admitted.graph) l.admitted.graph tables l.turns → AllHold l.admitted.graph tables row_rules →
-      (l.is_sent_in_time ≡ true → IsSure l.admitted.graph tables Rule.Inputs l.item) → AreOwnEnded l.admitted.graph tables l.item l.known;
+  ended : (tables : List NodeTable) → AreTurns (execution l.admitted.graph) l.admitted.graph tables l.turns →
+      AllHold l.admitted.graph tables row_rules →
+      (l.is_sent_in_time ≡ true → IsSure l.admitted.graph tables Rule.Inputs l.item) →
+      AreOwnEnded l.admitted.graph tables l.item l.known;
 }

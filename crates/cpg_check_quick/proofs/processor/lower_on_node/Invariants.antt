@@ -4,4 +4,5 @@ use Rattle.cpg_base.specs.Numbers.{numbers_below}
 use Rattle.cpg_check_quick.proofs.processor.lower_on_node.Given as goal
 
 abbrev pub invariant-loop-other : goal.invariant-loop-other
-invariant-loop-other l = l.lower.items ≡ filter (λ q. node_of l.problem q == node_of l.problem l.process) (numbers_below l.other)
+invariant-loop-other l =
+    l.lower.items ≡ filter (λ q. node_of l.problem q == node_of l.problem l.process) (numbers_below l.other)

@@ -7,8 +7,10 @@ use Rattle.cpg_check_quick.proofs.processor.processor_marks.Goals as goal
 
 pub loop-item-preserved : goal.loop-item-preserved
 loop-item-preserved c = rw c.in_ok-push.ensures.items (record {
-  long = omega (arith, length-append c.loop-item.marks.items (c.in_ok-is_sure.is_sure ∷ []), c.loop-item.invariant.long);
-  sure = λ tables are. (one_more c.args.problem.now tables Rule.Processor c.loop-item.item c.loop-item.marks.items c.in_ok-is_sure.is_sure
+  long =
+      omega (arith, length-append c.loop-item.marks.items (c.in_ok-is_sure.is_sure ∷ []), c.loop-item.invariant.long);
+  sure = λ tables are. (one_more c.args.problem.now tables Rule.Processor c.loop-item.item c.loop-item.marks.items
+      c.in_ok-is_sure.is_sure
       (record { long = c.loop-item.invariant.long; sure = c.loop-item.invariant.sure tables are })
       (of_true c.in_ok-is_sure.is_sure c.in_ok-is_sure.ensures (λ alone. alone tables are))).sure;
 })

@@ -9,5 +9,6 @@ use Rattle.cpg_check_quick.proofs.processor.processor_marks.Given as goal
 abbrev pub invariant-loop-item : goal.invariant-loop-item
 invariant-loop-item l = record {
   long : length l.marks.items ≡ l.item;
-  sure : (tables : List NodeTable) → AreTurns (execution l.problem) l.problem tables l.turns → AreSure l.problem tables Rule.Processor l.marks.items;
+  sure : (tables : List NodeTable) → AreTurns (execution l.problem) l.problem tables l.turns →
+      AreSure l.problem tables Rule.Processor l.marks.items;
 }

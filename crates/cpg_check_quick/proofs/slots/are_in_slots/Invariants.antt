@@ -6,4 +6,5 @@ use Rattle.cpg_cube.specs.Column.{Column}
 use Rattle.cpg_check_quick.proofs.slots.are_in_slots.Given as goal
 
 abbrev pub invariant-loop-column : goal.invariant-loop-column
-invariant-loop-column l = All (λ (c : Column). (s : Scenario) → IsScenario l.problem s → matches c.cube s ≡ true → next_slot l.problem l.node c.time ≡ c.time) (take l.column-index l.columns)
+invariant-loop-column l = All (λ (c : Column). (s : Scenario) → IsScenario l.problem s → matches c.cube s ≡ true →
+    next_slot l.problem l.node c.time ≡ c.time) (take l.column-index l.columns)

@@ -4,4 +4,5 @@ use Rattle.cpg_base.specs.Numbers.{numbers_below}
 use Rattle.cpg_check_quick.proofs.slots.lower_sent.Given as goal
 
 abbrev pub invariant-loop-other : goal.invariant-loop-other
-invariant-loop-other l = l.lower.items ≡ filter (λ y. is_sent l.problem y && (home l.problem y == home l.problem l.item)) (numbers_below l.other)
+invariant-loop-other l = l.lower.items
+    ≡ filter (λ y. is_sent l.problem y && (home l.problem y == home l.problem l.item)) (numbers_below l.other)

@@ -4,7 +4,8 @@ use Rattle.cpg_check_quick.proofs.slots.slot_marks.Goals as goal
 
 pub loop-item-preserved : goal.loop-item-preserved
 loop-item-preserved c = rw c.in_ok-push.ensures.items
-    (one_more c.args.admitted.now.graph c.args.tables.now.nodes Rule.Slot c.loop-item.item c.loop-item.marks.items c.in_ok-is_sure.is_sure c.loop-item.invariant c.in_ok-is_sure.ensures)
+    (one_more c.args.admitted.now.graph c.args.tables.now.nodes Rule.Slot c.loop-item.item c.loop-item.marks.items
+    c.in_ok-is_sure.is_sure c.loop-item.invariant c.in_ok-is_sure.ensures)
 
 pub returns : goal.returns
 returns c = c.loop-item.invariant.sure

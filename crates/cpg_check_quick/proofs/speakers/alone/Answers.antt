@@ -6,4 +6,5 @@ use Rattle.cpg_check_quick.proofs.speakers.alone.Goals as goal
 
 pub returns : goal.returns
 returns c = only_place c.args.columns.now c.args.places.now c.in-Some.column.now c.if-places-ne1.false
-    (told_at (λ (d : Column). d ≡ c.in-Some.column.now) c.args.columns.now _ c.in-Some.column.now c.in-Some.ensures.lookup.3.0 c.in-Some.ensures.lookup.1 refl)
+    (told_at (λ (d : Column). d ≡ c.in-Some.column.now) c.args.columns.now _ c.in-Some.column.now
+    c.in-Some.ensures.lookup.3.0 c.in-Some.ensures.lookup.1 refl)

@@ -8,7 +8,8 @@ use Rattle.cpg_check_quick.proofs.speakers.speaker_of.Goals as goal
 pub returns : goal.returns
 returns c = λ tables are.
     let g = c.args.problem.now in
-    let is = course_at are c.args.item c.in-Some.course.now c.deref.result.now c.deref.ensures.value c.in-Some.ensures.lookup.3.0 c.in-Some.ensures.lookup.1 in
+    let is = course_at are c.args.item c.in-Some.course.now c.deref.result.now c.deref.ensures.value
+    c.in-Some.ensures.lookup.3.0 c.in-Some.ensures.lookup.1 in
     record {
       item = omega (arith, c.if-item-item_count.false, c.item_count.ensures);
       heard = sym c.is_heard_by.ensures ∙ c.if-not-is_heard_by.false;

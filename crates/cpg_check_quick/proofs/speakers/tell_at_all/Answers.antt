@@ -6,8 +6,10 @@ use Rattle.cpg_violation.proofs.SureLaws.{each_all}
 use Rattle.cpg_check_quick.proofs.speakers.tell_at_all.Goals as goal
 
 pub loop-place-preserved : goal.loop-place-preserved
-loop-place-preserved c = All-more (λ i. IsToldIn (column_at c.args.columns.now i).cube c.args.wanted.now) c.args.places.now c.loop-place.place-index 0 c.loop-place-test.true c.loop-place.invariant
+loop-place-preserved c = All-more (λ i. IsToldIn (column_at c.args.columns.now i).cube c.args.wanted.now)
+    c.args.places.now c.loop-place.place-index 0 c.loop-place-test.true c.loop-place.invariant
     (OnTrue_at c.if-not-tells_at.false c.tells_at.ensures)
 
 pub returns : goal.returns
-returns c = each_all (λ i. IsToldIn (column_at c.args.columns.now i).cube c.args.wanted.now) c.args.places.now c.loop-place.place-index c.loop-place-test.false c.loop-place.invariant
+returns c = each_all (λ i. IsToldIn (column_at c.args.columns.now i).cube c.args.wanted.now) c.args.places.now
+    c.loop-place.place-index c.loop-place-test.false c.loop-place.invariant

@@ -4,4 +4,10 @@ use Rattle.cpg_violation.proofs.Violations.{long_order}
 use Rattle.cpg_check_quick.proofs.turns.processes_on.Goals as goal
 
 pub node_of-requires : goal.node_of-requires
-node_of-requires c = omega (arith, c.at-process.ensures.within, ap length c.order-order.ensures.order, long_order c.order-order.ensures.admitted, ap process_count c.problem-problem.ensures.problem)
+node_of-requires c = omega (
+  arith,
+  c.at-process.ensures.within,
+  ap length c.order-order.ensures.order,
+  long_order c.order-order.ensures.admitted,
+  ap process_count c.problem-problem.ensures.problem,
+)

@@ -15,30 +15,42 @@ use Rattle.cpg_check_rows.proofs.activity.check_activity.Goals as goal
 
 pub first_idle-requires-clause-columns : goal.first_idle-requires-clause-columns
 first_idle-requires-clause-columns c =
-    let are : AreTablesOf (head_of c.args.admitted.now.graph) c.args.tables.now.nodes = tables_of_graph c.args.admitted.now.graph c.args.tables.now.head c.args.tables.now.nodes c.requires.head
+    let are : AreTablesOf (head_of c.args.admitted.now.graph) c.args.tables.now.nodes =
+    tables_of_graph c.args.admitted.now.graph c.args.tables.now.head c.args.tables.now.nodes c.requires.head
     c.columns_of-columns.ensures.lawful in
-    rw c.columns_of-columns.ensures.columns (columns_known c.problem.ensures.admitted c.args.tables.now.nodes are c.loop-item.item)
+    rw c.columns_of-columns.ensures.columns
+    (columns_known c.problem.ensures.admitted c.args.tables.now.nodes are c.loop-item.item)
 
 pub first_idle-requires-clause-few : goal.first_idle-requires-clause-few
-first_idle-requires-clause-few c = rw c.columns_of-columns.ensures.columns (columns_few c.args.tables.now.head c.args.tables.now.nodes c.columns_of-columns.ensures.lawful c.loop-item.item)
+first_idle-requires-clause-few c = rw c.columns_of-columns.ensures.columns
+    (columns_few c.args.tables.now.head c.args.tables.now.nodes c.columns_of-columns.ensures.lawful c.loop-item.item)
 
 pub returns-in-Some-clause-first : goal.returns-in-Some-clause-first
 returns-in-Some-clause-first c =
     let g = c.args.admitted.now.graph in
-    let first : IsFirstColumn g c.args.admitted.now.order (is_idle g c.loop-item.item (columns_of c.args.tables.now.nodes c.loop-item.item)) (c.in-Some.column, c.in-Some.scenario) =
+    let first : IsFirstColumn g c.args.admitted.now.order
+    (is_idle g c.loop-item.item (columns_of c.args.tables.now.nodes c.loop-item.item)) (
+      c.in-Some.column,
+      c.in-Some.scenario,
+    ) =
     rw (← c.columns_of-columns.ensures.columns) (rw c.in-Some.is at c.in_ok-idle.ensures.first) in
-    first_violation Rule.Activity g c.args.tables.now.nodes c.loop-item.item (λ y s. refl) c.number.result c.number.ensures c.args.admitted.now.order c.in-Some.column c.in-Some.scenario
-    (omega (arith, c.loop-item-test.true, c.item_count-item-end.ensures, ap item_count c.problem.ensures.problem)) c.loop-item.invariant first
+    first_violation Rule.Activity g c.args.tables.now.nodes c.loop-item.item
+    (λ y s. refl) c.number.result c.number.ensures c.args.admitted.now.order c.in-Some.column c.in-Some.scenario
+    (omega (arith, c.loop-item-test.true, c.item_count-item-end.ensures, ap item_count c.problem.ensures.problem))
+    c.loop-item.invariant first
 
 pub loop-item-preserved : goal.loop-item-preserved
 loop-item-preserved c =
     let g = c.args.admitted.now.graph in
-    let none : (i : ℕ) (s : Scenario) → IsScenario g s → is_idle g c.loop-item.item (columns_of c.args.tables.now.nodes c.loop-item.item) i s ≡ false =
+    let none : (i : ℕ) (s : Scenario) → IsScenario g s →
+    is_idle g c.loop-item.item (columns_of c.args.tables.now.nodes c.loop-item.item) i s ≡ false =
     rw (← c.columns_of-columns.ensures.columns) (rw c.in_default.is at c.in_ok-idle.ensures.none) in
     none_more Rule.Activity g c.args.tables.now.nodes c.loop-item.item (λ y s. refl) c.loop-item.invariant none
 
 pub loop-item-preserved-then-is_marked : goal.loop-item-preserved-then-is_marked
 loop-item-preserved-then-is_marked c =
     let g = c.args.admitted.now.graph in
-    let below : c.loop-item.item < item_count g = omega (arith, c.loop-item-test.true, c.item_count-item-end.ensures, ap item_count c.problem.ensures.problem) in
-    marked_more g c.args.tables.now.nodes Rule.Activity c.args.marks.now c.requires.marks c.loop-item.item below (sym c.if-is_marked.ensures) c.loop-item.invariant
+    let below : c.loop-item.item < item_count g =
+    omega (arith, c.loop-item-test.true, c.item_count-item-end.ensures, ap item_count c.problem.ensures.problem) in
+    marked_more g c.args.tables.now.nodes Rule.Activity c.args.marks.now c.requires.marks c.loop-item.item below
+    (sym c.if-is_marked.ensures) c.loop-item.invariant

@@ -4,4 +4,5 @@ use Rattle.cpg_check_rows.specs.Active.{is_idle}
 use Rattle.cpg_check_rows.proofs.activity.first_idle.Given as goal
 
 abbrev pub invariant-loop-place : goal.invariant-loop-place
-invariant-loop-place l = (i : ℕ) (s : Scenario) → i < l.place → IsScenario l.admitted.graph s → is_idle l.admitted.graph l.item l.columns i s ≡ false
+invariant-loop-place l = (i : ℕ) (s : Scenario) → i < l.place → IsScenario l.admitted.graph s →
+    is_idle l.admitted.graph l.item l.columns i s ≡ false

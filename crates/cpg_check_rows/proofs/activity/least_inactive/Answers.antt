@@ -7,19 +7,25 @@ pub returns-in-Nothing : goal.returns-in-Nothing
 returns-in-Nothing c =
     let g = c.args.admitted.now.graph in
     let x = c.args.item in
-    let is = as_source g x c.item_source.result ItemSource.Nothing (rw c.problem-problem.ensures.problem at c.item_source.ensures.active) c.in-Nothing.is in
-    inactive_never g c.args.admitted.now.order c.args.cube.now x is c.least.result (rw c.problem-problem.ensures.problem at c.least.ensures.first)
+    let is = as_source g x c.item_source.result ItemSource.Nothing
+    (rw c.problem-problem.ensures.problem at c.item_source.ensures.active) c.in-Nothing.is in
+    inactive_never g c.args.admitted.now.order c.args.cube.now x is c.least.result
+    (rw c.problem-problem.ensures.problem at c.least.ensures.first)
 
 pub returns-in-Process : goal.returns-in-Process
 returns-in-Process c =
     let g = c.args.admitted.now.graph in
     let x = c.args.item in
-    let is = as_source g x c.item_source.result (ItemSource.Process c.in-Process.process) (rw c.problem-problem.ensures.problem at c.item_source.ensures.active) c.in-Process.is in
-    inactive_as g c.args.admitted.now.order c.args.cube.now x (ItemSource.Process c.in-Process.process) is c.least_idle.result c.least_idle.ensures
+    let is = as_source g x c.item_source.result (ItemSource.Process c.in-Process.process)
+    (rw c.problem-problem.ensures.problem at c.item_source.ensures.active) c.in-Process.is in
+    inactive_as g c.args.admitted.now.order c.args.cube.now x
+    (ItemSource.Process c.in-Process.process) is c.least_idle.result c.least_idle.ensures
 
 pub returns-in-Edge : goal.returns-in-Edge
 returns-in-Edge c =
     let g = c.args.admitted.now.graph in
     let x = c.args.item in
-    let is = as_source g x c.item_source.result (ItemSource.Edge c.in-Edge.edge) (rw c.problem-problem.ensures.problem at c.item_source.ensures.active) c.in-Edge.is in
-    inactive_as g c.args.admitted.now.order c.args.cube.now x (ItemSource.Edge c.in-Edge.edge) is c.least_unlive.result c.least_unlive.ensures
+    let is = as_source g x c.item_source.result (ItemSource.Edge c.in-Edge.edge)
+    (rw c.problem-problem.ensures.problem at c.item_source.ensures.active) c.in-Edge.is in
+    inactive_as g c.args.admitted.now.order c.args.cube.now x
+    (ItemSource.Edge c.in-Edge.edge) is c.least_unlive.result c.least_unlive.ensures

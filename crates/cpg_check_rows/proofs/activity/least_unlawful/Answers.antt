@@ -8,7 +8,8 @@ use Rattle.cpg_violation.proofs.Violations.{long_order}
 use Rattle.cpg_check_rows.proofs.activity.least_unlawful.Goals as goal
 
 pub earlier-requires-clause-order : goal.earlier-requires-clause-order
-earlier-requires-clause-order c = rw (c.order.ensures.order, c.problem.ensures.problem) (long_order c.order.ensures.admitted)
+earlier-requires-clause-order c =
+    rw (c.order.ensures.order, c.problem.ensures.problem) (long_order c.order.ensures.admitted)
 
 pub returns : goal.returns
 returns c =

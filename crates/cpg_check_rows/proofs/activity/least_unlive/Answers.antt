@@ -16,18 +16,25 @@ returns-in_default c =
     let order = c.args.admitted.now.order in
     let a = c.problem-problem.ensures.admitted in
     let e = c.args.edge in
-    let is : c.source-process.result ≡ source g e = c.source-process.ensures.source ∙ ap (λ h. source h e) c.problem-problem.ensures.problem in
-    let idle = subst (λ p. IsFirst g order (λ s. matches c.args.cube.now s && not (active g s.values p)) c.in_ok-idle.idle) is c.in_ok-idle.ensures in
+    let is : c.source-process.result ≡ source g e =
+    c.source-process.ensures.source ∙ ap (λ h. source h e) c.problem-problem.ensures.problem in
+    let idle =
+    subst (λ p. IsFirst g order (λ s. matches c.args.cube.now s && not (active g s.values p)) c.in_ok-idle.idle) is
+    c.in_ok-idle.ensures in
     let none = rw (c.in_default.is, c.problem-problem.ensures.problem) at c.other_value.ensures.none in
-    unlive_idle g order c.args.cube.now (λ s. active g s.values (source g e)) (λ s. is_passed (test_of (condition_of g (source g e)) (edge_at g e).when) s.values)
+    unlive_idle g order c.args.cube.now (λ s. active g s.values (source g e))
+    (λ s. is_passed (test_of (condition_of g (source g e)) (edge_at g e).when) s.values)
     (λ s. live g s.values e) c.in_ok-idle.idle
-    (λ s i. live_tested g order a.topological c.args.admitted.now.guards a.guards s.values i.values e c.requires.edge) none idle
+    (λ s i. live_tested g order a.topological c.args.admitted.now.guards a.guards s.values i.values e c.requires.edge)
+    none idle
 
 pub earlier-requires-clause-order : goal.earlier-requires-clause-order
-earlier-requires-clause-order c = rw (c.order-order.ensures.order, c.problem-problem.ensures.problem) (long_order c.order-order.ensures.admitted)
+earlier-requires-clause-order c =
+    rw (c.order-order.ensures.order, c.problem-problem.ensures.problem) (long_order c.order-order.ensures.admitted)
 
 pub earlier-requires-clause-second : goal.earlier-requires-clause-second
-earlier-requires-clause-second c = lawful_if_some c.problem-problem.result.now c.order-order.result.now (λ s. matches c.args.cube.now s && holds s c.in-Some.literal) c.in_ok-other.other
+earlier-requires-clause-second c = lawful_if_some c.problem-problem.result.now c.order-order.result.now
+    (λ s. matches c.args.cube.now s && holds s c.in-Some.literal) c.in_ok-other.other
     (c.in_ok-other.ensures c.order-order.result.now)
 
 pub returns : goal.returns
@@ -36,11 +43,16 @@ returns c =
     let order = c.args.admitted.now.order in
     let a = c.problem-problem.ensures.admitted in
     let e = c.args.edge in
-    let is : c.source-process.result ≡ source g e = c.source-process.ensures.source ∙ ap (λ h. source h e) c.problem-problem.ensures.problem in
-    let idle = subst (λ p. IsFirst g order (λ s. matches c.args.cube.now s && not (active g s.values p)) c.in_ok-idle.idle) is c.in_ok-idle.ensures in
+    let is : c.source-process.result ≡ source g e =
+    c.source-process.ensures.source ∙ ap (λ h. source h e) c.problem-problem.ensures.problem in
+    let idle =
+    subst (λ p. IsFirst g order (λ s. matches c.args.cube.now s && not (active g s.values p)) c.in_ok-idle.idle) is
+    c.in_ok-idle.ensures in
     let other = rw c.problem-problem.ensures.problem at (c.in_ok-other.ensures order) in
     let some = rw c.problem-problem.ensures.problem at c.in-Some.ensures.some in
     rw (c.earlier.ensures, c.problem-problem.ensures.problem, c.order-order.ensures.order)
-    (unlive_either g order c.args.cube.now (λ s. active g s.values (source g e)) (λ s. is_passed (test_of (condition_of g (source g e)) (edge_at g e).when) s.values)
+    (unlive_either g order c.args.cube.now (λ s. active g s.values (source g e))
+    (λ s. is_passed (test_of (condition_of g (source g e)) (edge_at g e).when) s.values)
     (λ s. live g s.values e) c.in-Some.literal c.in_ok-idle.idle c.in_ok-other.other
-    (λ s i. live_tested g order a.topological c.args.admitted.now.guards a.guards s.values i.values e c.requires.edge) some idle other)
+    (λ s i. live_tested g order a.topological c.args.admitted.now.guards a.guards s.values i.values e c.requires.edge)
+    some idle other)

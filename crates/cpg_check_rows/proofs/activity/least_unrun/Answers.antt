@@ -8,23 +8,27 @@ use Rattle.cpg_violation.proofs.Violations.{long_order}
 use Rattle.cpg_check_rows.proofs.activity.least_unrun.Goals as goal
 
 pub earlier-found-requires-clause-order : goal.earlier-found-requires-clause-order
-earlier-found-requires-clause-order c = rw (c.order-order.ensures.order, c.problem-problem.ensures.problem) (long_order c.order-order.ensures.admitted)
+earlier-found-requires-clause-order c =
+    rw (c.order-order.ensures.order, c.problem-problem.ensures.problem) (long_order c.order-order.ensures.admitted)
 
 pub loop-literal-preserved : goal.loop-literal-preserved
 loop-literal-preserved c =
     let g = c.args.admitted.now.graph in
     let cube = c.args.cube.now in
     let literals : c.literals-literal-items.result.now ≡ cube = c.literals-literal-items.ensures.literals in
-    let within : c.loop-literal.literal-index < length cube = omega (arith, c.loop-literal-test.true, ap length literals) in
+    let within : c.loop-literal.literal-index < length cube =
+    omega (arith, c.loop-literal-test.true, ap length literals) in
     let process = c.process_of_variable-process.ensures.process in
     let next = rw (process, c.problem-problem.ensures.problem, literals) at c.in_ok-next.ensures in
     rw (c.earlier-found.ensures, c.problem-problem.ensures.problem, c.order-order.ensures.order)
-    (first_any_more g c.args.admitted.now.order (matches cube) (λ s l. not (active g s.values (process_of_variable g l.variable))) cube c.loop-literal.literal-index
+    (first_any_more g c.args.admitted.now.order (matches cube)
+    (λ s l. not (active g s.values (process_of_variable g l.variable))) cube c.loop-literal.literal-index
     (record { variable = 0; low = 0; high = 0 }) within
     c.loop-literal.found c.in_ok-next.next c.loop-literal.invariant next)
 
 pub returns : goal.returns
 returns c =
     let literals : c.literals-literal-items.result.now ≡ c.args.cube.now = c.literals-literal-items.ensures.literals in
-    let past : length c.args.cube.now ≤ c.loop-literal.literal-index = omega (arith, c.loop-literal-test.false, ap length literals) in
+    let past : length c.args.cube.now ≤ c.loop-literal.literal-index =
+    omega (arith, c.loop-literal-test.false, ap length literals) in
     rw (take_all c.loop-literal.literal-index c.args.cube.now past) at c.loop-literal.invariant

@@ -8,4 +8,6 @@ use Rattle.cpg_check_rows.proofs.activity.least_unrun.Given as goal
 
 abbrev pub invariant-loop-literal : goal.invariant-loop-literal
 invariant-loop-literal l = IsFirst l.admitted.graph l.admitted.order
-    (λ s. matches l.cube s && list_any (λ m. not (active l.admitted.graph s.values (process_of_variable l.admitted.graph m.variable))) (take l.literal-index l.cube)) l.found
+    (λ s. matches l.cube s
+    && list_any (λ m. not (active l.admitted.graph s.values (process_of_variable l.admitted.graph m.variable)))
+    (take l.literal-index l.cube)) l.found

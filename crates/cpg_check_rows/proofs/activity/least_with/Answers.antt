@@ -10,8 +10,12 @@ pub least-requires : goal.least-requires
 least-requires c =
     let g = c.args.problem.now in
     let some : with_literal c.args.literal c.args.cube.now ≡ Some c.in-Some.part = search rules in
-    record { known = subst (IsKnown g) (with-is c.args.literal c.args.cube.now c.in-Some.part some) (known-narrowed g c.args.literal c.args.cube.now c.requires.literal c.requires.cube) }
+    record {
+      known = subst (IsKnown g) (with-is c.args.literal c.args.cube.now c.in-Some.part some)
+          (known-narrowed g c.args.literal c.args.cube.now c.requires.literal c.requires.cube);
+    }
 
 pub returns : goal.returns
-returns c = λ order. with_part c.args.problem.now order c.args.cube.now c.args.literal c.in-Some.part c.in_ok-found.found (rw c.in-Some.is at c.in_ok-part.ensures.both)
+returns c = λ order. with_part c.args.problem.now order c.args.cube.now c.args.literal c.in-Some.part
+    c.in_ok-found.found (rw c.in-Some.is at c.in_ok-part.ensures.both)
     (c.in_ok-found.ensures.first order)

@@ -12,22 +12,32 @@ use Rattle.cpg_check_rows.proofs.HearLaws.{hears_hold, heard_more}
 use Rattle.cpg_check_rows.proofs.hears.check_hears.Goals as goal
 
 pub first_hear-requires-clause-few : goal.first_hear-requires-clause-few
-first_hear-requires-clause-few c = rw c.columns_of-sent.ensures.columns (columns_few c.args.tables.now.head c.args.tables.now.nodes c.columns_of-sent.ensures.lawful c.loop-item.item)
+first_hear-requires-clause-few c = rw c.columns_of-sent.ensures.columns
+    (columns_few c.args.tables.now.head c.args.tables.now.nodes c.columns_of-sent.ensures.lawful c.loop-item.item)
 
 pub returns-in-Some-clause-first : goal.returns-in-Some-clause-first
 returns-in-Some-clause-first c =
     let g = c.args.admitted.now.graph in
     let delay : c.slot_length-delay.result ≡ slot_length g (home g c.loop-item.item) =
-    c.slot_length-delay.ensures ∙ ap (slot_length c.problem-problem.result.now) c.home.ensures.home ∙ ap (λ h. slot_length h (home h c.loop-item.item)) c.problem-problem.ensures.problem in
-    let due : map (later_by c.slot_length-delay.result) c.columns_of-sent.result.now ≡ due_columns g c.args.tables.now.nodes c.loop-item.item =
+    c.slot_length-delay.ensures ∙ ap (slot_length c.problem-problem.result.now) c.home.ensures.home
+    ∙ ap (λ h. slot_length h (home h c.loop-item.item)) c.problem-problem.ensures.problem in
+    let due : map (later_by c.slot_length-delay.result) c.columns_of-sent.result.now
+    ≡ due_columns g c.args.tables.now.nodes c.loop-item.item =
     ap₂ (λ d (cs : List Column). map (later_by d) cs) delay c.columns_of-sent.ensures.columns in
     let nodes : length c.args.tables.now.head.nodes ≡ length g.nodes = ap length c.requires.nodes in
-    let first : IsFirstHear c.args.tables.now.nodes (length g.nodes) c.loop-item.item (due_columns g c.args.tables.now.nodes c.loop-item.item) c.in-Some.place =
+    let first : IsFirstHear c.args.tables.now.nodes (length g.nodes) c.loop-item.item
+    (due_columns g c.args.tables.now.nodes c.loop-item.item) c.in-Some.place =
     subst (λ cs. IsFirstHear c.args.tables.now.nodes (length g.nodes) c.loop-item.item cs c.in-Some.place) due
-    (subst (λ n. IsFirstHear c.args.tables.now.nodes n c.loop-item.item (map (later_by c.slot_length-delay.result) c.columns_of-sent.result.now) c.in-Some.place) nodes c.in-Some.ensures.differ) in
+    (subst (λ n. IsFirstHear c.args.tables.now.nodes n c.loop-item.item (map (later_by c.slot_length-delay.result)
+    c.columns_of-sent.result.now) c.in-Some.place) nodes c.in-Some.ensures.differ) in
     record {
       number = c.number.ensures;
-      item = omega (arith, c.loop-item-test.true, c.item_count-item-end.ensures, ap item_count c.problem-problem.ensures.problem);
+      item = omega (
+        arith,
+        c.loop-item-test.true,
+        c.item_count-item-end.ensures,
+        ap item_count c.problem-problem.ensures.problem,
+      );
       scenario = rw (← c.problem-problem.ensures.problem) c.in_ok-scenario.ensures;
       items = c.loop-item.invariant;
       column = first;
@@ -37,8 +47,10 @@ pub loop-item-preserved : goal.loop-item-preserved
 loop-item-preserved c =
     let g = c.args.admitted.now.graph in
     let delay : c.slot_length-delay.result ≡ slot_length g (home g c.loop-item.item) =
-    c.slot_length-delay.ensures ∙ ap (slot_length c.problem-problem.result.now) c.home.ensures.home ∙ ap (λ h. slot_length h (home h c.loop-item.item)) c.problem-problem.ensures.problem in
-    let due : map (later_by c.slot_length-delay.result) c.columns_of-sent.result.now ≡ due_columns g c.args.tables.now.nodes c.loop-item.item =
+    c.slot_length-delay.ensures ∙ ap (slot_length c.problem-problem.result.now) c.home.ensures.home
+    ∙ ap (λ h. slot_length h (home h c.loop-item.item)) c.problem-problem.ensures.problem in
+    let due : map (later_by c.slot_length-delay.result) c.columns_of-sent.result.now
+    ≡ due_columns g c.args.tables.now.nodes c.loop-item.item =
     ap₂ (λ d (cs : List Column). map (later_by d) cs) delay c.columns_of-sent.ensures.columns in
     let nodes : length c.args.tables.now.head.nodes ≡ length g.nodes = ap length c.requires.nodes in
     let well : IsHeardWell g c.args.tables.now.nodes c.loop-item.item = rw (← due, ← nodes) c.in_default.ensures.same in
@@ -47,6 +59,13 @@ loop-item-preserved c =
 pub returns-clause-none : goal.returns-clause-none
 returns-clause-none c =
     let g = c.args.admitted.now.graph in
-    let are : AreTablesOf (head_of g) c.args.tables.now.nodes = tables_of_graph g c.args.tables.now.head c.args.tables.now.nodes c.requires c.head.ensures.lawful in
+    let are : AreTablesOf (head_of g) c.args.tables.now.nodes =
+    tables_of_graph g c.args.tables.now.head c.args.tables.now.nodes c.requires c.head.ensures.lawful in
     hears_hold g c.problem-problem.ensures.admitted.limits c.args.tables.now.nodes are
-    (λ x l. c.loop-item.invariant x (omega (arith, l, c.loop-item-test.false, c.item_count-item-end.ensures, ap item_count c.problem-problem.ensures.problem)))
+    (λ x l. c.loop-item.invariant x (omega (
+      arith,
+      l,
+      c.loop-item-test.false,
+      c.item_count-item-end.ensures,
+      ap item_count c.problem-problem.ensures.problem,
+    )))

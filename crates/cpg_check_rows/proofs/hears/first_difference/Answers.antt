@@ -7,8 +7,10 @@ use Rattle.cpg_check_rows.proofs.hears.first_difference.Goals as goal
 pub loop-place-preserved : goal.loop-place-preserved
 loop-place-preserved c =
     let same : c.index-heard-place.result ≡ later_by c.args.delay c.index-sent-place.result = search rules in
-    same_more_mapped (later_by c.args.delay) c.args.heard.now c.args.sent.now c.loop-place.place c.index-heard-place.result c.index-sent-place.result
-    (omega (arith, c.min-common.ensures)) (omega (arith, c.min-common.ensures)) c.index-heard-place.is c.index-sent-place.is same c.loop-place.invariant
+    same_more_mapped (later_by c.args.delay) c.args.heard.now c.args.sent.now c.loop-place.place
+    c.index-heard-place.result c.index-sent-place.result
+    (omega (arith, c.min-common.ensures))
+    (omega (arith, c.min-common.ensures)) c.index-heard-place.is c.index-sent-place.is same c.loop-place.invariant
 
 pub returns-clause-differ : goal.returns-clause-differ
 returns-clause-differ c =
@@ -17,5 +19,6 @@ returns-clause-differ c =
     let at : c.loop-place.place ≡ c.min-common.result = omega arith in
     record {
       before = subst (λ n. take n c.args.heard.now ≡ take n due) at c.loop-place.invariant;
-      here = ends_differ c.args.heard.now due c.min-common.result (c.min-common.ensures ∙ ap (min (length c.args.heard.now)) (sym long)) (λ q. c.if-heard-sent.false (q ∙ long));
+      here = ends_differ c.args.heard.now due c.min-common.result (c.min-common.ensures
+          ∙ ap (min (length c.args.heard.now)) (sym long)) (λ q. c.if-heard-sent.false (q ∙ long));
     }

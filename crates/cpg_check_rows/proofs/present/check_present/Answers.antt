@@ -14,19 +14,28 @@ use Rattle.cpg_check_rows.proofs.present.check_present.Goals as goal
 
 pub least_absent-requires-clause-columns : goal.least_absent-requires-clause-columns
 least_absent-requires-clause-columns c =
-    let are : AreTablesOf (head_of c.args.admitted.now.graph) c.args.tables.now.nodes = tables_of_graph c.args.admitted.now.graph c.args.tables.now.head c.args.tables.now.nodes c.requires.head
+    let are : AreTablesOf (head_of c.args.admitted.now.graph) c.args.tables.now.nodes =
+    tables_of_graph c.args.admitted.now.graph c.args.tables.now.head c.args.tables.now.nodes c.requires.head
     c.columns_of-columns.ensures.lawful in
-    rw c.columns_of-columns.ensures.columns (columns_known c.problem-problem.ensures.admitted c.args.tables.now.nodes are c.loop-item.item)
+    rw c.columns_of-columns.ensures.columns
+    (columns_known c.problem-problem.ensures.admitted c.args.tables.now.nodes are c.loop-item.item)
 
 pub loop-item-preserved : goal.loop-item-preserved
 loop-item-preserved c =
     let g = c.args.admitted.now.graph in
-    let none : (s : Scenario) → IsScenario g s → is_absent g (columns_of c.args.tables.now.nodes c.loop-item.item) c.loop-item.item s ≡ false =
+    let none : (s : Scenario) → IsScenario g s →
+    is_absent g (columns_of c.args.tables.now.nodes c.loop-item.item) c.loop-item.item s ≡ false =
     rw (← c.columns_of-columns.ensures.columns) (rw c.in_default.is at c.in_ok-absent.ensures) in
     present_more g c.args.tables.now.nodes c.loop-item.item c.loop-item.invariant none
 
 pub loop-item-preserved-then-is_marked : goal.loop-item-preserved-then-is_marked
 loop-item-preserved-then-is_marked c =
     let g = c.args.admitted.now.graph in
-    let below : c.loop-item.item < item_count g = omega (arith, c.loop-item-test.true, c.item_count-item-end.ensures, ap item_count c.problem-problem.ensures.problem) in
-    marked_more g c.args.tables.now.nodes Rule.Present c.args.marks.now c.requires.marks c.loop-item.item below (sym c.if-is_marked.ensures) c.loop-item.invariant
+    let below : c.loop-item.item < item_count g = omega (
+      arith,
+      c.loop-item-test.true,
+      c.item_count-item-end.ensures,
+      ap item_count c.problem-problem.ensures.problem,
+    ) in
+    marked_more g c.args.tables.now.nodes Rule.Present c.args.marks.now c.requires.marks c.loop-item.item below
+    (sym c.if-is_marked.ensures) c.loop-item.invariant

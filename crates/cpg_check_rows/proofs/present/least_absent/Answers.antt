@@ -7,19 +7,24 @@ pub returns-in-Nothing : goal.returns-in-Nothing
 returns-in-Nothing c =
     let g = c.args.admitted.now.graph in
     let x = c.args.item in
-    let is = as_source g x c.item_source.result ItemSource.Nothing (rw c.problem.ensures.problem at c.item_source.ensures.active) c.in-Nothing.is in
+    let is = as_source g x c.item_source.result ItemSource.Nothing
+    (rw c.problem.ensures.problem at c.item_source.ensures.active) c.in-Nothing.is in
     absent_never g c.args.admitted.now.order c.args.columns.now x is
 
 pub returns-in-Process : goal.returns-in-Process
 returns-in-Process c =
     let g = c.args.admitted.now.graph in
     let x = c.args.item in
-    let is = as_source g x c.item_source.result (ItemSource.Process c.in-Process.process) (rw c.problem.ensures.problem at c.item_source.ensures.active) c.in-Process.is in
-    absent_as g c.args.admitted.now.order c.args.columns.now x (ItemSource.Process c.in-Process.process) is c.least_unstarted.result c.least_unstarted.ensures
+    let is = as_source g x c.item_source.result (ItemSource.Process c.in-Process.process)
+    (rw c.problem.ensures.problem at c.item_source.ensures.active) c.in-Process.is in
+    absent_as g c.args.admitted.now.order c.args.columns.now x
+    (ItemSource.Process c.in-Process.process) is c.least_unstarted.result c.least_unstarted.ensures
 
 pub returns-in-Edge : goal.returns-in-Edge
 returns-in-Edge c =
     let g = c.args.admitted.now.graph in
     let x = c.args.item in
-    let is = as_source g x c.item_source.result (ItemSource.Edge c.in-Edge.edge) (rw c.problem.ensures.problem at c.item_source.ensures.active) c.in-Edge.is in
-    absent_as g c.args.admitted.now.order c.args.columns.now x (ItemSource.Edge c.in-Edge.edge) is c.least_uncarried.result c.least_uncarried.ensures
+    let is = as_source g x c.item_source.result (ItemSource.Edge c.in-Edge.edge)
+    (rw c.problem.ensures.problem at c.item_source.ensures.active) c.in-Edge.is in
+    absent_as g c.args.admitted.now.order c.args.columns.now x
+    (ItemSource.Edge c.in-Edge.edge) is c.least_uncarried.result c.least_uncarried.ensures

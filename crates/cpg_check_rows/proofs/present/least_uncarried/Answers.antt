@@ -16,8 +16,12 @@ returns c =
     let order = c.args.admitted.now.order in
     let e = c.args.edge in
     let same = c.problem-problem.ensures.problem in
-    let passed = subst (λ h. (s : Scenario) → matches c.in_ok-cube.cube s ≡ is_passed (test_of (condition_of h (source h e)) (edge_at h e).when) s.values) same c.in_ok-cube.ensures.passed in
+    let passed = subst (λ h. (s : Scenario) → matches c.in_ok-cube.cube s ≡ is_passed
+    (test_of (condition_of h (source h e)) (edge_at h e).when) s.values) same c.in_ok-cube.ensures.passed in
     let is : c.source-process.result ≡ source g e = c.source-process.ensures.source ∙ ap (λ h. source h e) same in
-    let found = subst (λ p. IsFirst g order (λ s. is_left (map (λ (c : Column). c.cube) c.args.columns.now) c.in_ok-cube.cube s && active g s.values p) c.in_ok-found.found) is c.in_ok-found.ensures in
+    let found =
+    subst (λ p. IsFirst g order (λ s. is_left (map (λ (c : Column). c.cube) c.args.columns.now) c.in_ok-cube.cube s
+    && active g s.values p) c.in_ok-found.found) is c.in_ok-found.ensures in
     absent_from g order c.args.columns.now (λ s. live g s.values e) (source g e) c.in_ok-cube.cube
-    (λ s i. live_where c.problem-problem.ensures.admitted s i e c.requires.edge c.in_ok-cube.cube (passed s)) c.in_ok-found.found found
+    (λ s i. live_where c.problem-problem.ensures.admitted s i e c.requires.edge c.in_ok-cube.cube (passed s))
+    c.in_ok-found.found found

@@ -8,5 +8,6 @@ pub returns : goal.returns
 returns c =
     let g = c.args.admitted.now.graph in
     let p = c.args.process in
-    absent_from g c.args.admitted.now.order c.args.columns.now (λ s. active g s.values p) p [] (λ s i. with_true (active g s.values p) true refl) c.in_ok-found.found
+    absent_from g c.args.admitted.now.order c.args.columns.now (λ s. active g s.values p) p []
+    (λ s i. with_true (active g s.values p) true refl) c.in_ok-found.found
     (rw c.whole-whole.ensures at c.in_ok-found.ensures)

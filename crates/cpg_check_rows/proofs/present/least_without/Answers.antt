@@ -24,9 +24,13 @@ least_at-requires-clause-list c =
 pub returns : goal.returns
 returns c =
     let g = c.args.admitted.now.graph in
-    let by : map seen c.as_slice.result.now ≡ map (λ (c : Column). c.cube) c.args.columns.now = ap (map seen) c.as_slice.ensures.value ∙ c.in_ok-by.ensures in
-    let tree : c.guard_of-tree.result.now ≡ tree_of c.args.admitted.now.guards c.args.process = c.guard_of-tree.ensures.tree ∙ ap (λ guards. tree_of guards c.args.process) c.guards.ensures.guards in
+    let by : map seen c.as_slice.result.now ≡ map (λ (c : Column). c.cube) c.args.columns.now =
+    ap (map seen) c.as_slice.ensures.value ∙ c.in_ok-by.ensures in
+    let tree : c.guard_of-tree.result.now ≡ tree_of c.args.admitted.now.guards c.args.process =
+    c.guard_of-tree.ensures.tree ∙ ap (λ guards. tree_of guards c.args.process) c.guards.ensures.guards in
     let found : IsFirst g c.args.admitted.now.order
-    (λ s. is_left (map (λ (c : Column). c.cube) c.args.columns.now) c.args.cube.now s && comes_to (tree_of c.args.admitted.now.guards c.args.process) true s) c.in_ok-found.found =
+    (λ s. is_left (map (λ (c : Column). c.cube) c.args.columns.now) c.args.cube.now s
+    && comes_to (tree_of c.args.admitted.now.guards c.args.process) true s) c.in_ok-found.found =
     rw (← by, ← tree) c.in_ok-found.ensures in
-    active_found c.guards.ensures.admitted (map (λ (c : Column). c.cube) c.args.columns.now) c.args.cube.now c.args.process c.requires.process c.in_ok-found.found found
+    active_found c.guards.ensures.admitted (map (λ (c : Column). c.cube) c.args.columns.now) c.args.cube.now
+    c.args.process c.requires.process c.in_ok-found.found found

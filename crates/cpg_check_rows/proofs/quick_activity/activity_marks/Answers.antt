@@ -8,12 +8,14 @@ use Rattle.cpg_check_rows.proofs.quick_activity.activity_marks.Goals as goal
 
 pub loop-item-preserved : goal.loop-item-preserved
 loop-item-preserved c = rw c.in_ok-push.ensures.items
-    (one_more c.args.admitted.now.graph c.args.tables.now.nodes Rule.Activity c.loop-item.item c.loop-item.marks.items c.is_sure-sure.result c.loop-item.invariant c.is_sure-sure.ensures)
+    (one_more c.args.admitted.now.graph c.args.tables.now.nodes Rule.Activity c.loop-item.item c.loop-item.marks.items
+    c.is_sure-sure.result c.loop-item.invariant c.is_sure-sure.ensures)
 
 pub is_sure-sure-requires-clause-everywhere : goal.is_sure-sure-requires-clause-everywhere
 is_sure-sure-requires-clause-everywhere c s law =
     let g = c.args.admitted.now.graph in
-    let faults : c.faults.result ≡ g.faults = c.faults.ensures.faults ∙ ap (λ (h : Graph). h.faults) c.problem-2.ensures.problem in
+    let faults : c.faults.result ≡ g.faults =
+    c.faults.ensures.faults ∙ ap (λ (h : Graph). h.faults) c.problem-2.ensures.problem in
     c.whole-everywhere.ensures.lies s (few_of g c.faults.result faults s law)
 
 pub returns : goal.returns

@@ -12,11 +12,14 @@ loop-literal-preserved c s law lies =
     let g = c.args.admitted.now.graph in
     let literals = c.args.literals.now in
     let literal : Literal = get_or literals c.loop-literal.literal-index (record { variable = 0; low = 0; high = 0 }) in
-    let here : active g s.values (process_of_variable g literal.variable) ≡ true = rw (c.process_of_variable-process.ensures.process, c.problem.ensures.problem) at
+    let here : active g s.values (process_of_variable g literal.variable) ≡ true =
+    rw (c.process_of_variable-process.ensures.process, c.problem.ensures.problem) at
     (OnTrue_at c.if-not-is_active.false c.is_active.ensures s law lies) in
-    list_any_more (λ (l : Literal). not (active g s.values (process_of_variable g l.variable))) literals c.loop-literal.literal-index
+    list_any_more (λ (l : Literal). not (active g s.values (process_of_variable g l.variable))) literals
+    c.loop-literal.literal-index
     (record { variable = 0; low = 0; high = 0 }) c.loop-literal-test.true
     ∙ ap₂ (λ a b. a || not b) (c.loop-literal.invariant s law lies) here
 
 pub returns : goal.returns
-returns c s law lies = rw (take_all c.loop-literal.literal-index c.args.literals.now c.loop-literal-test.false) at (c.loop-literal.invariant s law lies)
+returns c s law lies = rw (take_all c.loop-literal.literal-index c.args.literals.now c.loop-literal-test.false) at
+    (c.loop-literal.invariant s law lies)

@@ -8,4 +8,5 @@ use Rattle.cpg_check_rows.proofs.quick_activity.are_active.Given as goal
 
 abbrev pub invariant-loop-literal : goal.invariant-loop-literal
 invariant-loop-literal l = (s : Scenario) → IsScenario l.admitted.graph s → IsInSpace l.space s →
-    list_any (λ l'. not (active l.admitted.graph s.values (process_of_variable l.admitted.graph l'.variable))) (take l.literal-index l.literals) ≡ false
+    list_any (λ l'. not (active l.admitted.graph s.values (process_of_variable l.admitted.graph l'.variable)))
+    (take l.literal-index l.literals) ≡ false

@@ -5,4 +5,5 @@ use Rattle.cpg_table.specs.Valid.{breaks_activity}
 use Rattle.cpg_check_rows.proofs.quick_activity.are_lawful.Given as goal
 
 abbrev pub invariant-loop-column : goal.invariant-loop-column
-invariant-loop-column l = All (λ c. (s : Scenario) → IsScenario l.admitted.graph s → matches c.cube s ≡ true → breaks_activity l.admitted.graph s l.item c ≡ false) (take l.column-index l.columns)
+invariant-loop-column l = All (λ c. (s : Scenario) → IsScenario l.admitted.graph s → matches c.cube s ≡ true →
+    breaks_activity l.admitted.graph s l.item c ≡ false) (take l.column-index l.columns)

@@ -13,7 +13,8 @@ use Rattle.cpg_check_rows.proofs.quick_activity.is_lawful.Goals as goal
 pub returns-then-not-narrow_to : goal.returns-then-not-narrow_to
 returns-then-not-narrow_to c s law m =
     let none = from_false c.narrow_to.result c.if-not-narrow_to.true c.narrow_to.ensures.none in
-    absurd (true≢false (sym (c.on_values.ensures s (ap (λ ls. matches ls s) c.literals-literals.ensures.literals ∙ m)) ∙ none s (c.requires.everywhere s law)))
+    absurd (true≢false (sym (c.on_values.ensures s (ap (λ ls. matches ls s) c.literals-literals.ensures.literals ∙ m))
+    ∙ none s (c.requires.everywhere s law)))
 
 pub returns : goal.returns
 returns c =
@@ -22,6 +23,8 @@ returns c =
     let fits = from_true c.narrow_to.result c.if-not-narrow_to.false c.narrow_to.ensures.lies in
     of_true c.are_active.result c.are_active.ensures (λ told s law m.
     let lies = fits s (c.requires.everywhere s law) (c.on_values.ensures s (ap (λ ls. matches ls s) same ∙ m)) in
-    both_active (item_active g s.values (item_at g c.args.item)) (list_any (λ (l : Literal). not (active g s.values (process_of_variable g l.variable))) c.args.column.now.cube)
+    both_active (item_active g s.values (item_at g c.args.item))
+    (list_any (λ (l : Literal). not (active g s.values (process_of_variable g l.variable))) c.args.column.now.cube)
     (OnTrue_at c.if-not-is_item_running.false c.is_item_running.ensures s law lies)
-    (subst (λ ls. list_any (λ (l : Literal). not (active g s.values (process_of_variable g l.variable))) ls ≡ false) same (told s law lies)))
+    (subst (λ ls. list_any (λ (l : Literal). not (active g s.values (process_of_variable g l.variable))) ls ≡ false)
+    same (told s law lies)))

@@ -4,7 +4,9 @@ use Rattle.cpg_violation.specs.Always.{AllAlways}
 use Rattle.cpg_check_rows.proofs.quick_activity.is_plain.Goals as goal
 
 pub returns-clause-all : goal.returns-clause-all
-returns-clause-all c = OnTrue_from c.is_item_running.result (AllAlways c.args.admitted.now.graph) (λ e. OnTrue_at c.if-not-all.false c.requires.all)
+returns-clause-all c = OnTrue_from c.is_item_running.result (AllAlways c.args.admitted.now.graph)
+    (λ e. OnTrue_at c.if-not-all.false c.requires.all)
 
 pub returns-clause-item : goal.returns-clause-item
-returns-clause-item c = of_true c.is_item_running.result c.is_item_running.ensures (λ told s law. told s law (c.requires.everywhere s law))
+returns-clause-item c =
+    of_true c.is_item_running.result c.is_item_running.ensures (λ told s law. told s law (c.requires.everywhere s law))

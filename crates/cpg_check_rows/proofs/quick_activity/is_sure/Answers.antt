@@ -14,20 +14,25 @@ use Rattle.cpg_check_rows.proofs.quick_activity.is_sure.Goals as goal
 
 pub are_lawful-requires-clause-columns : goal.are_lawful-requires-clause-columns
 are_lawful-requires-clause-columns c =
-    let are : AreTablesOf (head_of c.args.admitted.now.graph) c.args.tables.now.nodes = tables_of_graph c.args.admitted.now.graph c.args.tables.now.head c.args.tables.now.nodes c.requires.head
+    let are : AreTablesOf (head_of c.args.admitted.now.graph) c.args.tables.now.nodes =
+    tables_of_graph c.args.admitted.now.graph c.args.tables.now.head c.args.tables.now.nodes c.requires.head
     c.columns_of-columns.ensures.lawful in
-    rw c.columns_of-columns.ensures.columns (columns_known c.problem-problem.ensures.admitted c.args.tables.now.nodes are c.args.item)
+    rw c.columns_of-columns.ensures.columns
+    (columns_known c.problem-problem.ensures.admitted c.args.tables.now.nodes are c.args.item)
 
 pub returns-then-is_plain : goal.returns-then-is_plain
 returns-then-is_plain c =
     let g = c.args.admitted.now.graph in
     let a = c.problem-problem.ensures.admitted in
-    let are : AreTablesOf (head_of g) c.args.tables.now.nodes = tables_of_graph g c.args.tables.now.head c.args.tables.now.nodes c.requires.head c.columns_of-columns.ensures.lawful in
-    always_sure g c.args.tables.now.nodes c.args.item a.limits.few_processes (OnTrue_at c.if-is_plain.true c.is_plain.ensures.all) (columns_known a c.args.tables.now.nodes are c.args.item)
+    let are : AreTablesOf (head_of g) c.args.tables.now.nodes = tables_of_graph g c.args.tables.now.head
+    c.args.tables.now.nodes c.requires.head c.columns_of-columns.ensures.lawful in
+    always_sure g c.args.tables.now.nodes c.args.item a.limits.few_processes
+    (OnTrue_at c.if-is_plain.true c.is_plain.ensures.all) (columns_known a c.args.tables.now.nodes are c.args.item)
     (OnTrue_at c.if-is_plain.true c.is_plain.ensures.item)
 
 pub returns : goal.returns
 returns c =
     let g = c.args.admitted.now.graph in
     of_true c.are_lawful.result c.are_lawful.ensures (λ all. lawful_sure g c.args.tables.now.nodes c.args.item
-    (subst (λ xs. All (λ (d : Column). (s : Scenario) → IsScenario g s → matches d.cube s ≡ true → breaks_activity g s c.args.item d ≡ false) xs) c.columns_of-columns.ensures.columns all))
+    (subst (λ xs. All (λ (d : Column). (s : Scenario) → IsScenario g s → matches d.cube s ≡ true →
+    breaks_activity g s c.args.item d ≡ false) xs) c.columns_of-columns.ensures.columns all))

@@ -3,4 +3,5 @@ use Rattle.cpg_check_rows.proofs.LawfulRows.{matches_from}
 use Rattle.cpg_check_rows.proofs.quick_activity.on_values.Goals as goal
 
 pub returns-then-literals-from-lt-FIRST_VALUE : goal.returns-then-literals-from-lt-FIRST_VALUE
-returns-then-literals-from-lt-FIRST_VALUE c = λ s m. matches_from c.args.literals.now (length c.args.literals.now - c.loop-later.later) s m
+returns-then-literals-from-lt-FIRST_VALUE c =
+    λ s m. matches_from c.args.literals.now (length c.args.literals.now - c.loop-later.later) s m

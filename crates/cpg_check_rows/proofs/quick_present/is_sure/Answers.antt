@@ -8,8 +8,10 @@ use Rattle.cpg_check_rows.proofs.quick_present.is_sure.Goals as goal
 pub returns : goal.returns
 returns c =
     let g = c.args.admitted.now.graph in
-    let faults : c.faults.result ≡ g.faults = c.faults.ensures.faults ∙ ap (λ (h : Graph). h.faults) c.problem.ensures.problem in
+    let faults : c.faults.result ≡ g.faults =
+    c.faults.ensures.faults ∙ ap (λ (h : Graph). h.faults) c.problem.ensures.problem in
     of_true c.do_pass.result c.do_pass.ensures (λ all tables are.
-    present_sure g tables c.args.item (tree_at g tables c.args.trees.now c.args.item c.in-Some-Some.field-0.now c.in-Some-Some.tree c.in-Some-Some.ensures.lookup.3.0 c.in-Some-Some.ensures.lookup.1
+    present_sure g tables c.args.item (tree_at g tables c.args.trees.now c.args.item c.in-Some-Some.field-0.now
+    c.in-Some-Some.tree c.in-Some-Some.ensures.lookup.3.0 c.in-Some-Some.ensures.lookup.1
     c.in-Some-Some.field-0-is are)
     (λ s law. all s (c.whole-space.ensures.lies s (few_of g c.faults.result faults s law))))

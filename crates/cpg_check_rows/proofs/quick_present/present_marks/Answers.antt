@@ -5,7 +5,8 @@ use Rattle.cpg_check_rows.proofs.quick_present.present_marks.Goals as goal
 
 pub loop-item-preserved : goal.loop-item-preserved
 loop-item-preserved c tables are = rw c.in_ok-push.ensures.items
-    (one_more c.args.admitted.now.graph tables Rule.Present c.loop-item.item c.loop-item.marks.items c.is_sure.result (c.loop-item.invariant tables are)
+    (one_more c.args.admitted.now.graph tables Rule.Present c.loop-item.item c.loop-item.marks.items c.is_sure.result
+    (c.loop-item.invariant tables are)
     (of_true c.is_sure.result c.is_sure.ensures (λ sure. sure tables are)))
 
 pub returns : goal.returns

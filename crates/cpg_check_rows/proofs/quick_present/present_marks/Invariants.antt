@@ -6,4 +6,5 @@ use Rattle.cpg_violation.proofs.SureLaws.{AreSoFar}
 use Rattle.cpg_check_rows.proofs.quick_present.present_marks.Given as goal
 
 abbrev pub invariant-loop-item : goal.invariant-loop-item
-invariant-loop-item l = (tables : List NodeTable) → AreRowTrees l.admitted.graph tables l.trees → AreSoFar l.admitted.graph tables Rule.Present l.item l.marks.items
+invariant-loop-item l = (tables : List NodeTable) → AreRowTrees l.admitted.graph tables l.trees →
+    AreSoFar l.admitted.graph tables Rule.Present l.item l.marks.items

@@ -5,8 +5,10 @@ use Rattle.cpg_check_rows.proofs.quick_single.single_marks.Goals as goal
 
 pub loop-tree-preserved : goal.loop-tree-preserved
 loop-tree-preserved c g tables are = rw c.in_ok-push.ensures.items
-    (one_more g tables Rule.Single c.loop-tree.tree-index c.loop-tree.marks.items c.is_some.result (c.loop-tree.invariant g tables are)
-    (rw c.is_some.ensures (single_at g tables c.args.trees.now c.loop-tree.tree-index c.tree-item.result c.loop-tree-test.true c.tree-item.is are)))
+    (one_more g tables Rule.Single c.loop-tree.tree-index c.loop-tree.marks.items c.is_some.result
+    (c.loop-tree.invariant g tables are)
+    (rw c.is_some.ensures (single_at g tables c.args.trees.now c.loop-tree.tree-index c.tree-item.result
+    c.loop-tree-test.true c.tree-item.is are)))
 
 pub returns : goal.returns
 returns c g tables are = (c.loop-tree.invariant g tables are).sure

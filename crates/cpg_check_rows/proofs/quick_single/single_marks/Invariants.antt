@@ -7,4 +7,5 @@ use Rattle.cpg_violation.proofs.SureLaws.{AreSoFar}
 use Rattle.cpg_check_rows.proofs.quick_single.single_marks.Given as goal
 
 abbrev pub invariant-loop-tree : goal.invariant-loop-tree
-invariant-loop-tree l = (g : Graph) (tables : List NodeTable) → AreRowTrees g tables l.trees → AreSoFar g tables Rule.Single l.tree-index l.marks.items
+invariant-loop-tree l = (g : Graph) (tables : List NodeTable) → AreRowTrees g tables l.trees →
+    AreSoFar g tables Rule.Single l.tree-index l.marks.items

@@ -4,4 +4,5 @@ use Rattle.cpg_check_rows.specs.Single.{is_double}
 use Rattle.cpg_check_rows.proofs.single.first_double.Given as goal
 
 abbrev pub invariant-loop-column : goal.invariant-loop-column
-invariant-loop-column l = (i : ℕ) (s : Scenario) → i < l.column → IsScenario l.problem s → is_double l.columns i s ≡ false
+invariant-loop-column l =
+    (i : ℕ) (s : Scenario) → i < l.column → IsScenario l.problem s → is_double l.columns i s ≡ false

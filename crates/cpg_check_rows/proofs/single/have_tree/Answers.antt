@@ -7,4 +7,5 @@ pub tree_of-requires : goal.tree_of-requires
 tree_of-requires c = omega (arith, c.requires.few, length-take c.args.count c.args.columns.now)
 
 pub returns : goal.returns
-returns c = rw c.is_some.ensures (none_by_tree c.args.problem.now c.args.columns.now c.args.count c.in_ok-tree.tree c.in_ok-tree.ensures)
+returns c = rw c.is_some.ensures
+    (none_by_tree c.args.problem.now c.args.columns.now c.args.count c.in_ok-tree.tree c.in_ok-tree.ensures)

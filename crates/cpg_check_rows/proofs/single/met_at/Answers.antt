@@ -9,8 +9,10 @@ use Rattle.cpg_check_rows.proofs.single.met_at.Goals as goal
 
 pub returns-clause-first : goal.returns-clause-first
 returns-clause-first c = λ order.
-    let found : slice_get c.args.columns.now c.args.place ≡ Some c.in-Some.column.now = slice_get-get_or c.args.columns.now c.args.place c.in-Some.column.now c.in-Some.ensures.lookup.3.0 ∙
+    let found : slice_get c.args.columns.now c.args.place ≡ Some c.in-Some.column.now =
+    slice_get-get_or c.args.columns.now c.args.place c.in-Some.column.now c.in-Some.ensures.lookup.3.0 ∙
     ap Some (sym c.in-Some.ensures.lookup.1) in
     first_same c.args.problem.now order (λ s. matches c.args.cube.now s && matches c.in-Some.column.now.cube s)
     (λ s. matches c.args.cube.now s && is_at c.args.columns.now s c.args.place) c.in_ok-found.found
-    (λ s _. ap (λ b. matches c.args.cube.now s && b) (at_found c.args.columns.now c.args.place c.in-Some.column.now found s)) (c.in_ok-found.ensures.first order)
+    (λ s _. ap (λ b. matches c.args.cube.now s && b)
+    (at_found c.args.columns.now c.args.place c.in-Some.column.now found s)) (c.in_ok-found.ensures.first order)

@@ -7,7 +7,8 @@ use Rattle.cpg_check_rows.proofs.single.shared.Goals as goal
 
 pub earlier-found-requires-clause-second : goal.earlier-found-requires-clause-second
 earlier-found-requires-clause-second c = lawful_if_some c.args.problem.now c.args.order.now
-    (λ s. matches c.args.cube.now s && is_at c.args.columns.now s (get_or c.args.places.now c.loop-place.place-index 0)) c.in_ok-next.next (c.in_ok-next.ensures.first c.args.order.now)
+    (λ s. matches c.args.cube.now s && is_at c.args.columns.now s (get_or c.args.places.now c.loop-place.place-index 0))
+    c.in_ok-next.next (c.in_ok-next.ensures.first c.args.order.now)
 
 pub loop-place-preserved : goal.loop-place-preserved
 loop-place-preserved c = record {

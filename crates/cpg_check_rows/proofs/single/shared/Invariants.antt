@@ -8,6 +8,7 @@ use Rattle.cpg_check_rows.proofs.single.shared.Given as goal
 
 abbrev pub invariant-loop-place : goal.invariant-loop-place
 invariant-loop-place l = record {
-  first : IsFirst l.problem l.order (λ s. matches l.cube s && list_any (is_at l.columns s) (take l.place-index l.places)) l.found;
+  first : IsFirst l.problem l.order
+      (λ s. matches l.cube s && list_any (is_at l.columns s) (take l.place-index l.places)) l.found;
   room : HasRoom l.problem l.room;
 }

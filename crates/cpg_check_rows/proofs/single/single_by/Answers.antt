@@ -14,34 +14,54 @@ use Rattle.cpg_violation.proofs.Violations.{long_order, columns_known, none_more
 use Rattle.cpg_check_rows.proofs.single.single_by.Goals as goal
 
 pub first_double-requires-clause-order : goal.first_double-requires-clause-order
-first_double-requires-clause-order c = rw (c.order-order.ensures.order, c.problem-problem.ensures.problem) (long_order c.order-order.ensures.admitted)
+first_double-requires-clause-order c =
+    rw (c.order-order.ensures.order, c.problem-problem.ensures.problem) (long_order c.order-order.ensures.admitted)
 
 pub first_double-requires-clause-columns : goal.first_double-requires-clause-columns
 first_double-requires-clause-columns c =
-    let are : AreTablesOf (head_of c.args.admitted.now.graph) c.args.tables.now.nodes = tables_of_graph c.args.admitted.now.graph c.args.tables.now.head c.args.tables.now.nodes c.requires.head
+    let are : AreTablesOf (head_of c.args.admitted.now.graph) c.args.tables.now.nodes =
+    tables_of_graph c.args.admitted.now.graph c.args.tables.now.head c.args.tables.now.nodes c.requires.head
     c.columns_of-columns.ensures.lawful in
-    rw (c.problem-problem.ensures.problem, c.columns_of-columns.ensures.columns) (columns_known c.order-order.ensures.admitted c.args.tables.now.nodes are c.loop-item.item)
+    rw (c.problem-problem.ensures.problem, c.columns_of-columns.ensures.columns)
+    (columns_known c.order-order.ensures.admitted c.args.tables.now.nodes are c.loop-item.item)
 
 pub first_double-requires-clause-few : goal.first_double-requires-clause-few
-first_double-requires-clause-few c = rw c.columns_of-columns.ensures.columns (columns_few c.args.tables.now.head c.args.tables.now.nodes c.columns_of-columns.ensures.lawful c.loop-item.item)
+first_double-requires-clause-few c = rw c.columns_of-columns.ensures.columns
+    (columns_few c.args.tables.now.head c.args.tables.now.nodes c.columns_of-columns.ensures.lawful c.loop-item.item)
 
 pub returns-in-Some-clause-first : goal.returns-in-Some-clause-first
 returns-in-Some-clause-first c =
     let g = c.args.admitted.now.graph in
-    let first : IsFirstColumn g c.args.admitted.now.order (is_double (columns_of c.args.tables.now.nodes c.loop-item.item)) (c.in-Some.column, c.in-Some.scenario) =
-    rw (← c.problem-problem.ensures.problem, ← c.order-order.ensures.order, ← c.columns_of-columns.ensures.columns) (rw c.in-Some.is at c.in_ok-double.ensures.first) in
-    first_violation Rule.Single g c.args.tables.now.nodes c.loop-item.item (λ y s. refl) c.number.result c.number.ensures c.args.admitted.now.order c.in-Some.column c.in-Some.scenario
-    (omega (arith, c.loop-item-test.true, c.item_count-item-end.ensures, ap item_count c.problem-problem.ensures.problem)) c.loop-item.invariant first
+    let first : IsFirstColumn g c.args.admitted.now.order
+    (is_double (columns_of c.args.tables.now.nodes c.loop-item.item)) (c.in-Some.column, c.in-Some.scenario) =
+    rw (← c.problem-problem.ensures.problem, ← c.order-order.ensures.order, ← c.columns_of-columns.ensures.columns)
+    (rw c.in-Some.is at c.in_ok-double.ensures.first) in
+    first_violation Rule.Single g c.args.tables.now.nodes c.loop-item.item
+    (λ y s. refl) c.number.result c.number.ensures c.args.admitted.now.order c.in-Some.column c.in-Some.scenario
+    (omega (
+      arith,
+      c.loop-item-test.true,
+      c.item_count-item-end.ensures,
+      ap item_count c.problem-problem.ensures.problem,
+    )) c.loop-item.invariant first
 
 pub loop-item-preserved : goal.loop-item-preserved
 loop-item-preserved c =
     let g = c.args.admitted.now.graph in
-    let none : (i : ℕ) (s : Scenario) → IsScenario g s → is_double (columns_of c.args.tables.now.nodes c.loop-item.item) i s ≡ false =
-    rw (← c.problem-problem.ensures.problem, ← c.columns_of-columns.ensures.columns) (rw c.in_default.is at c.in_ok-double.ensures.none) in
+    let none : (i : ℕ) (s : Scenario) → IsScenario g s →
+    is_double (columns_of c.args.tables.now.nodes c.loop-item.item) i s ≡ false =
+    rw (← c.problem-problem.ensures.problem, ← c.columns_of-columns.ensures.columns)
+    (rw c.in_default.is at c.in_ok-double.ensures.none) in
     none_more Rule.Single g c.args.tables.now.nodes c.loop-item.item (λ y s. refl) c.loop-item.invariant none
 
 pub loop-item-preserved-then-is_marked : goal.loop-item-preserved-then-is_marked
 loop-item-preserved-then-is_marked c =
     let g = c.args.admitted.now.graph in
-    let below : c.loop-item.item < item_count g = omega (arith, c.loop-item-test.true, c.item_count-item-end.ensures, ap item_count c.problem-problem.ensures.problem) in
-    marked_more g c.args.tables.now.nodes Rule.Single c.args.marks.now c.requires.marks c.loop-item.item below (sym c.if-is_marked.ensures) c.loop-item.invariant
+    let below : c.loop-item.item < item_count g = omega (
+      arith,
+      c.loop-item-test.true,
+      c.item_count-item-end.ensures,
+      ap item_count c.problem-problem.ensures.problem,
+    ) in
+    marked_more g c.args.tables.now.nodes Rule.Single c.args.marks.now c.requires.marks c.loop-item.item below
+    (sym c.if-is_marked.ensures) c.loop-item.invariant

@@ -12,29 +12,38 @@ pub returns-then-saturating_add-time : goal.returns-then-saturating_add-time
 returns-then-saturating_add-time c =
     let g = c.args.admitted.now.graph in
     let line : IsLine (columns_of c.args.tables.now.nodes c.args.item) c.index-lines-item.result =
-    subst (IsLine (columns_of c.args.tables.now.nodes c.args.item)) (sym c.index-lines-item.is) (c.requires.lines.each c.args.item c.index-lines-item.result c.requires.item) in
+    subst (IsLine (columns_of c.args.tables.now.nodes c.args.item)) (sym c.index-lines-item.is)
+    (c.requires.lines.each c.args.item c.index-lines-item.result c.requires.item) in
     let most : IsMost g c.args.delay c.most.result = rw (← c.problem-problem.ensures.problem) c.most.ensures.most in
-    let early : c.index-lines-item.result.last + c.most.result ≤ c.args.column.now.time = omega (arith, c.if-saturating_add-time.true, c.saturating_add.ensures, c.requires.time) in
-    never_delays g c.args.column.now.cube c.args.delay c.args.column.now.time c.most.result c.index-lines-item.result.last most (columns_of c.args.tables.now.nodes c.args.item) line.last early
+    let early : c.index-lines-item.result.last + c.most.result ≤ c.args.column.now.time =
+    omega (arith, c.if-saturating_add-time.true, c.saturating_add.ensures, c.requires.time) in
+    never_delays g c.args.column.now.cube c.args.delay c.args.column.now.time c.most.result
+    c.index-lines-item.result.last most (columns_of c.args.tables.now.nodes c.args.item) line.last early
 
 pub least_near-requires-clause-columns : goal.least_near-requires-clause-columns
 least_near-requires-clause-columns c =
     let line : IsLine (columns_of c.args.tables.now.nodes c.args.item) c.index-lines-item.result =
-    subst (IsLine (columns_of c.args.tables.now.nodes c.args.item)) (sym c.index-lines-item.is) (c.requires.lines.each c.args.item c.index-lines-item.result c.requires.item) in
+    subst (IsLine (columns_of c.args.tables.now.nodes c.args.item)) (sym c.index-lines-item.is)
+    (c.requires.lines.each c.args.item c.index-lines-item.result c.requires.item) in
     rw line.all (columns_are c.problem-problem.ensures.admitted c.args.tables.now.nodes c.requires.lawful c.args.item)
 
 pub least_near-requires-clause-fits : goal.least_near-requires-clause-fits
 least_near-requires-clause-fits c = record { cube = c.requires.cube; delay = c.requires.delay }
 
 pub least_near-requires-clause-near : goal.least_near-requires-clause-near
-least_near-requires-clause-near c = λ s d t. delays_both c.args.admitted.now.graph c.args.column.now.cube c.args.delay c.args.column.now.time s d t
+least_near-requires-clause-near c =
+    λ s d t. delays_both c.args.admitted.now.graph c.args.column.now.cube c.args.delay c.args.column.now.time s d t
 
 pub returns : goal.returns
 returns c =
     let g = c.args.admitted.now.graph in
     let order = c.args.admitted.now.order in
     let line : IsLine (columns_of c.args.tables.now.nodes c.args.item) c.index-lines-item.result =
-    subst (IsLine (columns_of c.args.tables.now.nodes c.args.item)) (sym c.index-lines-item.is) (c.requires.lines.each c.args.item c.index-lines-item.result c.requires.item) in
-    let first : IsFirst g order (λ s. list_any (λ d. delays g c.args.column.now.cube c.args.delay c.args.column.now.time d s) (columns_of c.args.tables.now.nodes c.args.item)) c.in_ok-found.found =
+    subst (IsLine (columns_of c.args.tables.now.nodes c.args.item)) (sym c.index-lines-item.is)
+    (c.requires.lines.each c.args.item c.index-lines-item.result c.requires.item) in
+    let first : IsFirst g order
+    (λ s. list_any (λ d. delays g c.args.column.now.cube c.args.delay c.args.column.now.time d s)
+    (columns_of c.args.tables.now.nodes c.args.item)) c.in_ok-found.found =
     rw line.all at c.in_ok-found.ensures in
-    first_delay g c.args.column.now.cube c.args.delay c.args.column.now.time order (columns_of c.args.tables.now.nodes c.args.item) c.in_ok-found.found first
+    first_delay g c.args.column.now.cube c.args.delay c.args.column.now.time order
+    (columns_of c.args.tables.now.nodes c.args.item) c.in_ok-found.found first

@@ -7,6 +7,8 @@ use Rattle.cpg_check_time.proofs.delays.most.Goals as goal
 pub returns-in-Execution-clause-most : goal.returns-in-Execution-clause-most
 returns-in-Execution-clause-most c = λ s time i.
     let g = c.args.problem.now in
-    let longest : c.duration.result ≡ duration g c.in-Execution.process g.faults = rw c.faults.ensures.faults at c.duration.ensures.duration in
+    let longest : c.duration.result ≡ duration g c.in-Execution.process g.faults =
+    rw c.faults.ensures.faults at c.duration.ensures.duration in
     subst (λ d. done_at g s d time ≤ time + c.duration.result) (sym c.in-Execution.is)
-    (rw longest (most_faults g c.faults.ensures.within.few_processes c.in-Execution.process (subst (IsDelay g) c.in-Execution.is c.requires) s time i))
+    (rw longest (most_faults g c.faults.ensures.within.few_processes c.in-Execution.process
+    (subst (IsDelay g) c.in-Execution.is c.requires) s time i))

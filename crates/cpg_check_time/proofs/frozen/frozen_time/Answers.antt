@@ -5,4 +5,5 @@ use Rattle.cpg_check_time.proofs.frozen.frozen_time.Goals as goal
 pub possible_time-requires : goal.possible_time-requires
 possible_time-requires c = rw (c.problem-problem.ensures.problem, c.columns_of.ensures.columns)
     (columns_are c.problem-problem.ensures.admitted c.args.tables.now.nodes
-    (tables_of_graph c.args.admitted.now.graph c.args.tables.now.head c.args.tables.now.nodes c.requires.head c.columns_of.ensures.lawful) c.args.item)
+    (tables_of_graph c.args.admitted.now.graph c.args.tables.now.head c.args.tables.now.nodes c.requires.head
+    c.columns_of.ensures.lawful) c.args.item)

@@ -3,5 +3,6 @@ use Rattle.cpg_check_time.specs.Frozen.{frozen_time}
 use Rattle.cpg_check_time.proofs.frozen.frozen_times.Goals as goal
 
 pub loop-item-preserved : goal.loop-item-preserved
-loop-item-preserved c = map_below_push (frozen_time c.args.admitted.now.graph c.args.tables.now.nodes) c.loop-item.times.items c.push.new.self.items c.frozen_time.result c.loop-item.item
+loop-item-preserved c = map_below_push (frozen_time c.args.admitted.now.graph c.args.tables.now.nodes)
+    c.loop-item.times.items c.push.new.self.items c.frozen_time.result c.loop-item.item
     c.loop-item.invariant c.frozen_time.ensures c.in_ok-push.ensures.items

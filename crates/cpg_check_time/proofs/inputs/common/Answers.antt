@@ -8,7 +8,8 @@ use Rattle.cpg_check_time.proofs.inputs.common.Goals as goal
 pub returns-in_default-clause-none : goal.returns-in_default-clause-none
 returns-in_default-clause-none c =
     let none = rw c.in_default.is at c.in_ok-next.ensures.none in
-    subst (λ other. (s : Scenario) → (matches c.args.cube.now s && matches other s) ≡ false) c.literals-literal-items.ensures.literals
+    subst (λ other. (s : Scenario) → (matches c.args.cube.now s && matches other s) ≡ false)
+    c.literals-literal-items.ensures.literals
     (common_none c.args.cube.now c.literals-literal-items.result.now c.loop-literal.part c.loop-literal.literal-index
     (record { variable = 0; low = 0; high = 0 }) c.loop-literal-test.true c.loop-literal.invariant.both none)
 
@@ -16,9 +17,13 @@ pub loop-literal-preserved : goal.loop-literal-preserved
 loop-literal-preserved c =
     let both = rw c.in-Some.is at c.in_ok-next.ensures.both in
     record {
-      both = common_more c.args.cube.now c.literals-literal-items.result.now c.loop-literal.part c.loop-literal.literal-index
-          (record { variable = 0; low = 0; high = 0 }) c.loop-literal-test.true c.loop-literal.invariant.both c.in-Some.next both;
-      known = λ g a b. known_more g c.loop-literal.part c.literals-literal-items.result.now c.in-Some.next c.loop-literal.literal-index
+      both = common_more c.args.cube.now c.literals-literal-items.result.now c.loop-literal.part
+          c.loop-literal.literal-index
+          (record { variable = 0; low = 0; high = 0 }) c.loop-literal-test.true c.loop-literal.invariant.both
+          c.in-Some.next both;
+      known = λ g a b. known_more g c.loop-literal.part c.literals-literal-items.result.now c.in-Some.next
+          c.loop-literal.literal-index
           (record { variable = 0; low = 0; high = 0 }) c.loop-literal-test.true
-          (c.loop-literal.invariant.known g a b) (subst (IsKnown g) (sym c.literals-literal-items.ensures.literals) b) (sym c.in_ok-next.ensures.cube ∙ c.in-Some.is);
+          (c.loop-literal.invariant.known g a b) (subst (IsKnown g) (sym c.literals-literal-items.ensures.literals) b)
+          (sym c.in_ok-next.ensures.cube ∙ c.in-Some.is);
     }

@@ -8,16 +8,28 @@ use Rattle.cpg_check_time.proofs.inputs.least_lacking.Goals as goal
 
 pub returns-then-is_message : goal.returns-then-is_message
 returns-then-is_message c =
-    let on : is_message c.args.admitted.now.graph c.args.edge ≡ true = rw (← c.problem-problem.ensures.problem) (sym c.if-is_message.ensures) in
-    let found = rw (c.slot_length.ensures, c.home.ensures.home, c.processes.ensures.processes, c.problem-problem.ensures.problem) at c.in_ok-found.ensures in
-    lacks_frame c.args.admitted.now.graph c.args.admitted.now.order c.args.tables.now.nodes c.args.column.now c.args.edge c.in_ok-found.found on found
+    let on : is_message c.args.admitted.now.graph c.args.edge ≡ true =
+    rw (← c.problem-problem.ensures.problem) (sym c.if-is_message.ensures) in
+    let found = rw (
+      c.slot_length.ensures,
+      c.home.ensures.home,
+      c.processes.ensures.processes,
+      c.problem-problem.ensures.problem,
+    ) at c.in_ok-found.ensures in
+    lacks_frame c.args.admitted.now.graph c.args.admitted.now.order c.args.tables.now.nodes c.args.column.now
+    c.args.edge c.in_ok-found.found on found
 
 pub returns : goal.returns
 returns c =
     let g = c.args.admitted.now.graph in
-    let off : is_message g c.args.edge ≡ false = rw (← c.problem-problem.ensures.problem) (sym c.if-is_message.ensures) in
-    let both : (s : Scenario) → matches c.in-Some.part s ≡ (matches c.args.column.now.cube s && matches c.in_ok-asked.asked s) = rw c.in-Some.is at c.in_ok-part.ensures.both in
-    let asked : (s : Scenario) → matches c.in_ok-asked.asked s ≡ is_asked g c.args.edge s = rw (← c.problem-problem.ensures.problem) c.in_ok-asked.ensures.passed in
+    let off : is_message g c.args.edge ≡ false =
+    rw (← c.problem-problem.ensures.problem) (sym c.if-is_message.ensures) in
+    let both : (s : Scenario) →
+    matches c.in-Some.part s ≡ (matches c.args.column.now.cube s && matches c.in_ok-asked.asked s) =
+    rw c.in-Some.is at c.in_ok-part.ensures.both in
+    let asked : (s : Scenario) → matches c.in_ok-asked.asked s ≡ is_asked g c.args.edge s =
+    rw (← c.problem-problem.ensures.problem) c.in_ok-asked.ensures.passed in
     let found = rw (c.source-process.ensures.source, c.problem-problem.ensures.problem) at c.in_ok-found-2.ensures in
-    lacks_source g c.args.admitted.now.order c.args.tables.now.nodes c.args.column.now c.args.edge c.in_ok-found-2.found off c.in-Some.part
+    lacks_source g c.args.admitted.now.order c.args.tables.now.nodes c.args.column.now c.args.edge c.in_ok-found-2.found
+    off c.in-Some.part
     (λ s. both s ∙ ap (λ b. matches c.args.column.now.cube s && b) (asked s)) found

@@ -5,4 +5,5 @@ use Rattle.cpg_check_time.specs.Inputs.{lacks_input}
 use Rattle.cpg_check_time.proofs.inputs.least_of_lacking.Given as goal
 
 abbrev pub invariant-loop-edge : goal.invariant-loop-edge
-invariant-loop-edge l = IsFirst l.admitted.graph l.admitted.order (λ s. list_any (λ e. lacks_input l.admitted.graph l.tables.nodes l.column e s) (take l.edge-index l.edges)) l.found
+invariant-loop-edge l = IsFirst l.admitted.graph l.admitted.order
+    (λ s. list_any (λ e. lacks_input l.admitted.graph l.tables.nodes l.column e s) (take l.edge-index l.edges)) l.found

@@ -7,7 +7,8 @@ use Rattle.cpg_check_time.proofs.Judging.{place_there, first_here, none_here, co
 use Rattle.cpg_check_time.proofs.judge.first_in_row.Goals as goal
 
 pub least-requires-clause-lawful : goal.least-requires-clause-lawful
-least-requires-clause-lawful g c = tables_of_graph c.args.admitted.now.graph c.args.tables.now.head c.args.tables.now.nodes c.requires.head c.columns_of-columns.ensures.lawful
+least-requires-clause-lawful g c = tables_of_graph c.args.admitted.now.graph c.args.tables.now.head
+    c.args.tables.now.nodes c.requires.head c.columns_of-columns.ensures.lawful
 
 pub overflow_cast-result : goal.overflow_cast-result
 overflow_cast-result g c = omega (
@@ -20,23 +21,31 @@ overflow_cast-result g c = omega (
 pub least-requires-clause-column : goal.least-requires-clause-column
 least-requires-clause-column g c =
     column_is c.requires.admitted c.args.tables.now.nodes
-    (tables_of_graph c.args.admitted.now.graph c.args.tables.now.head c.args.tables.now.nodes c.requires.head c.columns_of-columns.ensures.lawful) c.args.item c.index-columns-column.result
-    (place_there g.J.TimeJudge.rule g.met.J.TimeJudge.alone c.args.admitted.now.graph c.args.tables.now.nodes c.args.item c.args.admitted.now.order c.columns_of-columns.result.now
+    (tables_of_graph c.args.admitted.now.graph c.args.tables.now.head c.args.tables.now.nodes c.requires.head
+    c.columns_of-columns.ensures.lawful) c.args.item c.index-columns-column.result
+    (place_there g.J.TimeJudge.rule g.met.J.TimeJudge.alone c.args.admitted.now.graph c.args.tables.now.nodes
+    c.args.item c.args.admitted.now.order c.columns_of-columns.result.now
     c.columns_of-columns.ensures.columns
     c.loop-column.column c.index-columns-column.result c.loop-column-test.true c.index-columns-column.is)
 
 pub returns-in-Some-clause-first : goal.returns-in-Some-clause-first
 returns-in-Some-clause-first g c =
-    first_here g.J.TimeJudge.rule g.met.J.TimeJudge.alone c.args.admitted.now.graph c.args.tables.now.nodes c.args.item c.args.admitted.now.order c.columns_of-columns.result.now
+    first_here g.J.TimeJudge.rule g.met.J.TimeJudge.alone c.args.admitted.now.graph c.args.tables.now.nodes c.args.item
+    c.args.admitted.now.order c.columns_of-columns.result.now
     c.columns_of-columns.ensures.columns
-    c.loop-column.column c.index-columns-column.result c.loop-column-test.true c.index-columns-column.is c.in-Some.scenario c.loop-column.invariant
-    (subst (IsFirst c.args.admitted.now.graph c.args.admitted.now.order (breaks_column g.J.TimeJudge.rule c.args.admitted.now.graph c.args.tables.now.nodes c.args.item c.index-columns-column.result))
+    c.loop-column.column c.index-columns-column.result c.loop-column-test.true c.index-columns-column.is
+    c.in-Some.scenario c.loop-column.invariant
+    (subst (IsFirst c.args.admitted.now.graph c.args.admitted.now.order (breaks_column g.J.TimeJudge.rule
+    c.args.admitted.now.graph c.args.tables.now.nodes c.args.item c.index-columns-column.result))
     c.in-Some.is c.in_ok-least.ensures)
 
 pub loop-column-preserved : goal.loop-column-preserved
 loop-column-preserved g c =
-    none_here g.J.TimeJudge.rule g.met.J.TimeJudge.alone c.args.admitted.now.graph c.args.tables.now.nodes c.args.item c.args.admitted.now.order c.columns_of-columns.result.now
+    none_here g.J.TimeJudge.rule g.met.J.TimeJudge.alone c.args.admitted.now.graph c.args.tables.now.nodes c.args.item
+    c.args.admitted.now.order c.columns_of-columns.result.now
     c.columns_of-columns.ensures.columns
-    c.loop-column.column c.index-columns-column.result c.loop-column-test.true c.index-columns-column.is c.loop-column.invariant
-    (subst (IsFirst c.args.admitted.now.graph c.args.admitted.now.order (breaks_column g.J.TimeJudge.rule c.args.admitted.now.graph c.args.tables.now.nodes c.args.item c.index-columns-column.result))
+    c.loop-column.column c.index-columns-column.result c.loop-column-test.true c.index-columns-column.is
+    c.loop-column.invariant
+    (subst (IsFirst c.args.admitted.now.graph c.args.admitted.now.order (breaks_column g.J.TimeJudge.rule
+    c.args.admitted.now.graph c.args.tables.now.nodes c.args.item c.index-columns-column.result))
     c.in_default.is c.in_ok-least.ensures)

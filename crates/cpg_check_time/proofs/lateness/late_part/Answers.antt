@@ -6,4 +6,5 @@ pub overflow_cast-process : goal.overflow_cast-process
 overflow_cast-process c = omega (arith, c.requires.process, c.faults-high.ensures.within.few_processes)
 
 pub returns-clause-known : goal.returns-clause-known
-returns-clause-known c = part_known c.args.problem.now c.args.process c.requires.process c.args.cube.now c.in-Some.low c.faults-high.result c.in_ok-part.part c.requires.cube c.in_ok-part.ensures.cube
+returns-clause-known c = part_known c.args.problem.now c.args.process c.requires.process c.args.cube.now c.in-Some.low
+    c.faults-high.result c.in_ok-part.part c.requires.cube c.in_ok-part.ensures.cube

@@ -5,5 +5,7 @@ use Rattle.cpg_check_time.proofs.lateness.least_count.Goals as goal
 
 pub returns-then-start-duration-clause-some : goal.returns-then-start-duration-clause-some
 returns-then-start-duration-clause-some c =
-    let late : c.args.time < c.args.start + duration c.args.problem.now c.args.process c.loop-faults.faults = omega (arith, c.if-start-duration.true, c.duration.ensures.duration) in
-    first_is_least c.args.problem.now c.args.process c.args.start c.args.time c.loop-faults.faults c.loop-faults.invariant late
+    let late : c.args.time < c.args.start + duration c.args.problem.now c.args.process c.loop-faults.faults =
+    omega (arith, c.if-start-duration.true, c.duration.ensures.duration) in
+    first_is_least c.args.problem.now c.args.process c.args.start c.args.time c.loop-faults.faults
+    c.loop-faults.invariant late

@@ -16,7 +16,8 @@ pub loop-place-init : goal.loop-place-init
 loop-place-init c =
     let empty = c.in_ok-reserve.ensures.items ∙ c.new-found.ensures.items in
     record {
-      among = subst (λ xs. All (λ d. Contains c.args.line.now.columns.now d) (map at xs)) (sym empty) (All-nil (λ d. Contains c.args.line.now.columns.now d));
+      among = subst (λ xs. All (λ d. Contains c.args.line.now.columns.now d) (map at xs)) (sym empty)
+          (All-nil (λ d. Contains c.args.line.now.columns.now d));
       all = λ i k. absurd (Contains-nil i k);
     }
 
@@ -24,12 +25,15 @@ pub loop-place-preserved : goal.loop-place-preserved
 loop-place-preserved c =
     let columns = c.args.line.now.columns.now in
     let places = c.deref-place-items.result.now in
-    let none : length columns ≤ get_or places c.loop-place.place-index 0 → map at c.push_column.new.found.items ≡ map at c.loop-place.found.items =
+    let none : length columns ≤ get_or places c.loop-place.place-index 0 →
+    map at c.push_column.new.found.items ≡ map at c.loop-place.found.items =
     λ h. ap (map at) (c.in_ok-push_column.ensures.none h) in
     record {
-      among = among_more columns places c.loop-place.place-index 0 c.loop-place-test.true (map at c.loop-place.found.items)
+      among =
+          among_more columns places c.loop-place.place-index 0 c.loop-place-test.true (map at c.loop-place.found.items)
           (map at c.push_column.new.found.items) c.in_ok-push_column.ensures.there none c.loop-place.invariant.among;
-      all = found_more columns places c.loop-place.place-index 0 c.loop-place-test.true (map at c.loop-place.found.items)
+      all =
+          found_more columns places c.loop-place.place-index 0 c.loop-place-test.true (map at c.loop-place.found.items)
           (map at c.push_column.new.found.items) c.in_ok-push_column.ensures.there none c.loop-place.invariant.all;
     }
 
@@ -37,8 +41,11 @@ pub returns-clause-same : goal.returns-clause-same
 returns-clause-same c =
     let columns = c.args.line.now.columns.now in
     let places = c.deref-place-items.result.now in
-    let all : AreFound columns (map at c.loop-place.found.items) places = subst (AreFound columns (map at c.loop-place.found.items))
+    let all : AreFound columns (map at c.loop-place.found.items) places =
+    subst (AreFound columns (map at c.loop-place.found.items))
     (take_all c.loop-place.place-index places c.loop-place-test.false) c.loop-place.invariant.all in
-    let candidates : (s : Scenario) (i : ℕ) → i < length columns → matches (column_at columns i).cube s ≡ true → matches c.args.cube.now s ≡ true → Contains places i =
+    let candidates : (s : Scenario) (i : ℕ) → i < length columns → matches (column_at columns i).cube s ≡ true →
+    matches c.args.cube.now s ≡ true → Contains places i =
     rw c.deref-place-items.ensures.value c.in_ok-places.ensures in
-    same_found columns (map at c.loop-place.found.items) places c.args.cube.now c.loop-place.invariant.among all candidates
+    same_found columns
+    (map at c.loop-place.found.items) places c.args.cube.now c.loop-place.invariant.among all candidates

@@ -7,16 +7,19 @@ use Rattle.cpg_check_time.proofs.Seeking.{first_below}
 use Rattle.cpg_check_time.proofs.pairs.least_of_lower.Goals as goal
 
 pub earlier-found-requires-clause-order : goal.earlier-found-requires-clause-order
-earlier-found-requires-clause-order g c = rw (c.order-order.ensures.order, c.problem-problem.ensures.problem) (long_order c.order-order.ensures.admitted)
+earlier-found-requires-clause-order g c =
+    rw (c.order-order.ensures.order, c.problem-problem.ensures.problem) (long_order c.order-order.ensures.admitted)
 
 pub loop-other-preserved : goal.loop-other-preserved
 loop-other-preserved g c = rw (c.earlier-found.ensures, c.problem-problem.ensures.problem, c.order-order.ensures.order)
-    (first_below c.args.admitted.now.graph c.args.admitted.now.order (g.P.ColumnPairs.clash c.args.admitted.now.graph c.args.tables.now.nodes c.args.item c.args.column.now) c.loop-other.other
+    (first_below c.args.admitted.now.graph c.args.admitted.now.order (g.P.ColumnPairs.clash c.args.admitted.now.graph
+    c.args.tables.now.nodes c.args.item c.args.column.now) c.loop-other.other
     c.loop-other.found c.in_ok-next.next c.loop-other.invariant c.in_ok-next.ensures)
 
 pub returns : goal.returns
 returns g c =
     let same : c.loop-other.other ≡ c.args.item = omega (arith, c.loop-other.auto.other-end, c.loop-other-test.false) in
     subst (λ n. IsFirst c.args.admitted.now.graph c.args.admitted.now.order
-    (λ s. list_any (λ y. g.P.ColumnPairs.clash c.args.admitted.now.graph c.args.tables.now.nodes c.args.item c.args.column.now y s) (numbers_below n)) c.loop-other.found) same
+    (λ s. list_any (λ y. g.P.ColumnPairs.clash c.args.admitted.now.graph c.args.tables.now.nodes c.args.item
+    c.args.column.now y s) (numbers_below n)) c.loop-other.found) same
     c.loop-other.invariant

@@ -4,4 +4,5 @@ use Rattle.cpg_base.specs.First.{IsFirst}
 use Rattle.cpg_check_time.proofs.pairs.least_of_lower.Given as goal
 
 abbrev pub invariant-loop-other : goal.invariant-loop-other
-invariant-loop-other g l = IsFirst l.admitted.graph l.admitted.order (λ s. list_any (λ y. g.P.ColumnPairs.clash l.admitted.graph l.tables.nodes l.item l.column y s) (numbers_below l.other)) l.found
+invariant-loop-other g l = IsFirst l.admitted.graph l.admitted.order (λ s. list_any
+    (λ y. g.P.ColumnPairs.clash l.admitted.graph l.tables.nodes l.item l.column y s) (numbers_below l.other)) l.found

@@ -14,21 +14,26 @@ abbrev at : Bor Column → Column
 at b = b.now
 
 pub least_of-requires-clause-order : goal.least_of-requires-clause-order
-least_of-requires-clause-order g c = rw (c.order-order.ensures.order, c.problem-problem.ensures.problem) (long_order c.order-order.ensures.admitted)
+least_of-requires-clause-order g c =
+    rw (c.order-order.ensures.order, c.problem-problem.ensures.problem) (long_order c.order-order.ensures.admitted)
 
 pub least_of-requires-clause-columns : goal.least_of-requires-clause-columns
 least_of-requires-clause-columns g c =
     rw (c.problem-problem.ensures.problem, c.as_slice.ensures.value)
     (all_unmapped (IsColumn c.args.admitted.now.graph) at c.in_ok-near.near.items
     (All-weaker (λ d. Contains c.args.line.now.columns.now d) (IsColumn c.args.admitted.now.graph)
-    (λ d k. All-contains (IsColumn c.args.admitted.now.graph) c.args.line.now.columns.now d c.requires.columns k) (map at c.in_ok-near.near.items) c.in_ok-near.ensures.among))
+    (λ d k. All-contains (IsColumn c.args.admitted.now.graph) c.args.line.now.columns.now d c.requires.columns k)
+    (map at c.in_ok-near.near.items) c.in_ok-near.ensures.among))
 
 pub returns : goal.returns
 returns g c =
     let graph = c.args.admitted.now.graph in
     let order = c.args.admitted.now.order in
     let asks = g.Q.Question.asks c.args.question.now graph in
-    let first : IsFirst graph order (λ s. list_any (λ d. asks d s) (map at c.in_ok-near.near.items)) c.in_ok-found.found =
-    rw (← c.problem-problem.ensures.problem, ← c.order-order.ensures.order, ← c.as_slice.ensures.value) c.in_ok-found.ensures in
-    first_same graph order (λ s. list_any (λ d. asks d s) (map at c.in_ok-near.near.items)) (λ s. list_any (λ d. asks d s) c.args.line.now.columns.now) c.in_ok-found.found
+    let first : IsFirst graph order
+    (λ s. list_any (λ d. asks d s) (map at c.in_ok-near.near.items)) c.in_ok-found.found =
+    rw (← c.problem-problem.ensures.problem, ← c.order-order.ensures.order, ← c.as_slice.ensures.value)
+    c.in_ok-found.ensures in
+    first_same graph order (λ s. list_any (λ d. asks d s) (map at c.in_ok-near.near.items))
+    (λ s. list_any (λ d. asks d s) c.args.line.now.columns.now) c.in_ok-found.found
     (λ s _. c.in_ok-near.ensures.same s (λ d. asks d s) (λ d t. c.requires.near s d t)) first

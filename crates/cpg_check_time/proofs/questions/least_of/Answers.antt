@@ -12,20 +12,24 @@ abbrev at : Bor Column → Column
 at b = b.now
 
 pub earlier-found-requires-clause-second : goal.earlier-found-requires-clause-second
-earlier-found-requires-clause-second g c = lawful_if_some c.args.problem.now c.args.order.now (g.Q.Question.asks c.args.question.now c.args.problem.now c.beside-item.result.now) c.in_ok-next.next
+earlier-found-requires-clause-second g c = lawful_if_some c.args.problem.now c.args.order.now
+    (g.Q.Question.asks c.args.question.now c.args.problem.now c.beside-item.result.now) c.in_ok-next.next
     (c.in_ok-next.ensures.first c.args.order.now)
 
 pub loop-beside-preserved : goal.loop-beside-preserved
 loop-beside-preserved g c =
-    let first : IsFirst c.args.problem.now c.args.order.now (g.Q.Question.asks c.args.question.now c.args.problem.now c.beside-item.result.now) c.in_ok-next.next =
+    let first : IsFirst c.args.problem.now c.args.order.now
+    (g.Q.Question.asks c.args.question.now c.args.problem.now c.beside-item.result.now) c.in_ok-next.next =
     c.in_ok-next.ensures.first c.args.order.now in
     record {
       first = rw c.earlier-found.ensures (first_mapped at c.args.problem.now c.args.order.now
-          (g.Q.Question.asks c.args.question.now c.args.problem.now) c.args.columns.now c.loop-beside.beside-index c.beside-item.result c.loop-beside-test.true c.loop-beside.found c.in_ok-next.next
+          (g.Q.Question.asks c.args.question.now c.args.problem.now) c.args.columns.now c.loop-beside.beside-index
+          c.beside-item.result c.loop-beside-test.true c.loop-beside.found c.in_ok-next.next
           c.loop-beside.invariant.first (rw (← c.beside-item.is) first));
       room = c.in_ok-next.ensures.room;
     }
 
 pub returns : goal.returns
-returns g c = subst (λ columns. IsFirst c.args.problem.now c.args.order.now (λ s. list_any (λ d. g.Q.Question.asks c.args.question.now c.args.problem.now d s) (map at columns)) c.loop-beside.found)
+returns g c = subst (λ columns. IsFirst c.args.problem.now c.args.order.now (λ s.
+    list_any (λ d. g.Q.Question.asks c.args.question.now c.args.problem.now d s) (map at columns)) c.loop-beside.found)
     (take_all c.loop-beside.beside-index c.args.columns.now c.loop-beside-test.false) c.loop-beside.invariant.first

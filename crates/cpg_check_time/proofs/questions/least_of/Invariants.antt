@@ -6,6 +6,7 @@ use Rattle.cpg_check_time.proofs.questions.least_of.Given as goal
 
 abbrev pub invariant-loop-beside : goal.invariant-loop-beside
 invariant-loop-beside g l = record {
-  first : IsFirst l.problem l.order (λ s. list_any (λ d. g.Q.Question.asks l.question l.problem d s) (map (λ b. b.now) (take l.beside-index l.columns))) l.found;
+  first : IsFirst l.problem l.order (λ s. list_any (λ d. g.Q.Question.asks l.question l.problem d s)
+      (map (λ b. b.now) (take l.beside-index l.columns))) l.found;
   room : HasRoom l.problem l.room;
 }

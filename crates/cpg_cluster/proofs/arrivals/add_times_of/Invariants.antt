@@ -3,4 +3,5 @@ use Rattle.cpg_cluster.specs.Keeping.{arrival_times}
 use Rattle.cpg_cluster.proofs.arrivals.add_times_of.Given as goal
 
 abbrev pub invariant-loop-place : goal.invariant-loop-place
-invariant-loop-place l = l.times.items ++ arrival_times l.other (drop l.place l.rows) (drop l.place l.senders) ≡ l.fn.times.items ++ arrival_times l.other l.rows l.senders
+invariant-loop-place l = l.times.items ++ arrival_times l.other (drop l.place l.rows) (drop l.place l.senders)
+    ≡ l.fn.times.items ++ arrival_times l.other l.rows l.senders

@@ -4,6 +4,8 @@ use Rattle.cpg_cluster.proofs.Arriving.{index_more}
 use Rattle.cpg_cluster.proofs.arrivals.arrivals_of.Goals as goal
 
 pub loop-other-preserved : goal.loop-other-preserved
-loop-other-preserved c = subst (AreIndexed c.args.rows.now c.args.senders.now (c.loop-other.other + 1)) (sym c.in_ok-push.ensures.items)
-    (index_more c.args.rows.now c.args.senders.now c.loop-other.other c.loop-other.arrivals.items c.in_ok-arrivals_from.field-0 c.loop-other.invariant
+loop-other-preserved c =
+    subst (AreIndexed c.args.rows.now c.args.senders.now (c.loop-other.other + 1)) (sym c.in_ok-push.ensures.items)
+    (index_more c.args.rows.now c.args.senders.now c.loop-other.other c.loop-other.arrivals.items
+    c.in_ok-arrivals_from.field-0 c.loop-other.invariant
     (record { same = c.in_ok-arrivals_from.ensures.same; rises = c.in_ok-arrivals_from.ensures.rises }))

@@ -5,8 +5,11 @@ use Rattle.std.proofs.lemmas.Bool.{leb-true, leb-false}
 use Rattle.std.proofs.lemmas.List.Sorted.{IsPartitionPoint-from_clause, IsPartitionedBy-leb}
 use Rattle.cpg_cluster.proofs.arrivals.first_after.Goals as goal
 
-point : (c : goal.After-partition_point) → IsPartitionPoint (λ y. nat_le y c.args.time ≡ true) (λ y. nat_le y c.args.time ≡ false) c.args.times.now c.partition_point.result
-point c = IsPartitionPoint-from_clause (λ y. nat_le y c.args.time) c.args.times.now c.partition_point.result c.partition_point.ensures.partitioned
+point : (c : goal.After-partition_point) →
+    IsPartitionPoint (λ y. nat_le y c.args.time ≡ true)
+    (λ y. nat_le y c.args.time ≡ false) c.args.times.now c.partition_point.result
+point c = IsPartitionPoint-from_clause (λ y. nat_le y c.args.time) c.args.times.now c.partition_point.result
+    c.partition_point.ensures.partitioned
     (IsPartitionedBy-leb (λ t. t) c.args.times.now c.args.time c.requires) (λ a r f' k. search rules)
 
 pub returns-clause-before : goal.returns-clause-before

@@ -3,4 +3,5 @@ use Rattle.cpg_cluster.specs.declared.member.Member.{Member}
 use Rattle.cpg_cluster.proofs.member.most_heard.Given as goal
 
 abbrev pub invariant-loop-member : goal.invariant-loop-member
-invariant-loop-member l = (i : ℕ) (d : Member) → i < l.member-index → length (get_or l.members i d).node.dispatcher.table.hears ≤ l.most
+invariant-loop-member l =
+    (i : ℕ) (d : Member) → i < l.member-index → length (get_or l.members i d).node.dispatcher.table.hears ≤ l.most

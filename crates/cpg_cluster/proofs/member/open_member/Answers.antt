@@ -9,9 +9,13 @@ returns c = record {
   node = search rules;
   senders = c.in_ok-senders.ensures ∙ ap (map (λ (row : Row). home c.args.problem.now row.item)) c.hears.ensures.hears;
   slot = search rules;
-  arrivals = subst (λ hs. AreIndexed hs c.in_ok-senders.senders.items (length c.args.problem.now.nodes) c.in_ok-arrivals.arrivals.items) c.hears-2.ensures.hears
-      (subst (λ ss. AreIndexed c.hears-2.result.now ss (length c.args.problem.now.nodes) c.in_ok-arrivals.arrivals.items) c.as_slice.ensures.value
-      (subst (λ (ns : List (List ℕ)). AreIndexed c.hears-2.result.now c.as_slice.result.now (length ns) c.in_ok-arrivals.arrivals.items) c.nodes.ensures.nodes c.in_ok-arrivals.ensures));
+  arrivals = subst (λ hs. AreIndexed hs c.in_ok-senders.senders.items
+      (length c.args.problem.now.nodes) c.in_ok-arrivals.arrivals.items) c.hears-2.ensures.hears
+      (subst
+      (λ ss. AreIndexed c.hears-2.result.now ss (length c.args.problem.now.nodes) c.in_ok-arrivals.arrivals.items)
+      c.as_slice.ensures.value
+      (subst (λ (ns : List (List ℕ)). AreIndexed c.hears-2.result.now c.as_slice.result.now
+      (length ns) c.in_ok-arrivals.arrivals.items) c.nodes.ensures.nodes c.in_ok-arrivals.ensures));
   acts = search rules;
   noted = search rules;
   ends = search rules;

@@ -13,7 +13,8 @@ loop-number-preserved c =
     let invariant = c.loop-number.invariant in
     let steps = c.in-Some.ensures.steps in
     let range = steps.0 in
-    let next = open_next c.args.problem.now c.args.tables.nodes l.a.start c.in-Some.number t.a.start c.in-Some.table t.b.rest.items c.loop-number.members.items c.in_ok-open_member.field-0
+    let next = open_next c.args.problem.now c.args.tables.nodes l.a.start c.in-Some.number t.a.start c.in-Some.table
+    t.b.rest.items c.loop-number.members.items c.in_ok-open_member.field-0
     invariant.opened (invariant.left ∙ steps.1.0) range.1.1 range.1.2 c.in_ok-open_member.ensures in
     record {
       opened = subst (AreOpen c.args.problem.now c.args.tables.nodes t.a.start) (sym c.in_ok-push.ensures.items) next.0;

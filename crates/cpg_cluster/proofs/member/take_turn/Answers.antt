@@ -9,44 +9,62 @@ use Rattle.cpg_cluster.proofs.Asking.{at_some, tail_is}
 use Rattle.cpg_cluster.proofs.member.take_turn.Goals as goal
 
 -- the dispatcher before the turn
-ready-1 : (c : goal.After-acts) → c.finish_all.new.node.dispatcher ≡ ready c.args.problem.now c.args.scenario.now c.args.lengths.now c.args.time c.args.member.now.node.dispatcher
-ready-1 c = ap (λ (s : NodeState). s.dispatcher) c.finish_all.ensures ∙ ap (all_finished c.args.member.now.node.dispatcher)
-    (tail_is c.deref.result.now c.args.member.now.reports.items (reports_of c.args.problem.now c.args.scenario.now c.args.lengths.now c.args.time c.args.member.now.node.dispatcher) c.len-first.result
+ready-1 : (c : goal.After-acts) →
+    c.finish_all.new.node.dispatcher
+    ≡ ready c.args.problem.now c.args.scenario.now c.args.lengths.now c.args.time c.args.member.now.node.dispatcher
+ready-1 c =
+    ap (λ (s : NodeState). s.dispatcher) c.finish_all.ensures ∙ ap (all_finished c.args.member.now.node.dispatcher)
+    (tail_is c.deref.result.now c.args.member.now.reports.items (reports_of c.args.problem.now c.args.scenario.now
+    c.args.lengths.now c.args.time c.args.member.now.node.dispatcher) c.len-first.result
     (c.deref.ensures.value ∙ c.gather_reports.ensures.reports ∙ ap (λ l. c.args.member.now.reports.items ++ l)
-    (ap₂ (λ (os : List Own) (rs : List (Option Running)). reports_by c.args.problem.now (record { scenario = c.args.scenario.now; lengths = c.args.lengths.now }) c.args.time os rs)
+    (ap₂ (λ (os : List Own) (rs : List (Option Running)). reports_by c.args.problem.now
+    (record { scenario = c.args.scenario.now; lengths = c.args.lengths.now }) c.args.time os rs)
     (c.own-own.ensures.own ∙ ap (λ (t : NodeTable). t.own) c.table.ensures) c.executions-running.ensures.executions))
     (omega arith))
 
-done-1 : (c : goal.After-acts) → c.acts.result.now ≡ acts_of_turn (ready c.args.problem.now c.args.scenario.now c.args.lengths.now c.args.time c.args.member.now.node.dispatcher) c.args.time []
+done-1 : (c : goal.After-acts) →
+    c.acts.result.now ≡ acts_of_turn (ready c.args.problem.now c.args.scenario.now c.args.lengths.now c.args.time
+    c.args.member.now.node.dispatcher) c.args.time []
     c.args.frames.now
-done-1 c = c.acts.ensures ∙ at_some (next c.finish_all.new.node.dispatcher) c.args.time (λ time. c.turn.new.self.acts ≡ acts_of_turn c.finish_all.new.node.dispatcher time [] c.args.frames.now)
+done-1 c = c.acts.ensures ∙ at_some (next c.finish_all.new.node.dispatcher) c.args.time
+    (λ time. c.turn.new.self.acts ≡ acts_of_turn c.finish_all.new.node.dispatcher time [] c.args.frames.now)
     (ap next (ready-1 c) ∙ c.requires.next) c.turn.ensures.acts
     ∙ ap (λ d. acts_of_turn d c.args.time [] c.args.frames.now) (ready-1 c)
 
 pub append_acts-requires : goal.append_acts-requires
-append_acts-requires c = subst (λ (as' : List Act). length (c.args.member.now.acts.items ++ as') ≤ vec_capacity c.args.member.now.acts) (sym (done-1 c)) c.requires.acts_fit
+append_acts-requires c =
+    subst (λ (as' : List Act). length (c.args.member.now.acts.items ++ as') ≤ vec_capacity c.args.member.now.acts)
+    (sym (done-1 c)) c.requires.acts_fit
 
-ready-2 : (c : goal.After-note_acts) → c.finish_all.new.node.dispatcher ≡ ready c.args.problem.now c.args.scenario.now c.args.lengths.now c.args.time c.args.member.now.node.dispatcher
-ready-2 c = ap (λ (s : NodeState). s.dispatcher) c.finish_all.ensures ∙ ap (all_finished c.args.member.now.node.dispatcher)
-    (tail_is c.deref.result.now c.args.member.now.reports.items (reports_of c.args.problem.now c.args.scenario.now c.args.lengths.now c.args.time c.args.member.now.node.dispatcher) c.len-first.result
+ready-2 : (c : goal.After-note_acts) →
+    c.finish_all.new.node.dispatcher
+    ≡ ready c.args.problem.now c.args.scenario.now c.args.lengths.now c.args.time c.args.member.now.node.dispatcher
+ready-2 c =
+    ap (λ (s : NodeState). s.dispatcher) c.finish_all.ensures ∙ ap (all_finished c.args.member.now.node.dispatcher)
+    (tail_is c.deref.result.now c.args.member.now.reports.items (reports_of c.args.problem.now c.args.scenario.now
+    c.args.lengths.now c.args.time c.args.member.now.node.dispatcher) c.len-first.result
     (c.deref.ensures.value ∙ c.gather_reports.ensures.reports ∙ ap (λ l. c.args.member.now.reports.items ++ l)
-    (ap₂ (λ (os : List Own) (rs : List (Option Running)). reports_by c.args.problem.now (record { scenario = c.args.scenario.now; lengths = c.args.lengths.now }) c.args.time os rs)
+    (ap₂ (λ (os : List Own) (rs : List (Option Running)). reports_by c.args.problem.now
+    (record { scenario = c.args.scenario.now; lengths = c.args.lengths.now }) c.args.time os rs)
     (c.own-own.ensures.own ∙ ap (λ (t : NodeTable). t.own) c.table.ensures) c.executions-running.ensures.executions))
     (omega arith))
 
 pub returns-clause-node : goal.returns-clause-node
-returns-clause-node c = at_some (next c.finish_all.new.node.dispatcher) c.args.time (λ time. c.turn.new.self.dispatcher ≡ turn c.finish_all.new.node.dispatcher time [] c.args.frames.now)
+returns-clause-node c = at_some (next c.finish_all.new.node.dispatcher) c.args.time
+    (λ time. c.turn.new.self.dispatcher ≡ turn c.finish_all.new.node.dispatcher time [] c.args.frames.now)
     (ap next (ready-2 c) ∙ c.requires.next) c.turn.ensures.turn
     ∙ ap (λ d. turn d c.args.time [] c.args.frames.now) (ready-2 c)
 
 pub returns-clause-acts : goal.returns-clause-acts
 returns-clause-acts c = c.append_acts.ensures.acts ∙ ap (λ l. c.args.member.now.acts.items ++ l)
-    (c.acts.ensures ∙ at_some (next c.finish_all.new.node.dispatcher) c.args.time (λ time. c.turn.new.self.acts ≡ acts_of_turn c.finish_all.new.node.dispatcher time [] c.args.frames.now)
+    (c.acts.ensures ∙ at_some (next c.finish_all.new.node.dispatcher) c.args.time
+    (λ time. c.turn.new.self.acts ≡ acts_of_turn c.finish_all.new.node.dispatcher time [] c.args.frames.now)
     (ap next (ready-2 c) ∙ c.requires.next) c.turn.ensures.acts
     ∙ ap (λ d. acts_of_turn d c.args.time [] c.args.frames.now) (ready-2 c))
 
 pub returns-clause-noted : goal.returns-clause-noted
 returns-clause-noted c = c.note_acts.ensures ∙ ap (λ (as' : List Act). fold note c.args.member.now.noted.items as')
-    (c.acts-2.ensures ∙ at_some (next c.finish_all.new.node.dispatcher) c.args.time (λ time. c.turn.new.self.acts ≡ acts_of_turn c.finish_all.new.node.dispatcher time [] c.args.frames.now)
+    (c.acts-2.ensures ∙ at_some (next c.finish_all.new.node.dispatcher) c.args.time
+    (λ time. c.turn.new.self.acts ≡ acts_of_turn c.finish_all.new.node.dispatcher time [] c.args.frames.now)
     (ap next (ready-2 c) ∙ c.requires.next) c.turn.ensures.acts
     ∙ ap (λ d. acts_of_turn d c.args.time [] c.args.frames.now) (ready-2 c))

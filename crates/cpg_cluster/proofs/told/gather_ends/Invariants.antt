@@ -5,6 +5,7 @@ use Rattle.cpg_cluster.proofs.told.gather_ends.Given as goal
 
 abbrev pub invariant-loop-place : goal.invariant-loop-place
 invariant-loop-place l = record {
-  ends : l.ends.items ++ ends_by l.time (drop l.place l.own) (drop l.place l.running) ≡ l.fn.ends.items ++ ends_by l.time l.own l.running;
+  ends : l.ends.items ++ ends_by l.time (drop l.place l.own) (drop l.place l.running) ≡ l.fn.ends.items
+      ++ ends_by l.time l.own l.running;
   room : vec_capacity l.ends ≡ vec_capacity l.fn.ends;
 }

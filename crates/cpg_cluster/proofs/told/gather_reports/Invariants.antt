@@ -5,7 +5,9 @@ use Rattle.cpg_cluster.proofs.told.gather_reports.Given as goal
 
 abbrev pub invariant-loop-place : goal.invariant-loop-place
 invariant-loop-place l = record {
-  reports : l.reports.items ++ reports_by l.problem (record { scenario = l.scenario; lengths = l.lengths }) l.time (drop l.place l.own)
-      (drop l.place l.running) ≡ l.fn.reports.items ++ reports_by l.problem (record { scenario = l.scenario; lengths = l.lengths }) l.time l.own l.running;
+  reports : l.reports.items
+      ++ reports_by l.problem (record { scenario = l.scenario; lengths = l.lengths }) l.time (drop l.place l.own)
+      (drop l.place l.running) ≡ l.fn.reports.items
+      ++ reports_by l.problem (record { scenario = l.scenario; lengths = l.lengths }) l.time l.own l.running;
   room : vec_capacity l.reports ≡ vec_capacity l.fn.reports;
 }

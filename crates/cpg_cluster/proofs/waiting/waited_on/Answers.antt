@@ -11,18 +11,24 @@ pub loop-sender-init : goal.loop-sender-init
 loop-sender-init c = record { other = refl; none = λ j d h. absurd (omega arith) }
 
 -- the test of the sender at the place
-tested : (members : List Member) (member : Member) (time other i : ℕ) (item d : Member) (r : Bool) → i < length members → other ≡ i → item ≡ get_or members i item →
+tested : (members : List Member) (member : Member) (time other i : ℕ) (item d : Member) (r : Bool) →
+    i < length members → other ≡ i →
+    item ≡ get_or members i item →
     r ≡ waits_between time member other item →
     waits_between time member i (get_or members i d) ≡ r
 tested members member time other i item d r l o is e =
-    ap (waits_between time member i) (get_or_default members i d item l ∙ sym is) ∙ sym (e ∙ ap (λ n. waits_between time member n item) o)
+    ap (waits_between time member i) (get_or_default members i d item l ∙ sym is)
+    ∙ sym (e ∙ ap (λ n. waits_between time member n item) o)
 
 pub returns-then-waits_between : goal.returns-then-waits_between
 returns-then-waits_between c d =
     let i = c.loop-sender.sender-index in
-    ap Waits c.loop-sender.invariant.other ∙ first_waits (λ b. waits_between c.args.time c.args.member.now b (get_or c.args.members.now b d)) (length c.args.members.now) i c.loop-sender-test.true
+    ap Waits c.loop-sender.invariant.other
+    ∙ first_waits (λ b. waits_between c.args.time c.args.member.now b (get_or c.args.members.now b d))
+    (length c.args.members.now) i c.loop-sender-test.true
     (λ j h. c.loop-sender.invariant.none j d h)
-    (tested c.args.members.now c.args.member.now c.args.time c.loop-sender.other i c.sender-item.result d c.waits_between.result c.loop-sender-test.true c.loop-sender.invariant.other c.sender-item.is
+    (tested c.args.members.now c.args.member.now c.args.time c.loop-sender.other i c.sender-item.result d
+    c.waits_between.result c.loop-sender-test.true c.loop-sender.invariant.other c.sender-item.is
     c.waits_between.ensures ∙ c.if-waits_between.true)
 
 pub loop-sender-preserved : goal.loop-sender-preserved
@@ -30,11 +36,13 @@ loop-sender-preserved c = record {
   other = omega (arith, c.loop-sender.invariant.other);
   none = λ j d h. elim (cases_eq j c.loop-sender.sender-index) [
     | inl e ↦ ap (λ n. waits_between c.args.time c.args.member.now n (get_or c.args.members.now n d)) e
-        ∙ tested c.args.members.now c.args.member.now c.args.time c.loop-sender.other c.loop-sender.sender-index c.sender-item.result d c.waits_between.result c.loop-sender-test.true
+        ∙ tested c.args.members.now c.args.member.now c.args.time c.loop-sender.other c.loop-sender.sender-index
+        c.sender-item.result d c.waits_between.result c.loop-sender-test.true
         c.loop-sender.invariant.other c.sender-item.is c.waits_between.ensures ∙ c.if-waits_between.false
     | inr ne ↦ c.loop-sender.invariant.none j d (omega arith)
   ];
 }
 
 pub returns : goal.returns
-returns c d = none_waits (λ b. waits_between c.args.time c.args.member.now b (get_or c.args.members.now b d)) (length c.args.members.now) (λ j h. c.loop-sender.invariant.none j d (omega arith))
+returns c d = none_waits (λ b. waits_between c.args.time c.args.member.now b (get_or c.args.members.now b d))
+    (length c.args.members.now) (λ j h. c.loop-sender.invariant.none j d (omega arith))

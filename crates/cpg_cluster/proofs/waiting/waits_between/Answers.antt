@@ -6,13 +6,18 @@ use Rattle.cpg_cluster.proofs.Arriving.{any_index, index_at}
 use Rattle.cpg_cluster.proofs.waiting.waits_between.Goals as goal
 
 pub waits_on-requires : goal.waits_on-requires
-waits_on-requires c = (index_at c.args.member.now.node.dispatcher.table.hears c.args.member.now.senders.items (length c.args.member.now.arrivals.items) c.args.member.now.arrivals.items c.args.other
-    c.index-times.result.now c.as_slice.result.now c.requires.indexed c.requires.other c.index-times.ensures c.as_slice.ensures.value).rises
+waits_on-requires c = (index_at c.args.member.now.node.dispatcher.table.hears c.args.member.now.senders.items
+    (length c.args.member.now.arrivals.items) c.args.member.now.arrivals.items c.args.other
+    c.index-times.result.now c.as_slice.result.now c.requires.indexed c.requires.other c.index-times.ensures
+    c.as_slice.ensures.value).rises
 
 pub returns : goal.returns
 returns c =
     let m = c.args.member.now in
-    c.waits_on.ensures ∙ any_index c.args.time c.next.result c.args.sender.now.slot c.args.other m.node.dispatcher.table.hears m.senders.items c.as_slice.result.now
-    (index_at m.node.dispatcher.table.hears m.senders.items (length m.arrivals.items) m.arrivals.items c.args.other c.index-times.result.now c.as_slice.result.now c.requires.indexed c.requires.other
+    c.waits_on.ensures ∙ any_index c.args.time c.next.result c.args.sender.now.slot c.args.other
+    m.node.dispatcher.table.hears m.senders.items c.as_slice.result.now
+    (index_at m.node.dispatcher.table.hears m.senders.items (length m.arrivals.items) m.arrivals.items c.args.other
+    c.index-times.result.now c.as_slice.result.now c.requires.indexed c.requires.other
     c.index-times.ensures c.as_slice.ensures.value)
-    ∙ ap (λ comes. list_any (λ w. w) (zip_with (waits_by c.args.other c.args.time comes c.args.sender.now.slot) m.node.dispatcher.table.hears m.senders.items)) c.next.ensures.next
+    ∙ ap (λ comes. list_any (λ w. w) (zip_with (waits_by c.args.other c.args.time comes c.args.sender.now.slot)
+    m.node.dispatcher.table.hears m.senders.items)) c.next.ensures.next

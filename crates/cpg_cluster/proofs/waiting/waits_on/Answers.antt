@@ -4,12 +4,16 @@ use Rattle.cpg_cluster.proofs.Arriving.{none_sent, none_until, last_until}
 use Rattle.cpg_cluster.proofs.waiting.waits_on.Goals as goal
 
 pub returns-then-not-may_still_send : goal.returns-then-not-may_still_send
-returns-then-not-may_still_send c = none_sent c.args.time c.args.next c.args.slot c.args.times.now (sym c.if-not-may_still_send.ensures)
+returns-then-not-may_still_send c =
+    none_sent c.args.time c.args.next c.args.slot c.args.times.now (sym c.if-not-may_still_send.ensures)
 
 pub returns-then-after-eq0 : goal.returns-then-after-eq0
-returns-then-after-eq0 c = none_until c.args.time c.args.next c.args.slot c.args.times.now (λ i d l. c.first_after-after.ensures.past i d (omega arith) l)
+returns-then-after-eq0 c = none_until c.args.time c.args.next c.args.slot c.args.times.now
+    (λ i d l. c.first_after-after.ensures.past i d (omega arith) l)
 
 pub returns : goal.returns
-returns c = c.may_still_send-2.ensures ∙ last_until c.args.time c.args.next c.args.slot c.args.times.now (c.first_after-after.result - 1) _ c.requires (omega arith)
-    (λ i d l. c.first_after-after.ensures.before i d (omega arith)) (λ i d k l. c.first_after-after.ensures.past i d (omega arith) l)
+returns c = c.may_still_send-2.ensures ∙ last_until c.args.time c.args.next c.args.slot c.args.times.now
+    (c.first_after-after.result - 1) _ c.requires (omega arith)
+    (λ i d l. c.first_after-after.ensures.before i d (omega arith))
+    (λ i d k l. c.first_after-after.ensures.past i d (omega arith) l)
     (λ d. get_or_default c.args.times.now (c.first_after-after.result - 1) d 0 (omega arith))

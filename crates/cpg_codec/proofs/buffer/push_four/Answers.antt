@@ -8,4 +8,5 @@ returns-clause-items c =
     let new = c.extend_from_slice.new.self.items in
     let four : length c.args.literals.now ≡ 4 = search rules in
     let ok : is_ok c.extend_from_slice.result ≡ true = search rules in
-    appended old new _ _ c.extend_from_slice.ensures.items ok ∙ ap (λ bs. old ++ bs) (four_bytes c.args.literals.now _ four)
+    appended old new _ _ c.extend_from_slice.ensures.items ok
+    ∙ ap (λ bs. old ++ bs) (four_bytes c.args.literals.now _ four)

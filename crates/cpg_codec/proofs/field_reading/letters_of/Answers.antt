@@ -7,13 +7,17 @@ use Rattle.cpg_codec.proofs.field_reading.letters_of.Goals as goal
 pub returns-in_err-letter : goal.returns-in_err-letter
 returns-in_err-letter c =
     let p = err_from_is_err_and c.from_residual.result c.from_residual.ensures.1 in
-    rw (p.1, p.2) (times_end (byte_by is_name_byte) c.in_err-letter.field-0.0 c.loop.letters.items c.args.count c.loop.counter c.loop.rest.now
-    (read_repeated (byte_by is_name_byte) c.args.count c.args.bytes.now) c.loop-test.true c.in_err-letter.ensures c.loop.invariant)
+    rw (p.1, p.2) (times_end (byte_by is_name_byte) c.in_err-letter.field-0.0 c.loop.letters.items c.args.count
+    c.loop.counter c.loop.rest.now
+    (read_repeated (byte_by is_name_byte) c.args.count c.args.bytes.now) c.loop-test.true c.in_err-letter.ensures
+    c.loop.invariant)
 
 pub loop-preserved : goal.loop-preserved
 loop-preserved c =
-    rw c.in_ok-push.ensures.items (times_on (byte_by is_name_byte) c.loop.letters.items c.args.count c.loop.counter c.loop.rest.now c.in_ok-letter.letter c.in_ok-letter.after.now
-    (read_repeated (byte_by is_name_byte) c.args.count c.args.bytes.now) c.loop-test.true c.in_ok-letter.ensures c.loop.invariant)
+    rw c.in_ok-push.ensures.items (times_on (byte_by is_name_byte) c.loop.letters.items c.args.count c.loop.counter
+    c.loop.rest.now c.in_ok-letter.letter c.in_ok-letter.after.now
+    (read_repeated (byte_by is_name_byte) c.args.count c.args.bytes.now) c.loop-test.true c.in_ok-letter.ensures
+    c.loop.invariant)
 
 pub returns : goal.returns
 returns c = times_done (byte_by is_name_byte) c.loop.letters.items c.args.count c.loop.counter c.loop.rest.now

@@ -1,54 +1,71 @@
 use Rattle.std.proofs.Common.{arith, rules, ◌≡◌, ◌+◌, ◌*◌, ◌/◌, ◌-◌, ◌≤◌, ◌^◌, ℕ, sym, ◌∙◌, suc, get_or, subst}
-use Rattle.cpg_codec.proofs.Digits.{digit_goes_on, digit_stops, digit_none, digit_done, number_only, digit_falls_short, under_shift, reaches_shift, above_shift, within_shift, fits_more}
+use Rattle.cpg_codec.proofs.Digits.{digit_goes_on, digit_stops, digit_none, digit_done, number_only, digit_falls_short}
+use Rattle.cpg_codec.proofs.Digits.{under_shift, reaches_shift, above_shift, within_shift, fits_more}
 use Rattle.cpg_codec.proofs.field_reading.number_of.Goals as goal
 
 pub returns-in-empty-clause-gives : goal.returns-in-empty-clause-gives
 returns-in-empty-clause-gives c =
-    let d = digit_none c.args.low c.args.high (c.args.width - c.loop-done.done) (c.args.width - 1 - c.loop-done.done) c.loop-done.number c.loop-done.rest.now (omega arith) c.in-empty.len_below in
+    let d = digit_none c.args.low c.args.high (c.args.width - c.loop-done.done) (c.args.width - 1 - c.loop-done.done)
+    c.loop-done.number c.loop-done.rest.now (omega arith) c.in-empty.len_below in
     sym c.loop-done.invariant.same ∙ d
 
 pub overflow_mul-next : goal.overflow_mul-next
 overflow_mul-next c =
-    let f = fits_more c.args.high (c.args.width - c.loop-done.done) (c.args.width - 1 - c.loop-done.done) c.loop-done.number (omega arith) c.loop-done.invariant.small (omega arith) in omega (arith, f)
+    let f = fits_more c.args.high (c.args.width - c.loop-done.done) (c.args.width - 1 - c.loop-done.done)
+    c.loop-done.number (omega arith) c.loop-done.invariant.small (omega arith) in
+    omega (arith, f)
 
 pub overflow_add-next : goal.overflow_add-next
 overflow_add-next c =
-    let f = fits_more c.args.high (c.args.width - c.loop-done.done) (c.args.width - 1 - c.loop-done.done) c.loop-done.number (omega arith) c.loop-done.invariant.small (omega arith) in
+    let f = fits_more c.args.high (c.args.width - c.loop-done.done) (c.args.width - 1 - c.loop-done.done)
+    c.loop-done.number (omega arith) c.loop-done.invariant.small (omega arith) in
     omega (arith, f, c.type_inv.bytes 0)
 
 pub returns-then-high-after-clause-gives : goal.returns-then-high-after-clause-gives
 returns-then-high-after-clause-gives c =
     let k : c.args.width - c.loop-done.done ≡ suc (c.args.width - 1 - c.loop-done.done) = omega arith in
-    let d = digit_stops c.args.low c.args.high (c.args.width - c.loop-done.done) (c.args.width - 1 - c.loop-done.done) c.loop-done.number c.loop-done.rest.now k c.in-len1-up.len_at_least
-    (above_shift c.args.high (c.args.width - 1 - c.loop-done.done) (c.loop-done.number * 256 + get_or c.loop-done.rest.now 0 0) c.if-high-after.true) in
+    let d = digit_stops c.args.low c.args.high (c.args.width - c.loop-done.done)
+    (c.args.width - 1 - c.loop-done.done) c.loop-done.number c.loop-done.rest.now k c.in-len1-up.len_at_least
+    (above_shift c.args.high (c.args.width - 1 - c.loop-done.done)
+    (c.loop-done.number * 256 + get_or c.loop-done.rest.now 0 0) c.if-high-after.true) in
     sym c.loop-done.invariant.same ∙ d
 
 pub returns-then-next-low-clause-gives : goal.returns-then-next-low-clause-gives
 returns-then-next-low-clause-gives c =
     let k : c.args.width - c.loop-done.done ≡ suc (c.args.width - 1 - c.loop-done.done) = omega arith in
-    let d = digit_falls_short c.args.low c.args.high (c.args.width - c.loop-done.done) (c.args.width - 1 - c.loop-done.done) c.loop-done.number c.loop-done.rest.now k c.in-len1-up.len_at_least
-    (under_shift c.args.low (c.args.width - 1 - c.loop-done.done) (c.loop-done.number * 256 + get_or c.loop-done.rest.now 0 0) c.if-next-low.true) in
+    let d = digit_falls_short c.args.low c.args.high (c.args.width - c.loop-done.done)
+    (c.args.width - 1 - c.loop-done.done) c.loop-done.number c.loop-done.rest.now k c.in-len1-up.len_at_least
+    (under_shift c.args.low (c.args.width - 1 - c.loop-done.done)
+    (c.loop-done.number * 256 + get_or c.loop-done.rest.now 0 0) c.if-next-low.true) in
     sym c.loop-done.invariant.same ∙ d
 
 pub loop-done-preserved : goal.loop-done-preserved
 loop-done-preserved c =
     let k : c.args.width - c.loop-done.done ≡ suc (c.args.width - (c.loop-done.done + 1)) = omega arith in
     let m : c.args.width - 1 - c.loop-done.done ≡ c.args.width - (c.loop-done.done + 1) = omega arith in
-    let lo = reaches_shift c.args.low (c.args.width - (c.loop-done.done + 1)) (c.loop-done.number * 256 + get_or c.loop-done.rest.now 0 0)
-    (subst (λ (w : ℕ). c.args.low / 2 ^ (8 * w) ≤ c.loop-done.number * 256 + get_or c.loop-done.rest.now 0 0) m c.if-next-low.false) in
-    let le = within_shift c.args.high (c.args.width - (c.loop-done.done + 1)) (c.loop-done.number * 256 + get_or c.loop-done.rest.now 0 0)
-    (subst (λ (w : ℕ). c.loop-done.number * 256 + get_or c.loop-done.rest.now 0 0 ≤ c.args.high / 2 ^ (8 * w)) m c.if-high-after.false) in
+    let lo = reaches_shift c.args.low (c.args.width - (c.loop-done.done + 1))
+    (c.loop-done.number * 256 + get_or c.loop-done.rest.now 0 0)
+    (subst (λ (w : ℕ). c.args.low / 2 ^ (8 * w) ≤ c.loop-done.number * 256 + get_or c.loop-done.rest.now 0 0) m
+    c.if-next-low.false) in
+    let le = within_shift c.args.high (c.args.width - (c.loop-done.done + 1))
+    (c.loop-done.number * 256 + get_or c.loop-done.rest.now 0 0)
+    (subst (λ (w : ℕ). c.loop-done.number * 256 + get_or c.loop-done.rest.now 0 0 ≤ c.args.high / 2 ^ (8 * w)) m
+    c.if-high-after.false) in
     record {
-      same = sym (digit_goes_on c.args.low c.args.high (c.args.width - c.loop-done.done) (c.args.width - (c.loop-done.done + 1)) c.loop-done.number c.loop-done.rest.now k c.in-len1-up.len_at_least
+      same = sym (digit_goes_on c.args.low c.args.high (c.args.width - c.loop-done.done)
+          (c.args.width - (c.loop-done.done + 1)) c.loop-done.number c.loop-done.rest.now k c.in-len1-up.len_at_least
           (search rules) lo le) ∙ c.loop-done.invariant.same;
       small = le;
     }
 
 pub returns-clause-gives : goal.returns-clause-gives
 returns-clause-gives c =
-    let d = digit_done c.args.low c.args.high (c.args.width - c.loop-done.done) c.loop-done.number c.loop-done.rest.now (omega arith) in
+    let d = digit_done c.args.low c.args.high (c.args.width - c.loop-done.done) c.loop-done.number c.loop-done.rest.now
+    (omega arith) in
     sym c.loop-done.invariant.same ∙ d
 
 pub returns-clause-range : goal.returns-clause-range
-returns-clause-range c = number_only c.args.width c.args.low c.args.high c.args.bytes.now c.loop-done.number c.loop-done.rest.now c.requires.some c.requires.fits
-    (sym c.loop-done.invariant.same ∙ digit_done c.args.low c.args.high (c.args.width - c.loop-done.done) c.loop-done.number c.loop-done.rest.now (omega arith))
+returns-clause-range c = number_only c.args.width c.args.low c.args.high c.args.bytes.now c.loop-done.number
+    c.loop-done.rest.now c.requires.some c.requires.fits
+    (sym c.loop-done.invariant.same ∙ digit_done c.args.low c.args.high
+    (c.args.width - c.loop-done.done) c.loop-done.number c.loop-done.rest.now (omega arith))

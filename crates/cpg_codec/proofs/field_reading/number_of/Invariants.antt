@@ -4,6 +4,7 @@ use Rattle.cpg_codec.proofs.field_reading.number_of.Given as goal
 
 abbrev pub invariant-loop-done : goal.invariant-loop-done
 invariant-loop-done l = record {
-  same : read_digits (within l.fn.low l.fn.high) (l.fn.width - l.done) l.number l.rest ≡ read_number l.fn.width (within l.fn.low l.fn.high) l.fn.bytes;
+  same : read_digits (within l.fn.low l.fn.high) (l.fn.width - l.done) l.number l.rest
+      ≡ read_number l.fn.width (within l.fn.low l.fn.high) l.fn.bytes;
   small : l.number * 256 ^ (l.fn.width - l.done) ≤ l.fn.high;
 }

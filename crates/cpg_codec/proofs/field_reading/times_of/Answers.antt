@@ -7,13 +7,16 @@ use Rattle.cpg_codec.proofs.field_reading.times_of.Goals as goal
 pub returns-in_err-time : goal.returns-in_err-time
 returns-in_err-time c =
     let p = err_from_is_err_and c.from_residual.result c.from_residual.ensures.1 in
-    rw (p.1, p.2) (times_end read_time c.in_err-time.field-0.0 c.loop.times.items c.args.count c.loop.counter c.loop.rest.now
+    rw (p.1, p.2)
+    (times_end read_time c.in_err-time.field-0.0 c.loop.times.items c.args.count c.loop.counter c.loop.rest.now
     (read_repeated read_time c.args.count c.args.bytes.now) c.loop-test.true c.in_err-time.ensures c.loop.invariant)
 
 pub loop-preserved : goal.loop-preserved
 loop-preserved c =
-    rw c.in_ok-push.ensures.items (times_on read_time c.loop.times.items c.args.count c.loop.counter c.loop.rest.now c.in_ok-time.time c.in_ok-time.after.now
+    rw c.in_ok-push.ensures.items (times_on read_time c.loop.times.items c.args.count c.loop.counter c.loop.rest.now
+    c.in_ok-time.time c.in_ok-time.after.now
     (read_repeated read_time c.args.count c.args.bytes.now) c.loop-test.true c.in_ok-time.ensures c.loop.invariant)
 
 pub returns : goal.returns
-returns c = times_done read_time c.loop.times.items c.args.count c.loop.counter c.loop.rest.now (read_repeated read_time c.args.count c.args.bytes.now) c.loop-test.false c.loop.invariant
+returns c = times_done read_time c.loop.times.items c.args.count c.loop.counter c.loop.rest.now
+    (read_repeated read_time c.args.count c.args.bytes.now) c.loop-test.false c.loop.invariant

@@ -5,4 +5,5 @@ use Rattle.cpg_codec.proofs.Loop.{with_front, left_of}
 use Rattle.cpg_codec.proofs.field_reading.times_of.Given as goal
 
 abbrev pub invariant-loop : goal.invariant-loop
-invariant-loop l = with_front l.times.items (left_of read_time l.count l.counter l.rest) ≡ read_repeated read_time l.count l.bytes
+invariant-loop l =
+    with_front l.times.items (left_of read_time l.count l.counter l.rest) ≡ read_repeated read_time l.count l.bytes

@@ -7,13 +7,17 @@ use Rattle.cpg_codec.proofs.head_reading.edges_of.Goals as goal
 pub returns-in_err-edge : goal.returns-in_err-edge
 returns-in_err-edge c =
     let p = err_from_is_err_and c.from_residual-in_err-edge.result c.from_residual-in_err-edge.ensures.1 in
-    rw (p.1, p.2) (times_end (read_edge c.args.processes) c.in_err-edge.field-0.0 c.loop.edges.items c.args.count c.loop.counter c.loop.rest.now
-    (read_repeated (read_edge c.args.processes) c.args.count c.args.bytes.now) c.loop-test.true c.in_err-edge.ensures c.loop.invariant)
+    rw (p.1, p.2) (times_end (read_edge c.args.processes) c.in_err-edge.field-0.0 c.loop.edges.items c.args.count
+    c.loop.counter c.loop.rest.now
+    (read_repeated (read_edge c.args.processes) c.args.count c.args.bytes.now) c.loop-test.true c.in_err-edge.ensures
+    c.loop.invariant)
 
 pub loop-preserved : goal.loop-preserved
 loop-preserved c =
-    rw c.in_ok-push.ensures.items (times_on (read_edge c.args.processes) c.loop.edges.items c.args.count c.loop.counter c.loop.rest.now c.in_ok-edge.edge c.in_ok-edge.after.now
-    (read_repeated (read_edge c.args.processes) c.args.count c.args.bytes.now) c.loop-test.true c.in_ok-edge.ensures c.loop.invariant)
+    rw c.in_ok-push.ensures.items (times_on (read_edge c.args.processes) c.loop.edges.items c.args.count c.loop.counter
+    c.loop.rest.now c.in_ok-edge.edge c.in_ok-edge.after.now
+    (read_repeated (read_edge c.args.processes) c.args.count c.args.bytes.now) c.loop-test.true c.in_ok-edge.ensures
+    c.loop.invariant)
 
 pub returns : goal.returns
 returns c = times_done (read_edge c.args.processes) c.loop.edges.items c.args.count c.loop.counter c.loop.rest.now

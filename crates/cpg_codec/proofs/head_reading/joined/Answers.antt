@@ -5,20 +5,24 @@ use Rattle.cpg_codec.proofs.head_reading.joined.Goals as goal
 pub unreachable-requires : goal.unreachable-requires
 unreachable-requires c =
     let p = c.args.parts in
-    c.in_default.ensures.refused (plain_head p.version p.faults p.nodes.items p.processes.items p.extras.items p.edges.items c.requires.lawful)
+    c.in_default.ensures.refused
+    (plain_head p.version p.faults p.nodes.items p.processes.items p.extras.items p.edges.items c.requires.lawful)
 
 pub returns-then-parts-ne2 : goal.returns-then-parts-ne2
 returns-then-parts-ne2 c =
     let p = c.args.parts in
-    c.in-Some.ensures.head ∙ joined_one p.version p.faults p.nodes.items p.processes.items p.extras.items p.edges.items c.if-parts-ne2.true
+    c.in-Some.ensures.head
+    ∙ joined_one p.version p.faults p.nodes.items p.processes.items p.extras.items p.edges.items c.if-parts-ne2.true
 
 pub unreachable-requires-in-None : goal.unreachable-requires-in-None
 unreachable-requires-in-None c =
     let p = c.args.parts in
     c.in-None.ensures.refused (rw c.in-Some.ensures.head
-    (made_extras p.version p.faults p.nodes.items p.processes.items p.extras.items p.edges.items c.if-parts-ne2.false c.requires.kept c.requires.lawful))
+    (made_extras p.version p.faults p.nodes.items p.processes.items p.extras.items p.edges.items c.if-parts-ne2.false
+    c.requires.kept c.requires.lawful))
 
 pub returns : goal.returns
 returns c =
     let p = c.args.parts in
-    (rw c.in-Some.ensures.head at c.in-Some-with_extras.ensures.head) ∙ joined_two p.version p.faults p.nodes.items p.processes.items p.extras.items p.edges.items c.if-parts-ne2.false c.requires.kept
+    (rw c.in-Some.ensures.head at c.in-Some-with_extras.ensures.head) ∙ joined_two p.version p.faults p.nodes.items
+    p.processes.items p.extras.items p.edges.items c.if-parts-ne2.false c.requires.kept

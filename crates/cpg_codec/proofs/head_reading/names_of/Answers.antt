@@ -7,13 +7,16 @@ use Rattle.cpg_codec.proofs.head_reading.names_of.Goals as goal
 pub returns-in_err-name : goal.returns-in_err-name
 returns-in_err-name c =
     let p = err_from_is_err_and c.from_residual-in_err-name.result c.from_residual-in_err-name.ensures.1 in
-    rw (p.1, p.2) (times_end read_name c.in_err-name.field-0.0 c.loop.names.items c.args.count c.loop.counter c.loop.rest.now
+    rw (p.1, p.2)
+    (times_end read_name c.in_err-name.field-0.0 c.loop.names.items c.args.count c.loop.counter c.loop.rest.now
     (read_repeated read_name c.args.count c.args.bytes.now) c.loop-test.true c.in_err-name.ensures c.loop.invariant)
 
 pub loop-preserved : goal.loop-preserved
 loop-preserved c =
-    rw c.in_ok-push.ensures.items (times_on read_name c.loop.names.items c.args.count c.loop.counter c.loop.rest.now c.in_ok-name.name c.in_ok-name.after.now
+    rw c.in_ok-push.ensures.items (times_on read_name c.loop.names.items c.args.count c.loop.counter c.loop.rest.now
+    c.in_ok-name.name c.in_ok-name.after.now
     (read_repeated read_name c.args.count c.args.bytes.now) c.loop-test.true c.in_ok-name.ensures c.loop.invariant)
 
 pub returns : goal.returns
-returns c = times_done read_name c.loop.names.items c.args.count c.loop.counter c.loop.rest.now (read_repeated read_name c.args.count c.args.bytes.now) c.loop-test.false c.loop.invariant
+returns c = times_done read_name c.loop.names.items c.args.count c.loop.counter c.loop.rest.now
+    (read_repeated read_name c.args.count c.args.bytes.now) c.loop-test.false c.loop.invariant

@@ -5,4 +5,5 @@ use Rattle.cpg_codec.proofs.Loop.{with_front, left_of}
 use Rattle.cpg_codec.proofs.head_reading.names_of.Given as goal
 
 abbrev pub invariant-loop : goal.invariant-loop
-invariant-loop l = with_front l.names.items (left_of read_name l.fn.count l.counter l.rest) ≡ read_repeated read_name l.fn.count l.fn.bytes
+invariant-loop l = with_front l.names.items (left_of read_name l.fn.count l.counter l.rest)
+    ≡ read_repeated read_name l.fn.count l.fn.bytes

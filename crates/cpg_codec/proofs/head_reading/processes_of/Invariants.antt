@@ -8,7 +8,9 @@ use Rattle.cpg_codec.proofs.head_reading.processes_of.Given as goal
 abbrev pub invariant-loop : goal.invariant-loop
 invariant-loop l = record {
   so_far : with_front (written_by l.processes.items l.extras.items)
-      (read_each (λ (ones : ℕ) (w : Written). ones + bit w.process.condition) (λ (left : ℕ) ones. read_process l.fn.version l.fn.faults l.fn.nodes ones) (down (l.fn.count - l.counter)) l.ones l.rest)
+      (read_each (λ (ones : ℕ) (w : Written). ones + bit w.process.condition)
+      (λ (left : ℕ) ones. read_process l.fn.version l.fn.faults l.fn.nodes ones)
+      (down (l.fn.count - l.counter)) l.ones l.rest)
       ≡ read_processes l.fn.version l.fn.faults l.fn.nodes l.fn.count l.fn.bytes;
   few : l.ones ≤ l.counter;
   kept : length l.extras.items ≡ (if l.fn.version == 2 then length l.processes.items else 0);

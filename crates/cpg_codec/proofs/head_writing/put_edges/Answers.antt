@@ -6,7 +6,8 @@ use Rattle.cpg_codec.proofs.head_writing.put_edges.Goals as goal
 
 pub loop-from-preserved : goal.loop-from-preserved
 loop-from-preserved g c = record {
-  put = puts_more edge_bytes _ _ _ _ _ _ (c.args.edges.now) (c.loop-from.from-index) ((0, 0)) c.loop-from-test.true c.loop-from.invariant.put c.in_ok-put.ensures.put;
+  put = puts_more edge_bytes _ _ _ _ _ _ (c.args.edges.now) (c.loop-from.from-index)
+      ((0, 0)) c.loop-from-test.true c.loop-from.invariant.put c.in_ok-put.ensures.put;
   kept = c.in_ok-put.ensures.cause.kept ∙ c.loop-from.invariant.kept;
 }
 
@@ -14,4 +15,5 @@ pub returns-in_err-put-clause-put : goal.returns-in_err-put-clause-put
 returns-in_err-put-clause-put g c =
     let p = err_from_is_err_and c.from_residual.result c.from_residual.ensures.1 in
     Puts-failed _ _ _ _ _ c.from_residual.result p.0 p.1
-    (puts_fail edge_bytes _ _ _ _ _ (c.args.edges.now) (c.loop-from.from-index) ((0, 0)) c.loop-from-test.true c.loop-from.invariant.put c.in_err-put.ensures.put)
+    (puts_fail edge_bytes _ _ _ _ _ (c.args.edges.now) (c.loop-from.from-index)
+    ((0, 0)) c.loop-from-test.true c.loop-from.invariant.put c.in_err-put.ensures.put)

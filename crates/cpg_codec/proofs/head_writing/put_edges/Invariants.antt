@@ -6,6 +6,7 @@ use Rattle.cpg_codec.proofs.head_writing.put_edges.Given as goal
 
 abbrev pub invariant-loop-from : goal.invariant-loop-from
 invariant-loop-from g l = record {
-  put : IsPut (g.O.Sink.state l.fn.sink).taken (g.O.Sink.state l.sink).taken l.fn.buffer l.buffer (flat_map edge_bytes (take l.from-index l.fn.edges));
+  put : IsPut (g.O.Sink.state l.fn.sink).taken (g.O.Sink.state l.sink).taken l.fn.buffer l.buffer
+      (flat_map edge_bytes (take l.from-index l.fn.edges));
   kept : (g.O.Sink.state l.sink).faults ≡ (g.O.Sink.state l.fn.sink).faults;
 }

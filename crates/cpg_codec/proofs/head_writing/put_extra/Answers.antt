@@ -7,9 +7,11 @@ use Rattle.cpg_codec.proofs.head_writing.put_extra.Goals as goal
 pub returns-in_err-put_long-clause-put : goal.returns-in_err-put_long-clause-put
 returns-in_err-put_long-clause-put g c =
     let p = err_from_is_err_and c.from_residual.result c.from_residual.ensures.1 in
-    rw c.in-Some.is (Puts-first _ _ _ _ (to_be_bytes w64 c.in-Some.extra.release) (to_be_bytes w64 (deadline_number c.in-Some.extra.deadline)) c.from_residual.result p.0 p.1 c.in_err-put_long.ensures.put)
+    rw c.in-Some.is (Puts-first _ _ _ _ (to_be_bytes w64 c.in-Some.extra.release) (to_be_bytes w64
+    (deadline_number c.in-Some.extra.deadline)) c.from_residual.result p.0 p.1 c.in_err-put_long.ensures.put)
 
 pub returns-clause-put : goal.returns-clause-put
 returns-clause-put g c =
-    rw c.in-Some.is (Puts-then _ _ _ _ _ _ (to_be_bytes w64 c.in-Some.extra.release) (to_be_bytes w64 (deadline_number c.in-Some.extra.deadline)) c.put_long-2.result c.in_ok-put_long.ensures.put
+    rw c.in-Some.is (Puts-then _ _ _ _ _ _ (to_be_bytes w64 c.in-Some.extra.release)
+    (to_be_bytes w64 (deadline_number c.in-Some.extra.deadline)) c.put_long-2.result c.in_ok-put_long.ensures.put
     (rw c.deadline_number.ensures at c.put_long-2.ensures.put))

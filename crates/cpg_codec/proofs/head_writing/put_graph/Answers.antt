@@ -8,29 +8,36 @@ use Rattle.cpg_codec.proofs.Puts.{Puts-then, Puts-first, Puts-failed, fails_seco
 use Rattle.cpg_codec.proofs.head_writing.put_graph.Goals as goal
 
 pub put_counted_edges-requires-clause-short : goal.put_counted_edges-requires-clause-short
-put_counted_edges-requires-clause-short g c = rw c.edges.ensures.edges (short_edges c.args.head.now c.edges.ensures.within)
+put_counted_edges-requires-clause-short g c =
+    rw c.edges.ensures.edges (short_edges c.args.head.now c.edges.ensures.within)
 
 pub returns-in_err-put-clause-put : goal.returns-in_err-put-clause-put
 returns-in_err-put-clause-put g c =
     let p = err_from_is_err_and c.from_residual.result c.from_residual.ensures.1 in
     (Puts-first _ _ _ _ (byte (length c.args.head.now.processes))
-    ((flat_map process_bytes (written c.args.head.now)) ++ (to_be_bytes w16 (length c.args.head.now.edges) ++ flat_map edge_bytes c.args.head.now.edges)) c.from_residual.result p.0 p.1
+    ((flat_map process_bytes (written c.args.head.now)) ++ (to_be_bytes w16 (length c.args.head.now.edges)
+    ++ flat_map edge_bytes c.args.head.now.edges)) c.from_residual.result p.0 p.1
     (rw c.processes.ensures.processes at c.in_err-put.ensures.put))
 
 pub returns-in_err-put_processes-clause-put : goal.returns-in_err-put_processes-clause-put
 returns-in_err-put_processes-clause-put g c =
-    let p = err_from_is_err_and c.from_residual-in_err-put_processes.result c.from_residual-in_err-put_processes.ensures.1 in
+    let p = err_from_is_err_and c.from_residual-in_err-put_processes.result
+    c.from_residual-in_err-put_processes.ensures.1 in
     (Puts-failed _ _ _ _ _ c.from_residual-in_err-put_processes.result p.0 p.1
     (fails_second _ _ _ _ _ (byte (length c.args.head.now.processes))
-    ((flat_map process_bytes (written c.args.head.now)) ++ (to_be_bytes w16 (length c.args.head.now.edges) ++ flat_map edge_bytes c.args.head.now.edges))
+    ((flat_map process_bytes (written c.args.head.now))
+    ++ (to_be_bytes w16 (length c.args.head.now.edges) ++ flat_map edge_bytes c.args.head.now.edges))
     (rw c.processes.ensures.processes at c.in_ok-put.ensures.put)
-    (fails_first _ _ _ (flat_map process_bytes (written c.args.head.now)) (to_be_bytes w16 (length c.args.head.now.edges) ++ flat_map edge_bytes c.args.head.now.edges)
+    (fails_first _ _ _ (flat_map process_bytes (written c.args.head.now))
+    (to_be_bytes w16 (length c.args.head.now.edges) ++ flat_map edge_bytes c.args.head.now.edges)
     c.in_err-put_processes.ensures.put)))
 
 pub returns-clause-put : goal.returns-clause-put
 returns-clause-put g c =
     (Puts-then _ _ _ _ _ _ (byte (length c.args.head.now.processes))
-    ((flat_map process_bytes (written c.args.head.now)) ++ (to_be_bytes w16 (length c.args.head.now.edges) ++ flat_map edge_bytes c.args.head.now.edges)) c.put_counted_edges.result
+    ((flat_map process_bytes (written c.args.head.now)) ++ (to_be_bytes w16 (length c.args.head.now.edges)
+    ++ flat_map edge_bytes c.args.head.now.edges)) c.put_counted_edges.result
     (rw c.processes.ensures.processes at c.in_ok-put.ensures.put)
-    (Puts-then _ _ _ _ _ _ (flat_map process_bytes (written c.args.head.now)) (to_be_bytes w16 (length c.args.head.now.edges) ++ flat_map edge_bytes c.args.head.now.edges) c.put_counted_edges.result
+    (Puts-then _ _ _ _ _ _ (flat_map process_bytes (written c.args.head.now)) (to_be_bytes w16
+    (length c.args.head.now.edges) ++ flat_map edge_bytes c.args.head.now.edges) c.put_counted_edges.result
     c.in_ok-put_processes.ensures.put (rw c.edges.ensures.edges at c.put_counted_edges.ensures.put)))

@@ -11,34 +11,42 @@ use Rattle.cpg_codec.proofs.head_writing.put_head.Goals as goal
 pub returns-in_err-put-clause-put : goal.returns-in_err-put-clause-put
 returns-in_err-put-clause-put g c =
     let p = err_from_is_err_and c.from_residual.result c.from_residual.ensures.1 in
-    rw (head_parts c.args.head.now) (Puts-first _ _ _ _ (to_be_bytes w32 magic ++ (byte (version_of c.args.head.now) ++ (byte c.args.head.now.faults ++ byte (length c.args.head.now.nodes))))
+    rw (head_parts c.args.head.now) (Puts-first _ _ _ _ (to_be_bytes w32 magic
+    ++ (byte (version_of c.args.head.now) ++ (byte c.args.head.now.faults ++ byte (length c.args.head.now.nodes))))
     ((flat_map name_bytes c.args.head.now.nodes) ++
     (byte (length c.args.head.now.processes) ++
-    (flat_map process_bytes (written c.args.head.now) ++ (to_be_bytes w16 (length c.args.head.now.edges) ++ flat_map edge_bytes c.args.head.now.edges)))) c.from_residual.result p.0 p.1
+    (flat_map process_bytes (written c.args.head.now) ++ (to_be_bytes w16 (length c.args.head.now.edges)
+    ++ flat_map edge_bytes c.args.head.now.edges)))) c.from_residual.result p.0 p.1
     (rw (c.version.ensures, c.faults.ensures.faults, c.nodes-nodes.ensures.nodes) at c.in_err-put.ensures.put))
 
 pub returns-in_err-put_names-clause-put : goal.returns-in_err-put_names-clause-put
 returns-in_err-put_names-clause-put g c =
     let p = err_from_is_err_and c.from_residual-in_err-put_names.result c.from_residual-in_err-put_names.ensures.1 in
     rw (head_parts c.args.head.now) (Puts-failed _ _ _ _ _ c.from_residual-in_err-put_names.result p.0 p.1
-    (fails_second _ _ _ _ _ (to_be_bytes w32 magic ++ (byte (version_of c.args.head.now) ++ (byte c.args.head.now.faults ++ byte (length c.args.head.now.nodes))))
+    (fails_second _ _ _ _ _ (to_be_bytes w32 magic
+    ++ (byte (version_of c.args.head.now) ++ (byte c.args.head.now.faults ++ byte (length c.args.head.now.nodes))))
     ((flat_map name_bytes c.args.head.now.nodes) ++
     (byte (length c.args.head.now.processes) ++
-    (flat_map process_bytes (written c.args.head.now) ++ (to_be_bytes w16 (length c.args.head.now.edges) ++ flat_map edge_bytes c.args.head.now.edges))))
+    (flat_map process_bytes (written c.args.head.now)
+    ++ (to_be_bytes w16 (length c.args.head.now.edges) ++ flat_map edge_bytes c.args.head.now.edges))))
     (rw (c.version.ensures, c.faults.ensures.faults, c.nodes-nodes.ensures.nodes) at c.in_ok-put.ensures.put)
     (fails_first _ _ _ (flat_map name_bytes c.args.head.now.nodes)
     (byte (length c.args.head.now.processes) ++
-    (flat_map process_bytes (written c.args.head.now) ++ (to_be_bytes w16 (length c.args.head.now.edges) ++ flat_map edge_bytes c.args.head.now.edges)))
+    (flat_map process_bytes (written c.args.head.now)
+    ++ (to_be_bytes w16 (length c.args.head.now.edges) ++ flat_map edge_bytes c.args.head.now.edges)))
     (rw c.nodes-nodes.ensures.nodes at c.in_err-put_names.ensures.put))))
 
 pub returns-clause-put : goal.returns-clause-put
 returns-clause-put g c =
-    rw (head_parts c.args.head.now) (Puts-then _ _ _ _ _ _ (to_be_bytes w32 magic ++ (byte (version_of c.args.head.now) ++ (byte c.args.head.now.faults ++ byte (length c.args.head.now.nodes))))
+    rw (head_parts c.args.head.now) (Puts-then _ _ _ _ _ _ (to_be_bytes w32 magic
+    ++ (byte (version_of c.args.head.now) ++ (byte c.args.head.now.faults ++ byte (length c.args.head.now.nodes))))
     ((flat_map name_bytes c.args.head.now.nodes) ++
     (byte (length c.args.head.now.processes) ++
-    (flat_map process_bytes (written c.args.head.now) ++ (to_be_bytes w16 (length c.args.head.now.edges) ++ flat_map edge_bytes c.args.head.now.edges)))) c.put_graph.result
+    (flat_map process_bytes (written c.args.head.now) ++ (to_be_bytes w16 (length c.args.head.now.edges)
+    ++ flat_map edge_bytes c.args.head.now.edges)))) c.put_graph.result
     (rw (c.version.ensures, c.faults.ensures.faults, c.nodes-nodes.ensures.nodes) at c.in_ok-put.ensures.put)
     (Puts-then _ _ _ _ _ _ (flat_map name_bytes c.args.head.now.nodes)
     (byte (length c.args.head.now.processes) ++
-    (flat_map process_bytes (written c.args.head.now) ++ (to_be_bytes w16 (length c.args.head.now.edges) ++ flat_map edge_bytes c.args.head.now.edges))) c.put_graph.result
+    (flat_map process_bytes (written c.args.head.now) ++ (to_be_bytes w16 (length c.args.head.now.edges)
+    ++ flat_map edge_bytes c.args.head.now.edges))) c.put_graph.result
     (rw c.nodes-nodes.ensures.nodes at c.in_ok-put_names.ensures.put) c.put_graph.ensures.put))

@@ -6,7 +6,8 @@ use Rattle.cpg_codec.proofs.head_writing.put_names.Goals as goal
 
 pub loop-name-preserved : goal.loop-name-preserved
 loop-name-preserved g c = record {
-  put = item_more name_bytes _ _ _ _ _ _ c.args.names.now c.loop-name.name-index c.name-item.result c.name-item.is c.loop-name-test.true c.loop-name.invariant.put c.in_ok-put_name.ensures.put;
+  put = item_more name_bytes _ _ _ _ _ _ c.args.names.now c.loop-name.name-index c.name-item.result c.name-item.is
+      c.loop-name-test.true c.loop-name.invariant.put c.in_ok-put_name.ensures.put;
   kept = c.in_ok-put_name.ensures.cause.kept ∙ c.loop-name.invariant.kept;
 }
 
@@ -14,4 +15,5 @@ pub returns-in_err-put_name-clause-put : goal.returns-in_err-put_name-clause-put
 returns-in_err-put_name-clause-put g c =
     let p = err_from_is_err_and c.from_residual.result c.from_residual.ensures.1 in
     Puts-failed _ _ _ _ _ c.from_residual.result p.0 p.1
-    (item_fails name_bytes _ _ _ _ _ c.args.names.now c.loop-name.name-index c.name-item.result c.name-item.is c.loop-name-test.true c.loop-name.invariant.put c.in_err-put_name.ensures.put)
+    (item_fails name_bytes _ _ _ _ _ c.args.names.now c.loop-name.name-index c.name-item.result c.name-item.is
+    c.loop-name-test.true c.loop-name.invariant.put c.in_err-put_name.ensures.put)

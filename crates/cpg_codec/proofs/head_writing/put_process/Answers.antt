@@ -12,7 +12,9 @@ returns-in_err-put_name-clause-put g c =
     let p = err_from_is_err_and c.from_residual.result c.from_residual.ensures.1 in
     rw (process_parts (record { process = c.args.process.now; extra = c.args.extra }))
     (Puts-first _ _ _ _ (name_bytes c.args.process.now.name)
-    ((byte c.args.process.now.node ++ byte (bit c.args.process.now.condition)) ++ (flat_map (to_be_bytes w64) c.args.process.now.times ++ extra_bytes c.args.extra)) c.from_residual.result p.0 p.1
+    ((byte c.args.process.now.node ++ byte (bit c.args.process.now.condition))
+    ++ (flat_map (to_be_bytes w64) c.args.process.now.times ++ extra_bytes c.args.extra))
+    c.from_residual.result p.0 p.1
     c.in_err-put_name.ensures.put)
 
 pub returns-in_err-put-clause-put : goal.returns-in_err-put-clause-put
@@ -21,16 +23,21 @@ returns-in_err-put-clause-put g c =
     rw (process_parts (record { process = c.args.process.now; extra = c.args.extra }))
     (Puts-failed _ _ _ _ _ c.from_residual-in_err-put.result p.0 p.1
     (fails_second _ _ _ _ _ (name_bytes c.args.process.now.name)
-    ((byte c.args.process.now.node ++ byte (bit c.args.process.now.condition)) ++ (flat_map (to_be_bytes w64) c.args.process.now.times ++ extra_bytes c.args.extra)) c.in_ok-put_name.ensures.put
-    (fails_first _ _ _ (byte c.args.process.now.node ++ byte (bit c.args.process.now.condition)) (flat_map (to_be_bytes w64) c.args.process.now.times ++ extra_bytes c.args.extra)
+    ((byte c.args.process.now.node ++ byte (bit c.args.process.now.condition))
+    ++ (flat_map (to_be_bytes w64) c.args.process.now.times ++ extra_bytes c.args.extra))
+    c.in_ok-put_name.ensures.put
+    (fails_first _ _ _ (byte c.args.process.now.node ++ byte (bit c.args.process.now.condition))
+    (flat_map (to_be_bytes w64) c.args.process.now.times ++ extra_bytes c.args.extra)
     (rw c.bit_of.ensures at c.in_err-put.ensures.put))))
 
 pub returns-clause-put : goal.returns-clause-put
 returns-clause-put g c =
     rw (process_parts (record { process = c.args.process.now; extra = c.args.extra }))
     (Puts-then _ _ _ _ _ _ (name_bytes c.args.process.now.name)
-    ((byte c.args.process.now.node ++ byte (bit c.args.process.now.condition)) ++ (flat_map (to_be_bytes w64) c.args.process.now.times ++ extra_bytes c.args.extra)) c.put_timing.result
+    ((byte c.args.process.now.node ++ byte (bit c.args.process.now.condition))
+    ++ (flat_map (to_be_bytes w64) c.args.process.now.times ++ extra_bytes c.args.extra)) c.put_timing.result
     c.in_ok-put_name.ensures.put
     (Puts-then _ _ _ _ _ _ (byte c.args.process.now.node ++ byte (bit c.args.process.now.condition))
-    (flat_map (to_be_bytes w64) c.args.process.now.times ++ extra_bytes c.args.extra) c.put_timing.result (rw c.bit_of.ensures at c.in_ok-put.ensures.put)
+    (flat_map (to_be_bytes w64) c.args.process.now.times ++ extra_bytes c.args.extra) c.put_timing.result
+    (rw c.bit_of.ensures at c.in_ok-put.ensures.put)
     (rw c.times.ensures at c.put_timing.ensures.put)))

@@ -9,10 +9,13 @@ pub loop-number-preserved : goal.loop-number-preserved
 loop-number-preserved g c =
     let lt = rw c.processes-processes.ensures.processes at c.loop-number-test.true in
     record {
-      put = item_more process_bytes _ _ _ _ _ _ (written c.args.head.now) c.loop-number.number (record { process = c.index-processes-number.result; extra = c.extra_of-extra.result })
-          (written_at c.args.head.now c.loop-number.number c.index-processes-number.result c.extra_of-extra.result c.processes-processes.ensures.within lt
+      put = item_more process_bytes _ _ _ _ _ _ (written c.args.head.now) c.loop-number.number
+          (record { process = c.index-processes-number.result; extra = c.extra_of-extra.result })
+          (written_at c.args.head.now c.loop-number.number c.index-processes-number.result c.extra_of-extra.result
+          c.processes-processes.ensures.within lt
           (rw c.processes-processes.ensures.processes at c.index-processes-number.is) c.extra_of-extra.ensures)
-          (omega (arith, lt, written_length c.args.head.now)) c.loop-number.invariant.put c.in_ok-put_process.ensures.put;
+          (omega (arith, lt, written_length c.args.head.now)) c.loop-number.invariant.put
+          c.in_ok-put_process.ensures.put;
       kept = c.in_ok-put_process.ensures.cause.kept ∙ c.loop-number.invariant.kept;
     }
 
@@ -21,12 +24,15 @@ returns-in_err-put_process-clause-put g c =
     let p = err_from_is_err_and c.from_residual.result c.from_residual.ensures.1 in
     let lt = rw c.processes-processes.ensures.processes at c.loop-number-test.true in
     Puts-failed _ _ _ _ _ c.from_residual.result p.0 p.1
-    (item_fails process_bytes _ _ _ _ _ (written c.args.head.now) c.loop-number.number (record { process = c.index-processes-number.result; extra = c.extra_of-extra.result })
-    (written_at c.args.head.now c.loop-number.number c.index-processes-number.result c.extra_of-extra.result c.processes-processes.ensures.within lt
+    (item_fails process_bytes _ _ _ _ _ (written c.args.head.now) c.loop-number.number
+    (record { process = c.index-processes-number.result; extra = c.extra_of-extra.result })
+    (written_at c.args.head.now c.loop-number.number c.index-processes-number.result c.extra_of-extra.result
+    c.processes-processes.ensures.within lt
     (rw c.processes-processes.ensures.processes at c.index-processes-number.is) c.extra_of-extra.ensures)
     (omega (arith, lt, written_length c.args.head.now)) c.loop-number.invariant.put c.in_err-put_process.ensures.put)
 
 pub returns-clause-put : goal.returns-clause-put
 returns-clause-put g c =
     let le = rw c.processes-processes.ensures.processes at c.loop-number-test.false in
-    puts_all process_bytes _ _ _ _ (written c.args.head.now) c.loop-number.number (omega (arith, le, written_length c.args.head.now)) c.loop-number.invariant.put
+    puts_all process_bytes _ _ _ _ (written c.args.head.now) c.loop-number.number
+    (omega (arith, le, written_length c.args.head.now)) c.loop-number.invariant.put

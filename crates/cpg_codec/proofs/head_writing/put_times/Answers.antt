@@ -6,7 +6,8 @@ use Rattle.cpg_codec.proofs.head_writing.put_times.Goals as goal
 
 pub loop-time-preserved : goal.loop-time-preserved
 loop-time-preserved g c = record {
-  put = puts_more (to_be_bytes w64) _ _ _ _ _ _ (c.args.times.now) (c.loop-time.time-index) (0) c.loop-time-test.true c.loop-time.invariant.put c.in_ok-put_long.ensures.put;
+  put = puts_more (to_be_bytes w64) _ _ _ _ _ _ (c.args.times.now) (c.loop-time.time-index)
+      (0) c.loop-time-test.true c.loop-time.invariant.put c.in_ok-put_long.ensures.put;
   kept = c.in_ok-put_long.ensures.cause.kept ∙ c.loop-time.invariant.kept;
 }
 
@@ -14,4 +15,5 @@ pub returns-in_err-put_long-clause-put : goal.returns-in_err-put_long-clause-put
 returns-in_err-put_long-clause-put g c =
     let p = err_from_is_err_and c.from_residual.result c.from_residual.ensures.1 in
     Puts-failed _ _ _ _ _ c.from_residual.result p.0 p.1
-    (puts_fail (to_be_bytes w64) _ _ _ _ _ (c.args.times.now) (c.loop-time.time-index) (0) c.loop-time-test.true c.loop-time.invariant.put c.in_err-put_long.ensures.put)
+    (puts_fail (to_be_bytes w64) _ _ _ _ _ (c.args.times.now) (c.loop-time.time-index)
+    (0) c.loop-time-test.true c.loop-time.invariant.put c.in_err-put_long.ensures.put)

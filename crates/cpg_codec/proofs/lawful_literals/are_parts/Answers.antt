@@ -13,9 +13,11 @@ IsPartOf s l = l.variable < s.processes → IsCountLiteral s l
 pub loop-literal-preserved : goal.loop-literal-preserved
 loop-literal-preserved c e =
     let parts = and_parts c.loop-literal.are c.is_part-are.result e in
-    subst (All (IsPartOf c.args.space.now)) (sym (take_more c.args.literals.now c.loop-literal.literal-index _ (omega (arith, c.loop-literal-test.true))))
+    subst (All (IsPartOf c.args.space.now))
+    (sym (take_more c.args.literals.now c.loop-literal.literal-index _ (omega (arith, c.loop-literal-test.true))))
     (All-push (IsPartOf c.args.space.now) _ _ (c.loop-literal.invariant parts.0) (c.is_part-are.ensures parts.1))
 
 pub returns : goal.returns
 returns c = OnTrue_from c.loop-literal.are (All (IsPartOf c.args.space.now) c.args.literals.now)
-    (λ e. subst (All (IsPartOf c.args.space.now)) (take_all c.loop-literal.literal-index c.args.literals.now (omega (arith, c.loop-literal-test.false))) (c.loop-literal.invariant e))
+    (λ e. subst (All (IsPartOf c.args.space.now)) (take_all c.loop-literal.literal-index c.args.literals.now
+    (omega (arith, c.loop-literal-test.false))) (c.loop-literal.invariant e))

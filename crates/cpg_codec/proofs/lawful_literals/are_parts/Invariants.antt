@@ -3,4 +3,5 @@ use Rattle.cpg_table.specs.Lawful.{IsCountLiteral}
 use Rattle.cpg_codec.proofs.lawful_literals.are_parts.Given as goal
 
 abbrev pub invariant-loop-literal : goal.invariant-loop-literal
-invariant-loop-literal l = l.are ≡ true → All (λ x. x.variable < l.fn.space.processes → IsCountLiteral l.fn.space x) (take l.literal-index l.fn.literals)
+invariant-loop-literal l = l.are ≡ true →
+    All (λ x. x.variable < l.fn.space.processes → IsCountLiteral l.fn.space x) (take l.literal-index l.fn.literals)

@@ -6,8 +6,11 @@ use Rattle.cpg_codec.proofs.lawful_literals.is_each_lawful.Goals as goal
 
 pub loop-literal-preserved : goal.loop-literal-preserved
 loop-literal-preserved c =
-    subst (All (IsLawfulLiteral c.args.space.now)) (sym (take_more c.args.literals.now c.loop-literal.literal-index _ (omega (arith, c.loop-literal-test.true))))
-    (All-push (IsLawfulLiteral c.args.space.now) _ _ c.loop-literal.invariant (c.is_lawful.ensures c.if-not-is_lawful.false))
+    subst (All (IsLawfulLiteral c.args.space.now))
+    (sym (take_more c.args.literals.now c.loop-literal.literal-index _ (omega (arith, c.loop-literal-test.true))))
+    (All-push (IsLawfulLiteral c.args.space.now) _ _ c.loop-literal.invariant
+    (c.is_lawful.ensures c.if-not-is_lawful.false))
 
 pub returns : goal.returns
-returns c = subst (All (IsLawfulLiteral c.args.space.now)) (take_all c.loop-literal.literal-index c.args.literals.now (omega (arith, c.loop-literal-test.false))) c.loop-literal.invariant
+returns c = subst (All (IsLawfulLiteral c.args.space.now)) (take_all c.loop-literal.literal-index c.args.literals.now
+    (omega (arith, c.loop-literal-test.false))) c.loop-literal.invariant

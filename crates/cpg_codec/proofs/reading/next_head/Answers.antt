@@ -12,4 +12,5 @@ read_to-requires c =
 pub returns : goal.returns
 returns c =
     let read = ap read_head (sym c.rest.ensures) ∙ c.in_ok-head.ensures in
-    left_is head_reads c.args.unread.now c.in_ok-head.head c.in_ok-head.rest.now read ∙ ap (λ (t : List ℕ). Ok (c.in_ok-head.head, t)) (sym c.read_to.ensures)
+    left_is head_reads c.args.unread.now c.in_ok-head.head c.in_ok-head.rest.now read
+    ∙ ap (λ (t : List ℕ). Ok (c.in_ok-head.head, t)) (sym c.read_to.ensures)

@@ -23,8 +23,10 @@ returns-in_err-table c =
     let n : c.loop-node.node < length c.args.head.now.nodes = omega (arith, e, c.loop-node-test.true) in
     rw (p.1, p.2) (ends step (read_node_table c.args.head.now) c.in_err-table.field-0.0 c.loop-node.nodes.items
     (numbers_from c.loop-node.node (length c.args.head.now.nodes - c.loop-node.node)) c.loop-node.node
-    (numbers_from (c.loop-node.node + 1) (length c.args.head.now.nodes - (c.loop-node.node + 1))) c.loop-node.total c.loop-node.unread
-    (read_nodes c.args.head.now c.args.unread.now) (numbers_more c.loop-node.node (length c.args.head.now.nodes) n) c.in_err-table.ensures.gives c.loop-node.invariant.so_far)
+    (numbers_from (c.loop-node.node + 1) (length c.args.head.now.nodes - (c.loop-node.node + 1))) c.loop-node.total
+    c.loop-node.unread
+    (read_nodes c.args.head.now c.args.unread.now) (numbers_more c.loop-node.node (length c.args.head.now.nodes) n)
+    c.in_err-table.ensures.gives c.loop-node.invariant.so_far)
 
 pub loop-node-preserved : goal.loop-node-preserved
 loop-node-preserved c =
@@ -32,14 +34,21 @@ loop-node-preserved c =
     let n : c.loop-node.node < length c.args.head.now.nodes = omega (arith, e, c.loop-node-test.true) in
     let g = goes_on step (read_node_table c.args.head.now) c.loop-node.nodes.items
     (numbers_from c.loop-node.node (length c.args.head.now.nodes - c.loop-node.node)) c.loop-node.node
-    (numbers_from (c.loop-node.node + 1) (length c.args.head.now.nodes - (c.loop-node.node + 1))) c.loop-node.total c.loop-node.unread c.in_ok-table.table c.table_of.new.unread
-    (read_nodes c.args.head.now c.args.unread.now) (numbers_more c.loop-node.node (length c.args.head.now.nodes) n) c.in_ok-table.ensures.gives c.loop-node.invariant.so_far in
-    record { so_far = rw (c.in_ok-push.ensures.items, c.in_ok-table.ensures.total.0) g; few = c.in_ok-table.ensures.total.1 }
+    (numbers_from (c.loop-node.node + 1) (length c.args.head.now.nodes - (c.loop-node.node + 1))) c.loop-node.total
+    c.loop-node.unread c.in_ok-table.table c.table_of.new.unread
+    (read_nodes c.args.head.now c.args.unread.now) (numbers_more c.loop-node.node (length c.args.head.now.nodes) n)
+    c.in_ok-table.ensures.gives c.loop-node.invariant.so_far in
+    record {
+      so_far = rw (c.in_ok-push.ensures.items, c.in_ok-table.ensures.total.0) g;
+      few = c.in_ok-table.ensures.total.1;
+    }
 
 pub returns : goal.returns
 returns c =
     let e = ap length c.nodes.ensures.nodes in
     let n : length c.args.head.now.nodes ≤ c.loop-node.node = omega (arith, e, c.loop-node-test.false) in
     is_done step (read_node_table c.args.head.now) c.loop-node.nodes.items
-    (numbers_from c.loop-node.node (length c.args.head.now.nodes - c.loop-node.node)) c.loop-node.total c.loop-node.unread
-    (read_nodes c.args.head.now c.args.unread.now) (numbers_none c.loop-node.node (length c.args.head.now.nodes) n) c.loop-node.invariant.so_far
+    (numbers_from c.loop-node.node (length c.args.head.now.nodes - c.loop-node.node)) c.loop-node.total
+    c.loop-node.unread
+    (read_nodes c.args.head.now c.args.unread.now)
+    (numbers_none c.loop-node.node (length c.args.head.now.nodes) n) c.loop-node.invariant.so_far

@@ -9,7 +9,8 @@ use Rattle.cpg_codec.proofs.reading.nodes_of.Given as goal
 
 abbrev pub invariant-loop-node : goal.invariant-loop-node
 invariant-loop-node l = record {
-  so_far : with_front l.nodes.items (read_each (λ (c : ℕ) (t : NodeTable). c + column_count (rows_of t)) (read_node_table l.fn.head)
+  so_far : with_front l.nodes.items
+      (read_each (λ (c : ℕ) (t : NodeTable). c + column_count (rows_of t)) (read_node_table l.fn.head)
       (numbers_from l.node (length l.fn.head.nodes - l.node)) l.total l.unread)
       ≡ read_nodes l.fn.head l.fn.unread;
   few : l.total ≤ MOST_LOAD;

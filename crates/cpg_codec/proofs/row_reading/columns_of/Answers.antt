@@ -9,18 +9,24 @@ use Rattle.cpg_codec.proofs.row_reading.columns_of.Goals as goal
 pub returns-in_err-column-clause-gives : goal.returns-in_err-column-clause-gives
 returns-in_err-column-clause-gives c =
     let p = err_from_is_err_and c.from_residual-in_err-column.result c.from_residual-in_err-column.ensures.1 in
-    rw (p.1, p.2) (times_end (read_column c.args.space.now) c.in_err-column.field-0.0 c.loop.columns.items c.args.count c.loop.counter c.loop.rest.now
-    (read_repeated (read_column c.args.space.now) c.args.count c.args.bytes.now) c.loop-test.true c.in_err-column.ensures c.loop.invariant.so_far)
+    rw (p.1, p.2) (times_end (read_column c.args.space.now) c.in_err-column.field-0.0 c.loop.columns.items c.args.count
+    c.loop.counter c.loop.rest.now
+    (read_repeated (read_column c.args.space.now) c.args.count c.args.bytes.now) c.loop-test.true
+    c.in_err-column.ensures c.loop.invariant.so_far)
 
 pub loop-preserved : goal.loop-preserved
 loop-preserved c =
     record {
       so_far = rw c.in_ok-push.ensures.items
-          (times_on (read_column c.args.space.now) c.loop.columns.items c.args.count c.loop.counter c.loop.rest.now c.in_ok-column.column c.in_ok-column.after.now
-          (read_repeated (read_column c.args.space.now) c.args.count c.args.bytes.now) c.loop-test.true c.in_ok-column.ensures c.loop.invariant.so_far);
+          (times_on (read_column c.args.space.now) c.loop.columns.items c.args.count c.loop.counter c.loop.rest.now
+          c.in_ok-column.column c.in_ok-column.after.now
+          (read_repeated (read_column c.args.space.now) c.args.count c.args.bytes.now) c.loop-test.true
+          c.in_ok-column.ensures c.loop.invariant.so_far);
       count = grind (arith, common_steps);
     }
 
 pub returns-clause-gives : goal.returns-clause-gives
-returns-clause-gives c = times_done (read_column c.args.space.now) c.loop.columns.items c.args.count c.loop.counter c.loop.rest.now
-    (read_repeated (read_column c.args.space.now) c.args.count c.args.bytes.now) c.loop-test.false c.loop.invariant.so_far
+returns-clause-gives c =
+    times_done (read_column c.args.space.now) c.loop.columns.items c.args.count c.loop.counter c.loop.rest.now
+    (read_repeated (read_column c.args.space.now) c.args.count c.args.bytes.now) c.loop-test.false
+    c.loop.invariant.so_far

@@ -6,6 +6,7 @@ use Rattle.cpg_codec.proofs.row_reading.columns_of.Given as goal
 
 abbrev pub invariant-loop : goal.invariant-loop
 invariant-loop l = record {
-  so_far : with_front l.columns.items (left_of (read_column l.fn.space) l.fn.count l.counter l.rest) ≡ read_repeated (read_column l.fn.space) l.fn.count l.fn.bytes;
+  so_far : with_front l.columns.items (left_of (read_column l.fn.space) l.fn.count l.counter l.rest)
+      ≡ read_repeated (read_column l.fn.space) l.fn.count l.fn.bytes;
   count : length l.columns.items ≡ l.counter;
 }

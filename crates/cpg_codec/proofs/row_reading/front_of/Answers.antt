@@ -5,5 +5,7 @@ use Rattle.cpg_codec.proofs.row_reading.front_of.Goals as goal
 pub returns-then-is_front : goal.returns-then-is_front
 returns-then-is_front c =
     let w = c.is_front.ensures c.if-is_front.true in
-    front_found c.args.space.now c.args.bytes.now c.new-front.result c.column_time-time.result c.column_literals-count.result c.requires c.in-len9-up.len_at_least
-    (λ i. omega (arith, c.type_inv.bytes i)) c.new-front.ensures c.column_time-time.ensures c.column_literals-count.ensures w.0 w.1
+    front_found c.args.space.now c.args.bytes.now c.new-front.result c.column_time-time.result
+    c.column_literals-count.result c.requires c.in-len9-up.len_at_least
+    (λ i. omega (arith, c.type_inv.bytes i)) c.new-front.ensures c.column_time-time.ensures
+    c.column_literals-count.ensures w.0 w.1

@@ -11,25 +11,32 @@ step least x = suc x.variable
 
 pub loop-done-init : goal.loop-done-init
 unfolding read_literals
-loop-done-init c = let z : c.args.count - 0 ≡ c.args.count = omega arith in rw (c.in_ok-literals.ensures.items, z) (nothing_in_front _)
+loop-done-init c = let z : c.args.count - 0 ≡ c.args.count = omega arith in
+    rw (c.in_ok-literals.ensures.items, z) (nothing_in_front _)
 
 pub returns-in_err-literal : goal.returns-in_err-literal
 returns-in_err-literal c =
     let p = err_from_is_err_and c.from_residual-in_err-literal.result c.from_residual-in_err-literal.ensures.1 in
     rw (p.1, p.2) (ends step (read_literal c.args.space.now) c.in_err-literal.field-0.0 c.loop-done.literals.items
-    (down (c.args.count - c.loop-done.done)) (c.args.count - (c.loop-done.done + 1)) (down (c.args.count - (c.loop-done.done + 1))) c.loop-done.least c.loop-done.rest.now
-    (read_literals c.args.space.now c.args.count c.args.bytes.now) (down_more c.args.count c.loop-done.done c.loop-done-test.true) c.in_err-literal.ensures c.loop-done.invariant)
+    (down (c.args.count - c.loop-done.done)) (c.args.count - (c.loop-done.done + 1))
+    (down (c.args.count - (c.loop-done.done + 1))) c.loop-done.least c.loop-done.rest.now
+    (read_literals c.args.space.now c.args.count c.args.bytes.now)
+    (down_more c.args.count c.loop-done.done c.loop-done-test.true) c.in_err-literal.ensures c.loop-done.invariant)
 
 pub loop-done-preserved : goal.loop-done-preserved
 loop-done-preserved c =
     let q = c.in_ok-literal.literal in
     let g = goes_on step (read_literal c.args.space.now) c.loop-done.literals.items
-    (down (c.args.count - c.loop-done.done)) (c.args.count - (c.loop-done.done + 1)) (down (c.args.count - (c.loop-done.done + 1))) c.loop-done.least c.loop-done.rest.now q c.in_ok-literal.after.now
-    (read_literals c.args.space.now c.args.count c.args.bytes.now) (down_more c.args.count c.loop-done.done c.loop-done-test.true) c.in_ok-literal.ensures c.loop-done.invariant in
+    (down (c.args.count - c.loop-done.done)) (c.args.count - (c.loop-done.done + 1))
+    (down (c.args.count - (c.loop-done.done + 1))) c.loop-done.least c.loop-done.rest.now q
+    c.in_ok-literal.after.now
+    (read_literals c.args.space.now c.args.count c.args.bytes.now)
+    (down_more c.args.count c.loop-done.done c.loop-done-test.true) c.in_ok-literal.ensures c.loop-done.invariant in
     let one : q.variable + 1 ≡ suc q.variable = omega arith in
     rw (c.in_ok-push.ensures.items, one) g
 
 pub returns : goal.returns
 returns c = is_done step (read_literal c.args.space.now) c.loop-done.literals.items
     (down (c.args.count - c.loop-done.done)) c.loop-done.least c.loop-done.rest.now
-    (read_literals c.args.space.now c.args.count c.args.bytes.now) (down_none c.args.count c.loop-done.done c.loop-done-test.false) c.loop-done.invariant
+    (read_literals c.args.space.now c.args.count c.args.bytes.now)
+    (down_none c.args.count c.loop-done.done c.loop-done-test.false) c.loop-done.invariant

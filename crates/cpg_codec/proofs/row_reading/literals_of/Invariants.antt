@@ -7,5 +7,6 @@ use Rattle.cpg_codec.proofs.row_reading.literals_of.Given as goal
 
 abbrev pub invariant-loop-done : goal.invariant-loop-done
 invariant-loop-done l =
-    with_front l.literals.items (read_each (λ (least : ℕ) (x : Literal). suc x.variable) (read_literal l.fn.space) (down (l.fn.count - l.done)) l.least l.rest)
+    with_front l.literals.items (read_each (λ (least : ℕ) (x : Literal). suc x.variable) (read_literal l.fn.space)
+    (down (l.fn.count - l.done)) l.least l.rest)
     ≡ read_literals l.fn.space l.fn.count l.fn.bytes

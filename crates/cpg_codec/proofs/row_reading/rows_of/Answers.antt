@@ -1,4 +1,5 @@
-use Rattle.std.proofs.Common.{◌≡◌, ◌++◌, ◌∷◌, [], ◌+◌, ◌<◌, ℕ, List, length, get_or, drop, arith, refl, add-one, drop-cons}
+use Rattle.std.proofs.Common.{◌≡◌, ◌++◌, ◌∷◌, [], ◌+◌, ◌<◌, ℕ, List, length, get_or, drop, arith, refl, add-one}
+use Rattle.std.proofs.Common.{drop-cons}
 use Rattle.std.proofs.lemmas.List.Sums.{sum_by_push}
 use Rattle.cpg_table.specs.Table.{Row}
 use Rattle.cpg_table.specs.Lawful.{column_count}
@@ -17,7 +18,11 @@ columns_push rs r = sum_by_push (λ (q : Row). length q.columns) rs r
 
 pub loop-item-init : goal.loop-item-init
 unfolding read_rows
-loop-item-init c = record { so_far = rw c.in_ok-rows.ensures.items (nothing_in_front _); total = rw c.in_ok-rows.ensures.items (omega arith); few = c.requires.before }
+loop-item-init c = record {
+  so_far = rw c.in_ok-rows.ensures.items (nothing_in_front _);
+  total = rw c.in_ok-rows.ensures.items (omega arith);
+  few = c.requires.before;
+}
 
 pub loop-item-preserved : goal.loop-item-preserved
 loop-item-preserved c =
@@ -25,10 +30,12 @@ loop-item-preserved c =
     let g = goes_on step (read_row c.args.space.now) c.loop-item.rows.items
     (drop c.loop-item.item-index c.args.items.now) (get_or c.args.items.now c.loop-item.item-index 0)
     (drop (c.loop-item.item-index + 1) c.args.items.now) c.loop-item.total c.loop-item.unread q c.next_row.new.unread
-    (read_rows c.args.space.now c.args.items.now c.args.before c.args.unread.now) (drop_more c.args.items.now c.loop-item.item-index c.loop-item-test.true) c.in_ok-row.ensures.gives
+    (read_rows c.args.space.now c.args.items.now c.args.before c.args.unread.now)
+    (drop_more c.args.items.now c.loop-item.item-index c.loop-item-test.true) c.in_ok-row.ensures.gives
     c.loop-item.invariant.so_far in
     record {
       so_far = rw (c.in_ok-push.ensures.items, c.in_ok-row.ensures.total.0) g;
-      total = rw (c.in_ok-push.ensures.items, columns_push c.loop-item.rows.items q) (omega (arith, c.in_ok-row.ensures.total.0, c.loop-item.invariant.total));
+      total = rw (c.in_ok-push.ensures.items, columns_push c.loop-item.rows.items q)
+          (omega (arith, c.in_ok-row.ensures.total.0, c.loop-item.invariant.total));
       few = c.in_ok-row.ensures.total.1;
     }

@@ -9,7 +9,8 @@ use Rattle.cpg_codec.proofs.row_reading.rows_of.Given as goal
 
 abbrev pub invariant-loop-item : goal.invariant-loop-item
 invariant-loop-item l = record {
-  so_far : with_front l.rows.items (read_each (λ (c : ℕ) (r : Row). c + length r.columns) (read_row l.fn.space) (drop l.item-index l.fn.items) l.total l.unread)
+  so_far : with_front l.rows.items (read_each (λ (c : ℕ) (r : Row). c + length r.columns) (read_row l.fn.space)
+      (drop l.item-index l.fn.items) l.total l.unread)
       ≡ read_rows l.fn.space l.fn.items l.fn.before l.fn.unread;
   total : l.total ≡ l.fn.before + column_count l.rows.items;
   few : l.total ≤ MOST_LOAD;

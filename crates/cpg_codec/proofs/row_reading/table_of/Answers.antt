@@ -3,5 +3,6 @@ use Rattle.cpg_codec.proofs.row_reading.table_of.Goals as goal
 
 pub of_rows-requires : goal.of_rows-requires
 of_rows-requires c =
-    rows_are_of c.args.head.now c.args.node c.args.space.now c.args.items.now c.args.before c.args.unread.now c.in_ok-rows.rows.items c.rows_of.new.unread c.requires.within c.requires.before
+    rows_are_of c.args.head.now c.args.node c.args.space.now c.args.items.now c.args.before c.args.unread.now
+    c.in_ok-rows.rows.items c.rows_of.new.unread c.requires.within c.requires.before
     c.requires.space c.requires.items c.in_ok-rows.ensures.gives

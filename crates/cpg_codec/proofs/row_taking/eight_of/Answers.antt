@@ -9,6 +9,8 @@ pub returns : goal.returns
 returns c =
     let many : length c.args.bytes ≡ 24 = search rules in
     ap (flat_map literal_bytes)
-    (ap₂ ◌∷◌ c.literal_of.ensures (ap₂ ◌∷◌ c.literal_of-2.ensures (ap₂ ◌∷◌ c.literal_of-3.ensures (ap₂ ◌∷◌ c.literal_of-4.ensures
-    (ap₂ ◌∷◌ c.literal_of-5.ensures (ap₂ ◌∷◌ c.literal_of-6.ensures (ap₂ ◌∷◌ c.literal_of-7.ensures (ap (λ (l : Literal). l ∷ []) c.literal_of-8.ensures))))))))
+    (ap₂ ◌∷◌ c.literal_of.ensures
+    (ap₂ ◌∷◌ c.literal_of-2.ensures (ap₂ ◌∷◌ c.literal_of-3.ensures (ap₂ ◌∷◌ c.literal_of-4.ensures
+    (ap₂ ◌∷◌ c.literal_of-5.ensures (ap₂ ◌∷◌ c.literal_of-6.ensures
+    (ap₂ ◌∷◌ c.literal_of-7.ensures (ap (λ (l : Literal). l ∷ []) c.literal_of-8.ensures))))))))
     ∙ sym (elements c.args.bytes 24 _ many)

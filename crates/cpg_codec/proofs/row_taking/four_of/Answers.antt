@@ -9,5 +9,6 @@ pub returns : goal.returns
 returns c =
     let many : length c.args.bytes ≡ 12 = search rules in
     ap (flat_map literal_bytes)
-    (ap₂ ◌∷◌ c.literal_of.ensures (ap₂ ◌∷◌ c.literal_of-2.ensures (ap₂ ◌∷◌ c.literal_of-3.ensures (ap (λ (l : Literal). l ∷ []) c.literal_of-4.ensures))))
+    (ap₂ ◌∷◌ c.literal_of.ensures (ap₂ ◌∷◌ c.literal_of-2.ensures
+    (ap₂ ◌∷◌ c.literal_of-3.ensures (ap (λ (l : Literal). l ∷ []) c.literal_of-4.ensures))))
     ∙ sym (elements c.args.bytes 12 _ many)

@@ -7,7 +7,8 @@ use Rattle.cpg_codec.proofs.row_writing.put_each.Goals as goal
 pub loop-literal-preserved : goal.loop-literal-preserved
 loop-literal-preserved g c = record {
   put = puts_more literal_bytes _ _ _ _ _ _ (c.args.literals.now) (c.loop-literal.literal-index)
-      (record { variable = 0; low = 0; high = 0 }) c.loop-literal-test.true c.loop-literal.invariant.put c.in_ok-put.ensures.put;
+      (record { variable = 0; low = 0; high = 0 }) c.loop-literal-test.true c.loop-literal.invariant.put
+      c.in_ok-put.ensures.put;
   kept = c.in_ok-put.ensures.cause.kept ∙ c.loop-literal.invariant.kept;
 }
 
@@ -16,4 +17,5 @@ returns-in_err-put-clause-put g c =
     let p = err_from_is_err_and c.from_residual.result c.from_residual.ensures.1 in
     Puts-failed _ _ _ _ _ c.from_residual.result p.0 p.1
     (puts_fail literal_bytes _ _ _ _ _ (c.args.literals.now) (c.loop-literal.literal-index)
-    (record { variable = 0; low = 0; high = 0 }) c.loop-literal-test.true c.loop-literal.invariant.put c.in_err-put.ensures.put)
+    (record { variable = 0; low = 0; high = 0 }) c.loop-literal-test.true c.loop-literal.invariant.put
+    c.in_err-put.ensures.put)

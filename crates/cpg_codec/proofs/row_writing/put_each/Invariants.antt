@@ -6,6 +6,7 @@ use Rattle.cpg_codec.proofs.row_writing.put_each.Given as goal
 
 abbrev pub invariant-loop-literal : goal.invariant-loop-literal
 invariant-loop-literal g l = record {
-  put : IsPut (g.O.Sink.state l.fn.sink).taken (g.O.Sink.state l.sink).taken l.fn.buffer l.buffer (flat_map literal_bytes (take l.literal-index l.fn.literals));
+  put : IsPut (g.O.Sink.state l.fn.sink).taken (g.O.Sink.state l.sink).taken l.fn.buffer l.buffer
+      (flat_map literal_bytes (take l.literal-index l.fn.literals));
   kept : (g.O.Sink.state l.sink).faults ≡ (g.O.Sink.state l.fn.sink).faults;
 }

@@ -19,20 +19,24 @@ pub returns-in_err-put_rows-clause-put : goal.returns-in_err-put_rows-clause-put
 returns-in_err-put_rows-clause-put g c =
     let p = err_from_is_err_and c.from_residual.result c.from_residual.ensures.1 in
     rw (table_parts c.args.table.now) (Puts-first _ _ _ _ (flat_map row_bytes c.args.table.now.starts)
-    (flat_map row_bytes c.args.table.now.sends ++ flat_map row_bytes c.args.table.now.hears) c.from_residual.result p.0 p.1 (rw c.starts.ensures.starts at c.in_err-put_rows.ensures.put))
+    (flat_map row_bytes c.args.table.now.sends ++ flat_map row_bytes c.args.table.now.hears) c.from_residual.result p.0
+    p.1 (rw c.starts.ensures.starts at c.in_err-put_rows.ensures.put))
 
 pub returns-in_err-put_rows-2-clause-put : goal.returns-in_err-put_rows-2-clause-put
 returns-in_err-put_rows-2-clause-put g c =
     let p = err_from_is_err_and c.from_residual-in_err-put_rows-2.result c.from_residual-in_err-put_rows-2.ensures.1 in
     rw (table_parts c.args.table.now) (Puts-failed _ _ _ _ _ c.from_residual-in_err-put_rows-2.result p.0 p.1
-    (fails_second _ _ _ _ _ (flat_map row_bytes c.args.table.now.starts) (flat_map row_bytes c.args.table.now.sends ++ flat_map row_bytes c.args.table.now.hears)
+    (fails_second _ _ _ _ _ (flat_map row_bytes c.args.table.now.starts)
+    (flat_map row_bytes c.args.table.now.sends ++ flat_map row_bytes c.args.table.now.hears)
     (rw c.starts.ensures.starts at c.in_ok-put_rows.ensures.put)
-    (fails_first _ _ _ (flat_map row_bytes c.args.table.now.sends) (flat_map row_bytes c.args.table.now.hears) (rw c.sends.ensures.sends at c.in_err-put_rows-2.ensures.put))))
+    (fails_first _ _ _ (flat_map row_bytes c.args.table.now.sends) (flat_map row_bytes c.args.table.now.hears)
+    (rw c.sends.ensures.sends at c.in_err-put_rows-2.ensures.put))))
 
 pub returns-clause-put : goal.returns-clause-put
 returns-clause-put g c =
     rw (table_parts c.args.table.now) (Puts-then _ _ _ _ _ _ (flat_map row_bytes c.args.table.now.starts)
     (flat_map row_bytes c.args.table.now.sends ++ flat_map row_bytes c.args.table.now.hears) c.put_rows-3.result
     (rw c.starts.ensures.starts at c.in_ok-put_rows.ensures.put)
-    (Puts-then _ _ _ _ _ _ (flat_map row_bytes c.args.table.now.sends) (flat_map row_bytes c.args.table.now.hears) c.put_rows-3.result (rw c.sends.ensures.sends at c.in_ok-put_rows-2.ensures.put)
+    (Puts-then _ _ _ _ _ _ (flat_map row_bytes c.args.table.now.sends) (flat_map row_bytes c.args.table.now.hears)
+    c.put_rows-3.result (rw c.sends.ensures.sends at c.in_ok-put_rows-2.ensures.put)
     (rw c.hears.ensures.hears at c.put_rows-3.ensures.put)))

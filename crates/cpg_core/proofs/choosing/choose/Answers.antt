@@ -11,10 +11,13 @@ returns-then-is_some c =
     let g = c.args.admitted.now.graph in
     let urgency = c.args.admitted.now.order in
     let a = c.first_order.ensures.admitted in
-    let top : IsTopological g (first_order g urgency) = rw c.first_order.ensures.order at c.first_order.ensures.topological in
-    let first : HasFigures g (first_order g urgency) c.in_ok-first.first.excess c.in_ok-first.first.worst = rw c.first_order.ensures.order at c.in_ok-first.ensures in
+    let top : IsTopological g (first_order g urgency) =
+    rw c.first_order.ensures.order at c.first_order.ensures.topological in
+    let first : HasFigures g (first_order g urgency) c.in_ok-first.first.excess c.in_ok-first.first.worst =
+    rw c.first_order.ensures.order at c.in_ok-first.ensures in
     subst (IsTaken g urgency) (sym c.first.ensures)
-    (first_given g a.well_formed urgency a.topological top c.requires.narrow c.in_ok-first.first.excess c.in_ok-first.first.worst first
+    (first_given g a.well_formed urgency a.topological top c.requires.narrow c.in_ok-first.first.excess
+    c.in_ok-first.first.worst first
     (given_there _ c.given.result _ c.given.ensures.given (search rules)))
 
 pub returns-in_default : goal.returns-in_default
@@ -22,7 +25,10 @@ returns-in_default c =
     let g = c.args.admitted.now.graph in
     let urgency = c.args.admitted.now.order in
     let a = c.first_order.ensures.admitted in
-    let top : IsTopological g (first_order g urgency) = rw c.first_order.ensures.order at c.first_order.ensures.topological in
-    let first : HasFigures g (first_order g urgency) c.in_ok-first.first.excess c.in_ok-first.first.worst = rw c.first_order.ensures.order at c.in_ok-first.ensures in
+    let top : IsTopological g (first_order g urgency) =
+    rw c.first_order.ensures.order at c.first_order.ensures.topological in
+    let first : HasFigures g (first_order g urgency) c.in_ok-first.first.excess c.in_ok-first.first.worst =
+    rw c.first_order.ensures.order at c.in_ok-first.ensures in
     subst (IsTaken g urgency) (sym c.first-in_default.ensures)
-    (first_many g a.well_formed urgency a.topological top c.requires.narrow c.in_ok-first.first.excess c.in_ok-first.first.worst first (rw c.in_default.is at c.in_ok-order.ensures.many))
+    (first_many g a.well_formed urgency a.topological top c.requires.narrow c.in_ok-first.first.excess
+    c.in_ok-first.first.worst first (rw c.in_default.is at c.in_ok-order.ensures.many))

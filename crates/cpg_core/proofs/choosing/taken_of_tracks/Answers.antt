@@ -11,9 +11,11 @@ returns-then-are_same c =
     let g = c.args.admitted.now.graph in
     let urgency = c.args.admitted.now.order in
     let a = c.first_order-first_order.ensures.admitted in
-    let top : IsTopological g (first_order g urgency) = rw c.first_order-first_order.ensures.order at c.first_order-first_order.ensures.topological in
+    let top : IsTopological g (first_order g urgency) =
+    rw c.first_order-first_order.ensures.order at c.first_order-first_order.ensures.topological in
     subst (IsTaken g urgency) (sym c.first.ensures)
-    (first_same g a.well_formed urgency a.topological top c.requires.narrow c.args.first.excess c.args.first.worst c.requires.first c.args.order c.requires.track
+    (first_same g a.well_formed urgency a.topological top c.requires.narrow c.args.first.excess c.args.first.worst
+    c.requires.first c.args.order c.requires.track
     ((rw c.if-are_same.true at c.are_same.ensures) ∙ c.first_order-first_order.ensures.order))
 
 pub returns-then-not-is_better : goal.returns-then-not-is_better
@@ -21,27 +23,35 @@ returns-then-not-is_better c =
     let g = c.args.admitted.now.graph in
     let urgency = c.args.admitted.now.order in
     let a = c.first_order-first_order.ensures.admitted in
-    let top : IsTopological g (first_order g urgency) = rw c.first_order-first_order.ensures.order at c.first_order-first_order.ensures.topological in
+    let top : IsTopological g (first_order g urgency) =
+    rw c.first_order-first_order.ensures.order at c.first_order-first_order.ensures.topological in
     subst (IsTaken g urgency) (sym c.first-then-not-is_better.ensures)
-    (first_better g a.well_formed urgency a.topological top c.requires.narrow c.args.first.excess c.args.first.worst c.requires.first c.args.order c.requires.track c.requires.topological
-    c.in_ok-figures.figures.excess c.in_ok-figures.figures.worst c.in_ok-figures.ensures (λ better. both_ways c.is_better.result c.if-not-is_better.true (c.is_better.ensures.1 better)))
+    (first_better g a.well_formed urgency a.topological top c.requires.narrow c.args.first.excess c.args.first.worst
+    c.requires.first c.args.order c.requires.track c.requires.topological
+    c.in_ok-figures.figures.excess c.in_ok-figures.figures.worst c.in_ok-figures.ensures
+    (λ better. both_ways c.is_better.result c.if-not-is_better.true (c.is_better.ensures.1 better)))
 
 pub returns-in-Some : goal.returns-in-Some
 returns-in-Some c =
     let g = c.args.admitted.now.graph in
     let urgency = c.args.admitted.now.order in
     let a = c.first_order-first_order.ensures.admitted in
-    let top : IsTopological g (first_order g urgency) = rw c.first_order-first_order.ensures.order at c.first_order-first_order.ensures.topological in
+    let top : IsTopological g (first_order g urgency) =
+    rw c.first_order-first_order.ensures.order at c.first_order-first_order.ensures.topological in
     let least : IsLeastWide g c.args.order c.in-Some.field-0 = rw c.in-Some.is at c.in_ok-too_wide.ensures.some in
     subst (IsTaken g urgency) (sym c.first-in-Some.ensures)
-    (first_wide g a.well_formed urgency a.topological top c.requires.narrow c.args.first.excess c.args.first.worst c.requires.first c.args.order c.requires.track c.in-Some.field-0 least.wide)
+    (first_wide g a.well_formed urgency a.topological top c.requires.narrow c.args.first.excess c.args.first.worst
+    c.requires.first c.args.order c.requires.track c.in-Some.field-0 least.wide)
 
 pub returns : goal.returns
 returns c =
     let g = c.args.admitted.now.graph in
     let urgency = c.args.admitted.now.order in
     let a = c.first_order-first_order.ensures.admitted in
-    let top : IsTopological g (first_order g urgency) = rw c.first_order-first_order.ensures.order at c.first_order-first_order.ensures.topological in
+    let top : IsTopological g (first_order g urgency) =
+    rw c.first_order-first_order.ensures.order at c.first_order-first_order.ensures.topological in
     let narrow : IsNarrow g c.args.order = rw c.in_default.is at c.in_ok-too_wide.ensures.none in
-    tracks_better g a.well_formed urgency a.topological top c.requires.narrow c.args.first.excess c.args.first.worst c.requires.first c.args.order c.requires.track c.requires.topological
-    c.in_ok-figures.figures.excess c.in_ok-figures.figures.worst c.in_ok-figures.ensures narrow c.requires.ungiven (c.is_better.ensures.0 c.if-not-is_better.false)
+    tracks_better g a.well_formed urgency a.topological top c.requires.narrow c.args.first.excess c.args.first.worst
+    c.requires.first c.args.order c.requires.track c.requires.topological
+    c.in_ok-figures.figures.excess c.in_ok-figures.figures.worst c.in_ok-figures.ensures narrow c.requires.ungiven
+    (c.is_better.ensures.0 c.if-not-is_better.false)

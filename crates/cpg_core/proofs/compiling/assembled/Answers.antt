@@ -5,5 +5,6 @@ pub assemble-requires : goal.assemble-requires
 assemble-requires c = c.requires.writable
 
 pub returns : goal.returns
-returns c = assembled_compilation c.args.admitted.now.graph c.args.admitted.now.order c.args.rows (record { built = c.in_ok-built.built; order = c.in_ok-order.order }) c.requires
+returns c = assembled_compilation c.args.admitted.now.graph c.args.admitted.now.order c.args.rows
+    (record { built = c.in_ok-built.built; order = c.in_ok-order.order }) c.requires
     c.in_ok-built.ensures c.in_ok-order.ensures

@@ -15,5 +15,8 @@ compile_taken-requires-clause-in_time c =
     let g = c.args.admitted.now.graph in
     let urgency = c.args.admitted.now.order in
     let t = c.in_ok-taken.taken in
-    let zero : t.figures.excess ≡ 0 = omega (arith, c.if-taken-gt0.false) in
-    (t.figures.worst, subst (λ n. IsMeasured g urgency (order_taken (first_order g urgency) t.order) n t.figures.worst) zero c.in_ok-taken.ensures.measured)
+    let zero : t.figures.excess ≡ 0 = omega (arith, c.if-taken-gt0.false) in (
+      t.figures.worst,
+      subst (λ n. IsMeasured g urgency (order_taken (first_order g urgency) t.order) n t.figures.worst) zero
+          c.in_ok-taken.ensures.measured,
+    )

@@ -8,22 +8,28 @@ use Rattle.cpg_core.proofs.RowsCompiled.{compiled_rows}
 use Rattle.cpg_core.proofs.compiling.compile_tracks.Goals as goal
 
 pub build-requires-clause-topological : goal.build-requires-clause-topological
-build-requires-clause-topological c = subst (IsTopological c.args.admitted.now.graph) (sym c.in_ok-grown.ensures.same) c.requires.topological
+build-requires-clause-topological c =
+    subst (IsTopological c.args.admitted.now.graph) (sym c.in_ok-grown.ensures.same) c.requires.topological
 
 pub build-requires-clause-narrow : goal.build-requires-clause-narrow
-build-requires-clause-narrow c = subst (IsNarrow c.args.admitted.now.graph) (sym c.in_ok-grown.ensures.same) c.requires.narrow
+build-requires-clause-narrow c =
+    subst (IsNarrow c.args.admitted.now.graph) (sym c.in_ok-grown.ensures.same) c.requires.narrow
 
 pub build-requires-clause-grown : goal.build-requires-clause-grown
 build-requires-clause-grown c =
-    subst (λ order. IsGrownFor c.args.admitted.now.graph c.args.admitted.now.order order c.in_ok-grown.grown) (sym c.in_ok-grown.ensures.same) c.in_ok-grown.ensures
+    subst (λ order. IsGrownFor c.args.admitted.now.graph c.args.admitted.now.order order c.in_ok-grown.grown)
+    (sym c.in_ok-grown.ensures.same) c.in_ok-grown.ensures
 
 pub returns : goal.returns
 returns c =
     let g = c.args.admitted.now.graph in
     let urgency = c.args.admitted.now.order in
     let a = c.first_order-order.ensures.admitted in
-    let top : IsTopological g (first_order g urgency) = rw c.first_order-order.ensures.order at c.first_order-order.ensures.topological in
-    let zero = tracked_in_time g a.well_formed urgency a.topological top c.args.order c.requires.topological c.in_ok-grown.grown c.in_ok-grown.ensures 0 c.requires.in_time.0 c.requires.in_time.1
+    let top : IsTopological g (first_order g urgency) =
+    rw c.first_order-order.ensures.order at c.first_order-order.ensures.topological in
+    let zero = tracked_in_time g a.well_formed urgency a.topological top c.args.order c.requires.topological
+    c.in_ok-grown.grown c.in_ok-grown.ensures 0 c.requires.in_time.0 c.requires.in_time.1
     refl in
-    compiled_rows g urgency c.args.admitted.now.guards a top c.requires.first c.in_ok-grown.grown c.in_ok-rows.rows c.in_ok-rows.ensures.rows c.in_ok-rows.ensures.measures.0 zero
+    compiled_rows g urgency c.args.admitted.now.guards a top c.requires.first c.in_ok-grown.grown c.in_ok-rows.rows
+    c.in_ok-rows.ensures.rows c.in_ok-rows.ensures.measures.0 zero
     (subst (IsCompileOrder g urgency) (sym c.in_ok-grown.ensures.same) c.requires.taken)

@@ -3,5 +3,6 @@ use Rattle.cpg_core.proofs.compiling.grow_tracks.Goals as goal
 
 pub unreachable-requires : goal.unreachable-requires
 unreachable-requires c =
-    let least : IsLeastWide c.args.admitted.now.graph c.args.order c.in-Err-TooWide.field-0-0 = rw c.in-Err-TooWide.field-0-is at c.in-Err-TooWide.ensures.fault in
+    let least : IsLeastWide c.args.admitted.now.graph c.args.order c.in-Err-TooWide.field-0-0 =
+    rw c.in-Err-TooWide.field-0-is at c.in-Err-TooWide.ensures.fault in
     c.requires.narrow c.in-Err-TooWide.field-0-0 least.wide

@@ -3,11 +3,13 @@ use Rattle.cpg_base.specs.Graph.{process_count}
 use Rattle.cpg_base.specs.Duration.{due}
 use Rattle.cpg_order.specs.Urgency.{first_order}
 use Rattle.cpg_run.specs.Finish.{IsExcess}
-use Rattle.cpg_core.proofs.Compilations.{late_times, late_run, late_end, late_process, late_small, late_under, some_shown}
+use Rattle.cpg_core.proofs.Compilations.{late_times, late_run, late_end, late_process, late_small, late_under}
+use Rattle.cpg_core.proofs.Compilations.{some_shown}
 use Rattle.cpg_core.proofs.compiling.late.Goals as goal
 
 pub unreachable-requires : goal.unreachable-requires
-unreachable-requires c = some_shown c.args.admitted.now.graph c.args.admitted.now.order (first_order c.args.admitted.now.graph c.args.admitted.now.order) c.args.first c.requires.grown c.requires.late
+unreachable-requires c = some_shown c.args.admitted.now.graph c.args.admitted.now.order
+    (first_order c.args.admitted.now.graph c.args.admitted.now.order) c.args.first c.requires.grown c.requires.late
     c.in_default.is
 
 pub due-requires : goal.due-requires
@@ -21,8 +23,13 @@ pub end_past-requires : goal.end_past-requires
 end_past-requires c =
     let g = c.args.admitted.now.graph in
     let urgency = c.args.admitted.now.order in
-    let due_is : c.due.result ≡ due g c.in-Some.process = c.due.ensures ∙ ap (λ h. due h c.in-Some.process) c.problem-problem.ensures.problem in
-    omega (arith, due_is, late_small g urgency (first_order g urgency) c.args.first c.requires.grown c.in-Some.process c.in-Some.is)
+    let due_is : c.due.result ≡ due g c.in-Some.process =
+    c.due.ensures ∙ ap (λ h. due h c.in-Some.process) c.problem-problem.ensures.problem in
+    omega (
+      arith,
+      due_is,
+      late_small g urgency (first_order g urgency) c.args.first c.requires.grown c.in-Some.process c.in-Some.is,
+    )
 
 pub returns : goal.returns
 returns c =
@@ -30,13 +37,19 @@ returns c =
     let urgency = c.args.admitted.now.order in
     let first = first_order g urgency in
     let found = c.args.first in
-    let due_is : c.due.result ≡ due g c.in-Some.process = c.due.ensures ∙ ap (λ h. due h c.in-Some.process) c.problem-problem.ensures.problem in (
-      record { narrow = c.requires.narrow; late = late_under g urgency first found c.requires.grown c.requires.late; helpless = c.requires.helpless },
+    let due_is : c.due.result ≡ due g c.in-Some.process =
+    c.due.ensures ∙ ap (λ h. due h c.in-Some.process) c.problem-problem.ensures.problem in (
+      record {
+        narrow = c.requires.narrow;
+        late = late_under g urgency first found c.requires.grown c.requires.late;
+        helpless = c.requires.helpless;
+      },
       record {
         frozen = found.trees.frozen;
         frozen_times = c.requires.grown.frozen;
         excess = found.excess.time;
-        is_excess = subst (IsExcess g urgency first found.trees.frozen found.excess.time found.excess.scenario) c.in-Some.is c.requires.grown.excess;
+        is_excess = subst (IsExcess g urgency first found.trees.frozen found.excess.time found.excess.scenario)
+            c.in-Some.is c.requires.grown.excess;
         times = late_times g urgency first found c.requires.grown c.in-Some.process c.in-Some.is;
         run = late_run g urgency first found c.requires.grown c.in-Some.process c.in-Some.is;
         ends = late_end g urgency first found c.requires.grown c.in-Some.process c.in-Some.is

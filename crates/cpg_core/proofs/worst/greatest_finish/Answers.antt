@@ -5,10 +5,12 @@ use Rattle.cpg_core.proofs.worst.greatest_finish.Goals as goal
 
 pub narrow_finish-requires : goal.narrow_finish-requires
 narrow_finish-requires c =
-    let found : IsNarrow c.args.admitted.now.graph c.first_order.result.now = rw c.in_default.is at c.in_ok-item.ensures.none in
+    let found : IsNarrow c.args.admitted.now.graph c.first_order.result.now =
+    rw c.in_default.is at c.in_ok-item.ensures.none in
     record { narrow = subst (IsNarrow c.args.admitted.now.graph) c.first_order.ensures.order found }
 
 pub returns-clause-narrow : goal.returns-clause-narrow
 returns-clause-narrow c =
-    let found : IsNarrow c.args.admitted.now.graph c.first_order.result.now = rw c.in_default.is at c.in_ok-item.ensures.none in
+    let found : IsNarrow c.args.admitted.now.graph c.first_order.result.now =
+    rw c.in_default.is at c.in_ok-item.ensures.none in
     subst (IsNarrow c.args.admitted.now.graph) c.first_order.ensures.order found

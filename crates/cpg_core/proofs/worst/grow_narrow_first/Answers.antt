@@ -3,4 +3,5 @@ use Rattle.cpg_reach.specs.Wide.{IsNarrow}
 use Rattle.cpg_core.proofs.worst.grow_narrow_first.Goals as goal
 
 pub grow_narrow-requires-clause-narrow : goal.grow_narrow-requires-clause-narrow
-grow_narrow-requires-clause-narrow c = subst (IsNarrow c.args.admitted.now.graph) (sym (c.in_ok-order.ensures ∙ c.first_order.ensures.order)) c.requires
+grow_narrow-requires-clause-narrow c =
+    subst (IsNarrow c.args.admitted.now.graph) (sym (c.in_ok-order.ensures ∙ c.first_order.ensures.order)) c.requires

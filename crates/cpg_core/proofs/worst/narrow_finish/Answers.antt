@@ -10,4 +10,5 @@ shown_late_narrow-requires-clause-helpless c = (c.in_ok-taken.ensures.late c.if-
 
 pub returns-clause-accepted : goal.returns-clause-accepted
 returns-clause-accepted c =
-    accepted c.args.admitted.now.graph c.args.admitted.now.order c.in_ok-taken.taken (λ _. c.requires.narrow) c.in_ok-taken.ensures (omega (arith, c.if-taken-gt0.false))
+    accepted c.args.admitted.now.graph c.args.admitted.now.order c.in_ok-taken.taken
+    (λ _. c.requires.narrow) c.in_ok-taken.ensures (omega (arith, c.if-taken-gt0.false))

@@ -17,8 +17,10 @@ use Rattle.cpg_cube.proofs.CubeLaws.{with-is}
 use Rattle.cpg_cube.proofs.Mapped.{any_map}
 use Rattle.cpg_cube.proofs.Narrow.{known-narrowed}
 use Rattle.cpg_cover.proofs.cover.+along.Goals as goal
-use Rattle.cpg_cover.proofs.cover.+along.Goals.{least_by_number-in-Some-2+in_ok-late+in-Heap-1, least_by_number-then-not-late+in_ok-next, least_by_number-else-not-late}
-use Rattle.cpg_cover.proofs.cover.+along.Goals.{least_by_number-in-Some-2+in_ok-late+in-Inline-1, least_by_number-in_default-2}
+use Rattle.cpg_cover.proofs.cover.+along.Goals.{least_by_number-in-Some-2+in_ok-late+in-Heap-1}
+use Rattle.cpg_cover.proofs.cover.+along.Goals.{least_by_number-then-not-late+in_ok-next, least_by_number-else-not-late}
+use Rattle.cpg_cover.proofs.cover.+along.Goals.{least_by_number-in-Some-2+in_ok-late+in-Inline-1}
+use Rattle.cpg_cover.proofs.cover.+along.Goals.{least_by_number-in_default-2}
 
 -- what the list's references point to
 abbrev seen : Bor (List Literal) → List Literal
@@ -39,23 +41,27 @@ least_along-returns-in_default-place_of_match t c =
     let cube = c.args.cube.now in
     let least = c.in-Some.least in
     let first : IsFirst g order (matches cube) (Some least) = rw c.in-Some.is at (c.in_ok-least.ensures.first order) in
-    let none : list_any (λ b. matches b least) (map seen c.args.by.items) ≡ false = any_map (λ b. matches b least) seen c.args.by.items ∙
+    let none : list_any (λ b. matches b least) (map seen c.args.by.items) ≡ false =
+    any_map (λ b. matches b least) seen c.args.by.items ∙
     rw c.as_slice.ensures.value at c.in_default-place_of_match.ensures.none in
     left_at_once g order (map seen c.args.by.items) cube least first none
 
 pub least_along-returns-then-covered : goal.least_along-returns-then-covered
 least_along-returns-then-covered t c =
     none_from_covered c.args.problem.now c.args.order.now (map seen c.args.by.items) c.args.cube.now
-    (λ s i m. any_map (λ b. matches b s) seen c.args.by.items ∙ rw c.as_slice-2.ensures.value at (OnTrue_at c.if-covered.true c.in_ok-covered.ensures s i m))
+    (λ s i m. any_map (λ b. matches b s) seen c.args.by.items
+    ∙ rw c.as_slice-2.ensures.value at (OnTrue_at c.if-covered.true c.in_ok-covered.ensures s i m))
 
 pub least_by_number-is_late-requires-clause-part : goal.least_by_number-is_late-requires-clause-part
 least_by_number-is_late-requires-clause-part t c =
     let g = c.args.problem.now in
     let v = c.in-Some.variable.now in
     let l : Literal = record { variable = v; low = c.loop-number.number; high = c.loop-number.number } in
-    let known : IsVariable g v = All-head (IsVariable g) v c.in-Some.others.now (rw c.in-Some.ensures.cases.0 at c.requires.variables) in
+    let known : IsVariable g v =
+    All-head (IsVariable g) v c.in-Some.others.now (rw c.in-Some.ensures.cases.0 at c.requires.variables) in
     let some : with_literal l c.args.cube.now ≡ Some c.in-Some-2.part = search rules in
-    subst (IsKnown g) (with-is l c.args.cube.now c.in-Some-2.part some) (known-narrowed g l c.args.cube.now known c.requires.cube)
+    subst (IsKnown g) (with-is l c.args.cube.now c.in-Some-2.part some)
+    (known-narrowed g l c.args.cube.now known c.requires.cube)
 
 pub least_by_number-least_of_part-requires : goal.least_by_number-least_of_part-requires
 least_by_number-least_of_part-requires t c =
@@ -65,8 +71,14 @@ least_by_number-least_of_part-requires t c =
     let all = rw c.in-Some.ensures.cases.0 at c.requires.variables in
     let known : IsVariable g v = All-head (IsVariable g) v c.in-Some.others.now all in
     let some : with_literal l c.args.cube.now ≡ Some c.in-Some-2.part = search rules in
-    let part : IsKnown g c.in-Some-2.part = subst (IsKnown g) (with-is l c.args.cube.now c.in-Some-2.part some) (known-narrowed g l c.args.cube.now known c.requires.cube) in
-    (search rules, (c.requires.order, (part, (rw c.as_slice-list.ensures.value c.requires.list, All-tail (IsVariable g) v c.in-Some.others.now all))))
+    let part : IsKnown g c.in-Some-2.part = subst (IsKnown g) (with-is l c.args.cube.now c.in-Some-2.part some)
+    (known-narrowed g l c.args.cube.now known c.requires.cube) in (
+      search rules,
+      (
+        c.requires.order,
+        (part, (rw c.as_slice-list.ensures.value c.requires.list, All-tail (IsVariable g) v c.in-Some.others.now all)),
+      ),
+    )
 
 pub least_by_number-loop-number-preserved : goal.least_by_number-loop-number-preserved
 least_by_number-loop-number-preserved t c =
@@ -86,9 +98,11 @@ least_by_number-loop-number-preserved t c =
           elim w.if-not-late.branch [
             | least_by_number-then-not-late+in_ok-next w' ↦ rw (w.found-is, w'.found-is, w'.earlier-found.ensures)
                 (with_part g order by cube v m found w'.in_ok-next.next inv
-                (subst (λ (d : List Literal). IsFirst g order (is_left by d) w'.in_ok-next.next) is (rw w'.as_slice-list.ensures.value at w'.in_ok-next.ensures)))
+                (subst (λ (d : List Literal). IsFirst g order (is_left by d) w'.in_ok-next.next) is
+                (rw w'.as_slice-list.ensures.value at w'.in_ok-next.ensures)))
             | least_by_number-else-not-late w' ↦ rw (w.found-is, w'.found-is)
-                (late_part g order by cube v m found (subst (λ (d : List Literal). IsLate g order d found) is (OnTrue_at (search rules) w.in_ok-late.ensures)) inv)
+                (late_part g order by cube v m found (subst (λ (d : List Literal). IsLate g order d found) is
+                (OnTrue_at (search rules) w.in_ok-late.ensures)) inv)
           ]
       | least_by_number-in-Some-2+in_ok-late+in-Inline-1 w ↦
           let some : with_literal l cube ≡ Some w.in-Some-2.part = sym c.in_ok-part.ensures.cube ∙ w.in-Some-2.is in
@@ -96,9 +110,11 @@ least_by_number-loop-number-preserved t c =
           elim w.if-not-late.branch [
             | least_by_number-then-not-late+in_ok-next w' ↦ rw (w.found-is, w'.found-is, w'.earlier-found.ensures)
                 (with_part g order by cube v m found w'.in_ok-next.next inv
-                (subst (λ (d : List Literal). IsFirst g order (is_left by d) w'.in_ok-next.next) is (rw w'.as_slice-list.ensures.value at w'.in_ok-next.ensures)))
+                (subst (λ (d : List Literal). IsFirst g order (is_left by d) w'.in_ok-next.next) is
+                (rw w'.as_slice-list.ensures.value at w'.in_ok-next.ensures)))
             | least_by_number-else-not-late w' ↦ rw (w.found-is, w'.found-is)
-                (late_part g order by cube v m found (subst (λ (d : List Literal). IsLate g order d found) is (OnTrue_at (search rules) w.in_ok-late.ensures)) inv)
+                (late_part g order by cube v m found (subst (λ (d : List Literal). IsLate g order d found) is
+                (OnTrue_at (search rules) w.in_ok-late.ensures)) inv)
           ]
       | least_by_number-in_default-2 w ↦ rw w.found-is (without_part g order by cube v m found (search rules) inv)
     ]

@@ -16,4 +16,5 @@ decreases-least_of_part l = length l.variables.now * 3 + 2
 
 -- the first of those with a lesser number of the variable
 abbrev pub invariant-least_by_number-loop-number : goal.invariant-least_by_number-loop-number
-invariant-least_by_number-loop-number l = IsFirst l.problem l.order (λ s. is_left (map (λ b. b.now) l.by.items) l.cube s && nat_lt (number_of s l.variable) l.number) l.found
+invariant-least_by_number-loop-number l = IsFirst l.problem l.order
+    (λ s. is_left (map (λ b. b.now) l.by.items) l.cube s && nat_lt (number_of s l.variable) l.number) l.found

@@ -1,4 +1,5 @@
-use Rattle.std.proofs.Common.{rules, ◌≡◌, ◌<◌, ◌≤◌, ◌∙◌, [], ◌∷◌, ap, sym, subst, true, false, Some, None, List, length, get_or, map, Bor, IsPermutation, arith}
+use Rattle.std.proofs.Common.{rules, ◌≡◌, ◌<◌, ◌≤◌, ◌∙◌, [], ◌∷◌, ap, sym, subst, true, false, Some, None, List, length}
+use Rattle.std.proofs.Common.{get_or, map, Bor, IsPermutation, arith}
 use Rattle.std.specs.Prelude.{All}
 use Rattle.std.specs.List.{list_any}
 use Rattle.std.proofs.lemmas.List.{nil_from_length}
@@ -16,7 +17,8 @@ use Rattle.cpg_cube.proofs.Narrow.{known-narrowed}
 use Rattle.cpg_cover.proofs.CoverSearch.{left_of_none, left_at_once}
 use Rattle.cpg_cube.proofs.Mapped.{any_map}
 use Rattle.cpg_cover.proofs.Kept.{all_removed}
-use Rattle.cpg_cover.proofs.CoverLaws.{matches_permutation, left_by_taken, outside_none, first_below, first_above, outside_one, part_none, within_none, within_kept, earlier_none}
+use Rattle.cpg_cover.proofs.CoverLaws.{matches_permutation, left_by_taken, outside_none, first_below, first_above}
+use Rattle.cpg_cover.proofs.CoverLaws.{outside_one, part_none, within_none, within_kept, earlier_none}
 use Rattle.cpg_cover.proofs.cover.+cover.Goals as goal
 
 -- what the list's references point to
@@ -38,7 +40,8 @@ left_of-returns-in_default-place_of_match t c =
     let cube = c.args.cube.now in
     let least = c.in-Some.least in
     let first : IsFirst g order (matches cube) (Some least) = rw c.in-Some.is at (c.in_ok-least.ensures.first order) in
-    let none : list_any (λ b. matches b least) (map seen c.args.by.items) ≡ false = any_map (λ b. matches b least) seen c.args.by.items ∙
+    let none : list_any (λ b. matches b least) (map seen c.args.by.items) ≡ false =
+    any_map (λ b. matches b least) seen c.args.by.items ∙
     rw c.as_slice.ensures.value at c.in_default-place_of_match.ensures.none in
     left_at_once g order (map seen c.args.by.items) cube least first none
 
@@ -47,16 +50,21 @@ left_of-left_outside-requires t c =
     let g = c.args.problem.now in
     let within : c.in-Some-place_of_match.place < length c.args.by.items = search rules in
     let first = c.remove-first.result.now in
-    let first_known : IsKnown g first = rw c.remove-first.ensures.value (c.requires.list c.in-Some-place_of_match.place c.remove-first.result within) in
+    let first_known : IsKnown g first =
+    rw c.remove-first.ensures.value (c.requires.list c.in-Some-place_of_match.place c.remove-first.result within) in
     let cutting = c.in_ok-cutting.cutting.items in
     let few : length cutting ≤ 256 = c.in_ok-cutting.ensures.few in
-    let ranked : IsPermutation cutting c.in_ok-literals.literals.items = rw c.as_slice-2.ensures.value at c.in_ok-literals.ensures in
+    let ranked : IsPermutation cutting c.in_ok-literals.literals.items =
+    rw c.as_slice-2.ensures.value at c.in_ok-literals.ensures in
     let long = length_permutation cutting c.in_ok-literals.literals.items ranked in
     let known : IsKnown g c.as_slice-4.result.now =
-    rw c.as_slice-4.ensures.value (All-permutation (λ (l : Literal). IsVariable g l.variable) cutting c.in_ok-literals.literals.items ranked c.in_ok-cutting.ensures.known) in
+    rw c.as_slice-4.ensures.value (All-permutation (λ (l : Literal). IsVariable g l.variable) cutting
+    c.in_ok-literals.literals.items ranked c.in_ok-cutting.ensures.known) in
     let literals : length c.as_slice-4.result.now ≤ 256 = rw c.as_slice-4.ensures.value (omega arith) in
-    let list : All (λ (b : Bor (List Literal)). IsKnown g b.now) c.as_slice-5.result.now = rw (c.as_slice-5.ensures.value, c.remove-first.ensures.items)
-    (all_removed (λ (b : Bor (List Literal)). IsKnown g b.now) c.args.by.items c.in-Some-place_of_match.place c.requires.list) in
+    let list : All (λ (b : Bor (List Literal)). IsKnown g b.now) c.as_slice-5.result.now =
+    rw (c.as_slice-5.ensures.value, c.remove-first.ensures.items)
+    (all_removed (λ (b : Bor (List Literal)). IsKnown g b.now) c.args.by.items c.in-Some-place_of_match.place
+    c.requires.list) in
     (search rules, (c.requires.order, (c.requires.cube, (known, (literals, list)))))
 
 pub left_of-returns : goal.left_of-returns
@@ -64,32 +72,40 @@ left_of-returns t c =
     let g = c.args.problem.now in
     let within : c.in-Some-place_of_match.place < length c.args.by.items = search rules in
     let first = c.remove-first.result.now in
-    let is_first : first ≡ seen (get_or c.args.by.items c.in-Some-place_of_match.place c.remove-first.result) = ap seen c.remove-first.ensures.value in
-    let ranked : IsPermutation c.in_ok-cutting.cutting.items c.in_ok-literals.literals.items = rw c.as_slice-2.ensures.value at c.in_ok-literals.ensures in
-    let cut : (s : Scenario) → IsScenario g s → matches c.args.cube.now s ≡ true → matches c.in_ok-cutting.cutting.items s ≡ matches first s =
+    let is_first : first ≡ seen (get_or c.args.by.items c.in-Some-place_of_match.place c.remove-first.result) =
+    ap seen c.remove-first.ensures.value in
+    let ranked : IsPermutation c.in_ok-cutting.cutting.items c.in_ok-literals.literals.items =
+    rw c.as_slice-2.ensures.value at c.in_ok-literals.ensures in
+    let cut : (s : Scenario) → IsScenario g s → matches c.args.cube.now s ≡ true →
+    matches c.in_ok-cutting.cutting.items s ≡ matches first s =
     rw c.literals.ensures.literals at c.in_ok-cutting.ensures.same in
-    left_by_taken g c.args.order.now seen c.args.by.items c.in-Some-place_of_match.place c.remove-first.result c.in_ok-literals.literals.items c.args.cube.now c.in_ok-found.found within
-    (λ s i t. sym (matches_permutation c.in_ok-cutting.cutting.items c.in_ok-literals.literals.items s ranked) ∙ cut s i t ∙ ap (λ b. matches b s) is_first)
+    left_by_taken g c.args.order.now seen c.args.by.items c.in-Some-place_of_match.place c.remove-first.result
+    c.in_ok-literals.literals.items c.args.cube.now c.in_ok-found.found within
+    (λ s i t. sym (matches_permutation c.in_ok-cutting.cutting.items c.in_ok-literals.literals.items s ranked)
+    ∙ cut s i t ∙ ap (λ b. matches b s) is_first)
     (rw (c.as_slice-5.ensures.value, c.remove-first.ensures.items, c.as_slice-4.ensures.value) at c.in_ok-found.ensures)
 
 pub left_of_part-returns-in_default-2-clause-part : goal.left_of_part-returns-in_default-2-clause-part
 left_of_part-returns-in_default-2-clause-part t c =
     let none : with_literal c.in-Some.literal c.args.cube.now ≡ None = search rules in
-    rw c.in-Some.is (part_none c.args.problem.now c.args.order.now (map seen c.args.by.now) c.in-Some.literal c.args.cube.now none)
+    rw c.in-Some.is
+    (part_none c.args.problem.now c.args.order.now (map seen c.args.by.now) c.in-Some.literal c.args.cube.now none)
 
 pub left_of_part-meeting-requires-clause-cube : goal.left_of_part-meeting-requires-clause-cube
 left_of_part-meeting-requires-clause-cube t c =
     let g = c.args.problem.now in
     let some : with_literal c.in-Some.literal c.args.cube.now ≡ Some c.in-Some-2.part = search rules in
     let known : IsVariable g c.in-Some.literal.variable = rw c.in-Some.is at c.requires.literal in
-    subst (IsKnown g) (with-is c.in-Some.literal c.args.cube.now c.in-Some-2.part some) (known-narrowed g c.in-Some.literal c.args.cube.now known c.requires.cube)
+    subst (IsKnown g) (with-is c.in-Some.literal c.args.cube.now c.in-Some-2.part some)
+    (known-narrowed g c.in-Some.literal c.args.cube.now known c.requires.cube)
 
 pub left_of_part-left_of-requires : goal.left_of_part-left_of-requires
 left_of_part-left_of-requires t c =
     let g = c.args.problem.now in
     let some : with_literal c.in-Some.literal c.args.cube.now ≡ Some c.in-Some-2.part = search rules in
     let known : IsVariable g c.in-Some.literal.variable = rw c.in-Some.is at c.requires.literal in
-    let part : IsKnown g c.in-Some-2.part = subst (IsKnown g) (with-is c.in-Some.literal c.args.cube.now c.in-Some-2.part some)
+    let part : IsKnown g c.in-Some-2.part =
+    subst (IsKnown g) (with-is c.in-Some.literal c.args.cube.now c.in-Some-2.part some)
     (known-narrowed g c.in-Some.literal c.args.cube.now known c.requires.cube) in
     (search rules, (c.requires.order, (part, c.in_ok-kept.ensures.known)))
 
@@ -104,12 +120,16 @@ left_outside-returns-then-is_empty t c =
     let l = c.in-Some.literal.now in
     let last : c.in-Some.rest.now ≡ [] = nil_from_length c.in-Some.rest.now (search rules) in
     let split : c.args.literals.now ≡ l ∷ [] = c.in-Some.ensures.cases.0 ∙ ap (λ ls. l ∷ ls) last in
-    let known : IsVariable g l.variable = All-head (λ (m : Literal). IsVariable g m.variable) l [] (rw split at c.requires.literals) in
-    let below = first_below g few order by l cube c.in_ok-low.low (rw c.below.ensures at c.in_ok-low.ensures.part) (rw c.below.ensures at c.in_ok-low.ensures.none) in
-    let above = first_above g few order by l cube c.in_ok-high.high known (rw (c.above.ensures, c.faults-k.ensures.faults) at c.in_ok-high.ensures.part)
+    let known : IsVariable g l.variable =
+    All-head (λ (m : Literal). IsVariable g m.variable) l [] (rw split at c.requires.literals) in
+    let below = first_below g few order by l cube c.in_ok-low.low (rw c.below.ensures at c.in_ok-low.ensures.part)
+    (rw c.below.ensures at c.in_ok-low.ensures.none) in
+    let above = first_above g few order by l cube c.in_ok-high.high known
+    (rw (c.above.ensures, c.faults-k.ensures.faults) at c.in_ok-high.ensures.part)
     (rw (c.above.ensures, c.faults-k.ensures.faults) at c.in_ok-high.ensures.none) in
     rw (split, c.earlier-beside.ensures, ← earlier_none g order (earlier g order c.in_ok-low.low c.in_ok-high.high))
-    (outside_one g few order by l [] cube c.in_ok-low.low c.in_ok-high.high None below above (outside_none g few order by (narrowed_by l cube)))
+    (outside_one g few order by l [] cube c.in_ok-low.low c.in_ok-high.high None below above
+    (outside_none g few order by (narrowed_by l cube)))
 
 -- what is below a literal, above it and within it
 pub left_outside-returns-in_default-2 : goal.left_outside-returns-in_default-2
@@ -122,13 +142,17 @@ left_outside-returns-in_default-2 t c =
     let l = c.in-Some.literal.now in
     let ls = c.in-Some.rest.now in
     let split : c.args.literals.now ≡ l ∷ ls = c.in-Some.ensures.cases.0 in
-    let known : IsVariable g l.variable = All-head (λ (m : Literal). IsVariable g m.variable) l ls (rw split at c.requires.literals) in
+    let known : IsVariable g l.variable =
+    All-head (λ (m : Literal). IsVariable g m.variable) l ls (rw split at c.requires.literals) in
     let none : with_literal l cube ≡ None = search rules in
-    let below = first_below g few order by l cube c.in_ok-low.low (rw c.below.ensures at c.in_ok-low.ensures.part) (rw c.below.ensures at c.in_ok-low.ensures.none) in
-    let above = first_above g few order by l cube c.in_ok-high.high known (rw (c.above.ensures, c.faults-k.ensures.faults) at c.in_ok-high.ensures.part)
+    let below = first_below g few order by l cube c.in_ok-low.low (rw c.below.ensures at c.in_ok-low.ensures.part)
+    (rw c.below.ensures at c.in_ok-low.ensures.none) in
+    let above = first_above g few order by l cube c.in_ok-high.high known
+    (rw (c.above.ensures, c.faults-k.ensures.faults) at c.in_ok-high.ensures.part)
     (rw (c.above.ensures, c.faults-k.ensures.faults) at c.in_ok-high.ensures.none) in
     rw (split, c.earlier-beside.ensures, ← earlier_none g order (earlier g order c.in_ok-low.low c.in_ok-high.high))
-    (outside_one g few order by l ls cube c.in_ok-low.low c.in_ok-high.high None below above (within_none g order by l cube ls none))
+    (outside_one g few order by l ls cube c.in_ok-low.low c.in_ok-high.high None below above
+    (within_none g order by l cube ls none))
 
 pub left_outside-meeting-requires-clause-cube : goal.left_outside-meeting-requires-clause-cube
 left_outside-meeting-requires-clause-cube t c =
@@ -136,9 +160,11 @@ left_outside-meeting-requires-clause-cube t c =
     let l = c.in-Some.literal.now in
     let ls = c.in-Some.rest.now in
     let split : c.args.literals.now ≡ l ∷ ls = c.in-Some.ensures.cases.0 in
-    let known : IsVariable g l.variable = All-head (λ (m : Literal). IsVariable g m.variable) l ls (rw split at c.requires.literals) in
+    let known : IsVariable g l.variable =
+    All-head (λ (m : Literal). IsVariable g m.variable) l ls (rw split at c.requires.literals) in
     let some : with_literal l c.args.cube.now ≡ Some c.in-Some-2.within = search rules in
-    subst (IsKnown g) (with-is l c.args.cube.now c.in-Some-2.within some) (known-narrowed g l c.args.cube.now known c.requires.cube)
+    subst (IsKnown g) (with-is l c.args.cube.now c.in-Some-2.within some)
+    (known-narrowed g l c.args.cube.now known c.requires.cube)
 
 pub left_outside-left_outside-requires : goal.left_outside-left_outside-requires
 left_outside-left_outside-requires t c =
@@ -149,9 +175,21 @@ left_outside-left_outside-requires t c =
     let all : IsKnown g (l ∷ ls) = rw split at c.requires.literals in
     let known : IsVariable g l.variable = All-head (λ (m : Literal). IsVariable g m.variable) l ls all in
     let some : with_literal l c.args.cube.now ≡ Some c.in-Some-2.within = search rules in
-    let within : IsKnown g c.in-Some-2.within = subst (IsKnown g) (with-is l c.args.cube.now c.in-Some-2.within some) (known-narrowed g l c.args.cube.now known c.requires.cube) in
-    let short : length (l ∷ ls) ≤ 256 = rw split at c.requires.short in
-    (search rules, (c.requires.order, (within, (All-tail (λ (m : Literal). IsVariable g m.variable) l ls all, (omega arith, rw c.as_slice.ensures.value c.in_ok-kept.ensures.known)))))
+    let within : IsKnown g c.in-Some-2.within = subst (IsKnown g) (with-is l c.args.cube.now c.in-Some-2.within some)
+    (known-narrowed g l c.args.cube.now known c.requires.cube) in
+    let short : length (l ∷ ls) ≤ 256 = rw split at c.requires.short in (
+      search rules,
+      (
+        c.requires.order,
+        (
+          within,
+          (
+            All-tail (λ (m : Literal). IsVariable g m.variable) l ls all,
+            (omega arith, rw c.as_slice.ensures.value c.in_ok-kept.ensures.known),
+          ),
+        ),
+      ),
+    )
 
 pub left_outside-returns : goal.left_outside-returns
 left_outside-returns t c =
@@ -163,12 +201,16 @@ left_outside-returns t c =
     let l = c.in-Some.literal.now in
     let ls = c.in-Some.rest.now in
     let split : c.args.literals.now ≡ l ∷ ls = c.in-Some.ensures.cases.0 in
-    let known : IsVariable g l.variable = All-head (λ (m : Literal). IsVariable g m.variable) l ls (rw split at c.requires.literals) in
+    let known : IsVariable g l.variable =
+    All-head (λ (m : Literal). IsVariable g m.variable) l ls (rw split at c.requires.literals) in
     let some : with_literal l cube ≡ Some c.in-Some-2.within = search rules in
-    let below = first_below g few order by l cube c.in_ok-low.low (rw c.below.ensures at c.in_ok-low.ensures.part) (rw c.below.ensures at c.in_ok-low.ensures.none) in
-    let above = first_above g few order by l cube c.in_ok-high.high known (rw (c.above.ensures, c.faults-k.ensures.faults) at c.in_ok-high.ensures.part)
+    let below = first_below g few order by l cube c.in_ok-low.low (rw c.below.ensures at c.in_ok-low.ensures.part)
+    (rw c.below.ensures at c.in_ok-low.ensures.none) in
+    let above = first_above g few order by l cube c.in_ok-high.high known
+    (rw (c.above.ensures, c.faults-k.ensures.faults) at c.in_ok-high.ensures.part)
     (rw (c.above.ensures, c.faults-k.ensures.faults) at c.in_ok-high.ensures.none) in
-    let within = within_kept g order by l cube c.in-Some-2.within some (map seen c.in_ok-kept.kept.items) c.in_ok-kept.ensures.same ls c.in_ok-found.found
+    let within = within_kept g order by l cube c.in-Some-2.within some
+    (map seen c.in_ok-kept.kept.items) c.in_ok-kept.ensures.same ls c.in_ok-found.found
     (rw c.as_slice.ensures.value at c.in_ok-found.ensures) in
     rw (split, c.earlier.ensures, c.earlier-beside.ensures)
     (outside_one g few order by l ls cube c.in_ok-low.low c.in_ok-high.high c.in_ok-found.found below above within)

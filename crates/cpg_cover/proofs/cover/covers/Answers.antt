@@ -10,11 +10,14 @@ use Rattle.cpg_cover.proofs.cover.covers.Goals as goal
 pub uncovered-requires-clause-list : goal.uncovered-requires-clause-list
 uncovered-requires-clause-list c =
     let g = c.args.problem.now in
-    rw c.as_slice.ensures.value (all_unmapped (IsKnown g) (λ (b : Bor (List Literal)). b.now) c.in_ok-cubes.cubes.items (rw c.in_ok-cubes.ensures c.requires.list))
+    rw c.as_slice.ensures.value (all_unmapped (IsKnown g) (λ (b : Bor (List Literal)). b.now) c.in_ok-cubes.cubes.items
+    (rw c.in_ok-cubes.ensures c.requires.list))
 
 pub returns-clause-least : goal.returns-clause-least
 returns-clause-least c =
     let g = c.args.problem.now in
-    let same : map (λ (b : Bor (List Literal)). b.now) c.as_slice.result.now ≡ c.args.by.now = ap (map (λ (b : Bor (List Literal)). b.now)) c.as_slice.ensures.value ∙ c.in_ok-cubes.ensures in
-    let first : IsFirst g c.args.order.now (is_left c.args.by.now c.args.cube.now) c.in_ok-found.found = rw same at c.in_ok-found.ensures.first in
+    let same : map (λ (b : Bor (List Literal)). b.now) c.as_slice.result.now ≡ c.args.by.now =
+    ap (map (λ (b : Bor (List Literal)). b.now)) c.as_slice.ensures.value ∙ c.in_ok-cubes.ensures in
+    let first : IsFirst g c.args.order.now (is_left c.args.by.now c.args.cube.now) c.in_ok-found.found =
+    rw same at c.in_ok-found.ensures.first in
     least_if_some g c.args.order.now (is_left c.args.by.now c.args.cube.now) c.in_ok-found.found first

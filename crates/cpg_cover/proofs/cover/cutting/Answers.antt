@@ -32,8 +32,10 @@ loop-literal-preserved c =
     let known : IsVariable g l.variable = c.requires.literals at blank (omega arith) in
     elim c.if-not-spans.branch [
       | then-not-spans+in_ok-push w ↦ record {
-        same = λ s i t. rw (w.kept-is, w.in_ok-push.ensures.items) (all_push (holds s) c.loop-literal.kept.items ls at blank (omega arith) (inv.same s i t));
-        known = rw (w.kept-is, w.in_ok-push.ensures.items) (All-push (λ (m : Literal). IsVariable g m.variable) c.loop-literal.kept.items l inv.known known);
+        same = λ s i t. rw (w.kept-is, w.in_ok-push.ensures.items)
+            (all_push (holds s) c.loop-literal.kept.items ls at blank (omega arith) (inv.same s i t));
+        known = rw (w.kept-is, w.in_ok-push.ensures.items)
+            (All-push (λ (m : Literal). IsVariable g m.variable) c.loop-literal.kept.items l inv.known known);
         few = search rules;
       }
       | else-not-spans w ↦
@@ -43,15 +45,18 @@ loop-literal-preserved c =
           let span : spans c.of-bounds.result.low c.of-bounds.result.high c.in-Some.left l ≡ true = search rules in
           record {
             same = λ s i t.
-                let on : holds s l ≡ true = holds_where_spanned g c.faults-k.ensures.within a is c.of-bounds.result.low c.of-bounds.result.high are c.in-Some.left some l known span s i t in
-                rw w.kept-is (all_skip (holds s) c.loop-literal.kept.items ls at blank (omega arith) on (inv.same s i t));
+                let on : holds s l ≡ true = holds_where_spanned g c.faults-k.ensures.within a is c.of-bounds.result.low
+                c.of-bounds.result.high are c.in-Some.left some l known span s i t in
+                rw w.kept-is
+                (all_skip (holds s) c.loop-literal.kept.items ls at blank (omega arith) on (inv.same s i t));
             known = rw w.kept-is inv.known;
             few = search rules;
           }
     ]
 
 pub returns-clause-same : goal.returns-clause-same
-returns-clause-same c s i t = c.loop-literal.invariant.same s i t ∙ ap (λ ls. matches ls s) (take_all c.loop-literal.literal-index c.args.literals.now (omega arith))
+returns-clause-same c s i t = c.loop-literal.invariant.same s i t
+    ∙ ap (λ ls. matches ls s) (take_all c.loop-literal.literal-index c.args.literals.now (omega arith))
 
 pub returns-clause-few : goal.returns-clause-few
 returns-clause-few c =
@@ -59,5 +64,6 @@ returns-clause-few c =
     let ls = c.args.literals.now in
     let blank : Literal = record { variable = 0; low = 0; high = 0 } in
     let few = c.loop-literal.invariant.few in
-    let short = rising_short ls blank c.requires.rising (λ i h. small_variable g c.faults-k.ensures.within (get_or ls i blank).variable (c.requires.literals i blank h)) in
+    let short = rising_short ls blank c.requires.rising (λ i h.
+    small_variable g c.faults-k.ensures.within (get_or ls i blank).variable (c.requires.literals i blank h)) in
     omega arith

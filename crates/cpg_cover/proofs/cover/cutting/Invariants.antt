@@ -6,7 +6,8 @@ use Rattle.cpg_cover.proofs.cover.cutting.Given as goal
 
 abbrev pub invariant-loop-literal : goal.invariant-loop-literal
 invariant-loop-literal l = record {
-  same : (s : Scenario) → IsScenario l.problem s → matches l.cube s ≡ true → matches l.kept.items s ≡ matches (take l.literal-index l.literals) s;
+  same : (s : Scenario) → IsScenario l.problem s → matches l.cube s ≡ true →
+      matches l.kept.items s ≡ matches (take l.literal-index l.literals) s;
   known : IsKnown l.problem l.kept.items;
   few : length l.kept.items ≤ l.literal-index;
 }

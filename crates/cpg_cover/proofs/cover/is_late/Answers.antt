@@ -8,13 +8,16 @@ use Rattle.cpg_cover.proofs.cover.is_late.Goals as goal
 
 pub is_before-requires-clause-first : goal.is_before-requires-clause-first
 is_before-requires-clause-first c =
-    let first : IsFirst c.args.problem.now c.args.order.now (matches c.args.part.now) (Some c.in-Some-2.least) = rw c.in-Some-2.is at (c.in_ok-least.ensures.first c.args.order.now) in
+    let first : IsFirst c.args.problem.now c.args.order.now (matches c.args.part.now) (Some c.in-Some-2.least) =
+    rw c.in-Some-2.is at (c.in_ok-least.ensures.first c.args.order.now) in
     first.lawful
 
 pub returns : goal.returns
 returns c =
     let g = c.args.problem.now in
     let order = c.args.order.now in
-    let first : IsFirst g order (matches c.args.part.now) (Some c.in-Some-2.least) = rw c.in-Some-2.is at (c.in_ok-least.ensures.first order) in
+    let first : IsFirst g order (matches c.args.part.now) (Some c.in-Some-2.least) =
+    rw c.in-Some-2.is at (c.in_ok-least.ensures.first order) in
     rw c.in-Some.is (OnTrue_from (not c.is_before.result) (IsLate g order c.args.part.now (Some c.in-Some.found))
-    (λ t s i m. not_before_transitive g order c.in-Some.found c.in-Some-2.least s (sym c.is_before.ensures ∙ not-true c.is_before.result t) (first.least s i m)))
+    (λ t s i m. not_before_transitive g order c.in-Some.found c.in-Some-2.least s
+    (sym c.is_before.ensures ∙ not-true c.is_before.result t) (first.least s i m)))

@@ -21,7 +21,8 @@ returns-in_default-clause-same c s i =
     let is : IsCube g a = record { rising = c.literals.ensures.rising; known = c.requires.cube } in
     let none : budget_left (is_open g.faults) asked_of_literal g.faults a ≡ None = search rules in
     left_same (λ (b : Bor (List Literal)). b.now) c.new-kept.result.items c.args.by.now a s
-    (λ t. absurd (both_ways (matches a s) (unmatched g c.faults-k.ensures.within a is (met_from_none g.faults a none) s i) t))
+    (λ t. absurd
+    (both_ways (matches a s) (unmatched g c.faults-k.ensures.within a is (met_from_none g.faults a none) s i) t))
 
 pub loop-other-preserved : goal.loop-other-preserved
 loop-other-preserved c =
@@ -34,8 +35,14 @@ loop-other-preserved c =
     let known : IsKnown g b = rw c.other-item.is (c.requires.list at c.other-item.result (omega arith)) in
     elim c.if-fits.branch [
       | then-fits+in_ok-push w ↦ record {
-        same = λ s i t. rw (w.kept-is, w.in_ok-push.ensures.items, c.other-item.is) (kept_push (λ b. matches b.now s) c.loop-other.kept.items by at c.other-item.result (omega arith) (inv.same s i t));
-        known = rw (w.kept-is, w.in_ok-push.ensures.items) (All-push (λ b. IsKnown g b.now) c.loop-other.kept.items c.other-item.result inv.known known);
+        same = λ s i t. rw (
+          w.kept-is,
+          w.in_ok-push.ensures.items,
+          c.other-item.is,
+        ) (kept_push (λ b. matches b.now s) c.loop-other.kept.items by at c.other-item.result (omega arith)
+            (inv.same s i t));
+        known = rw (w.kept-is, w.in_ok-push.ensures.items)
+            (All-push (λ b. IsKnown g b.now) c.loop-other.kept.items c.other-item.result inv.known known);
         few = search rules;
       }
       | else-fits w ↦
@@ -43,17 +50,23 @@ loop-other-preserved c =
           let is_b : IsCube g b = record { rising = c.literals-literals.ensures.rising; known = known } in
           let some : budget_left (is_open g.faults) asked_of_literal g.faults a ≡ Some c.in-Some.left = search rules in
           let are : AreBounds a c.of-bounds.result.low c.of-bounds.result.high = search rules in
-          let unfit : is_some (budget_left (touches g.faults c.of-bounds.result.low c.of-bounds.result.high) (more_asked c.of-bounds.result.low) c.in-Some.left b) ≡ false = search rules in
-          let apart = sym (meet_from_fit g c.faults-k.ensures.within a is_a b is_b c.of-bounds.result.low c.of-bounds.result.high are c.in-Some.left some) ∙ unfit in
+          let unfit : is_some (budget_left (touches g.faults c.of-bounds.result.low c.of-bounds.result.high)
+          (more_asked c.of-bounds.result.low) c.in-Some.left b) ≡ false = search rules in
+          let apart = sym (meet_from_fit g c.faults-k.ensures.within a is_a b is_b c.of-bounds.result.low
+          c.of-bounds.result.high are c.in-Some.left some) ∙ unfit in
           record {
             same = λ s i t.
-                let off : matches b s ≡ false = sym (ap (λ m. m && matches b s) t) ∙ apart_from_meet g c.faults-k.ensures.within.few_processes a b is_a is_b apart s i in
-                rw w.kept-is (kept_skip (λ b. matches b.now s) c.loop-other.kept.items by at c.other-item.result (omega arith) (rw c.other-item.is at off) (inv.same s i t));
+                let off : matches b s ≡ false = sym (ap (λ m. m && matches b s) t)
+                ∙ apart_from_meet g c.faults-k.ensures.within.few_processes a b is_a is_b apart s i in
+                rw w.kept-is (kept_skip (λ b. matches b.now s) c.loop-other.kept.items by at c.other-item.result
+                (omega arith) (rw c.other-item.is at off) (inv.same s i t));
             known = rw w.kept-is inv.known;
             few = search rules;
           }
     ]
 
 pub returns-clause-same : goal.returns-clause-same
-returns-clause-same c s i = left_same (λ (b : Bor (List Literal)). b.now) c.loop-other.kept.items c.args.by.now c.args.cube.now s
-    (λ t. c.loop-other.invariant.same s i t ∙ ap (list_any (λ b. matches b.now s)) (take_all c.loop-other.other-index c.args.by.now (omega arith)))
+returns-clause-same c s i =
+    left_same (λ (b : Bor (List Literal)). b.now) c.loop-other.kept.items c.args.by.now c.args.cube.now s
+    (λ t. c.loop-other.invariant.same s i t
+    ∙ ap (list_any (λ b. matches b.now s)) (take_all c.loop-other.other-index c.args.by.now (omega arith)))

@@ -8,7 +8,8 @@ use Rattle.cpg_cover.proofs.cover.meeting.Given as goal
 
 abbrev pub invariant-loop-other : goal.invariant-loop-other
 invariant-loop-other l = record {
-  same : (s : Scenario) → IsScenario l.problem s → matches l.cube s ≡ true → list_any (λ b. matches b.now s) l.kept.items ≡ list_any (λ b. matches b.now s) (take l.other-index l.by);
+  same : (s : Scenario) → IsScenario l.problem s → matches l.cube s ≡ true →
+      list_any (λ b. matches b.now s) l.kept.items ≡ list_any (λ b. matches b.now s) (take l.other-index l.by);
   known : All (λ b. IsKnown l.problem b.now) l.kept.items;
   few : vec_len l.kept ≤ l.other-index;
 }

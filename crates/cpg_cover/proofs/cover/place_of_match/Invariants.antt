@@ -4,4 +4,5 @@ use Rattle.cpg_cube.specs.Cube.{matches}
 use Rattle.cpg_cover.proofs.cover.place_of_match.Given as goal
 
 abbrev pub invariant-loop-place : goal.invariant-loop-place
-invariant-loop-place l = list_any (λ b. matches b.now l.scenario) l.by ≡ list_any (λ b. matches b.now l.scenario) (drop l.place l.by)
+invariant-loop-place l =
+    list_any (λ b. matches b.now l.scenario) l.by ≡ list_any (λ b. matches b.now l.scenario) (drop l.place l.by)

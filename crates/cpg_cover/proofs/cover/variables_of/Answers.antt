@@ -9,7 +9,10 @@ use Rattle.cpg_cover.proofs.cover.variables_of.Goals.{then-marks-variable+in_ok-
 pub variables_along-requires : goal.variables_along-requires
 variables_along-requires c =
     let n = process_count c.args.problem.now in
-    record { order = subst (All (λ p. p < n)) (sym c.processes.ensures.processes) (within_order n c.args.order.now (rw c.requires at c.processes.ensures.order.all)) }
+    record {
+      order = subst (All (λ p. p < n)) (sym c.processes.ensures.processes)
+          (within_order n c.args.order.now (rw c.requires at c.processes.ensures.order.all));
+    }
 
 pub loop-variable-preserved : goal.loop-variable-preserved
 loop-variable-preserved c =
@@ -17,9 +20,12 @@ loop-variable-preserved c =
     let n = process_count g in
     let within : All (λ p. p < n) c.processes.result.now = subst (All (λ p. p < n)) (sym c.processes.ensures.processes)
     (within_order n c.args.order.now (rw c.requires at c.processes.ensures.order.all)) in
-    let all : All (IsVariable g) c.as_slice-variable-items.result.now = rw (c.as_slice-variable-items.ensures.value, c.in_ok-all.ensures) (variables_known g c.processes.result.now within) in
+    let all : All (IsVariable g) c.as_slice-variable-items.result.now =
+    rw (c.as_slice-variable-items.ensures.value, c.in_ok-all.ensures)
+    (variables_known g c.processes.result.now within) in
     elim c.if-marks-variable.branch [
       | then-marks-variable+in_ok-push w ↦ rw (w.variables-is, w.in_ok-push.ensures.items)
-          (All-push (IsVariable g) c.loop-variable.variables.items _ c.loop-variable.invariant (all c.loop-variable.variable-index 0 (omega arith)))
+          (All-push (IsVariable g) c.loop-variable.variables.items _ c.loop-variable.invariant
+          (all c.loop-variable.variable-index 0 (omega arith)))
       | else-marks-variable w ↦ rw w.variables-is c.loop-variable.invariant
     ]

@@ -23,6 +23,8 @@ returns c =
     let some : budget_left (is_open g.faults) asked_of_literal g.faults cube ≡ Some left = search rules in
     let needs : Needs c.add_over.new.cubes.items c.in_ok-few.few = rw c.as_slice.ensures.value at c.in_ok-few.ensures in
     OnTrue_from (nat_lt left c.in_ok-few.few) _ (λ b s i t.
-    is_covered g limits cube is low high are long left some s i t (λ (d : Bor (List Literal)). d.now) c.args.by.now c.add_over.new.cubes.items c.in_ok-few.few needs (ltb-true left c.in_ok-few.few b)
+    is_covered g limits cube is low high are long left some s i t (λ (d : Bor (List Literal)). d.now) c.args.by.now
+    c.add_over.new.cubes.items c.in_ok-few.few needs (ltb-true left c.in_ok-few.few b)
     (λ k. c.in_ok-cubes.ensures (number_of s) (is_on g limits cube is low high are long left some s i t)
-    (c.in_ok-add_over.ensures (number_of s) (rw c.literals-3.ensures.literals (is_narrow g limits cube is low high are long left some s i t)) k)))
+    (c.in_ok-add_over.ensures (number_of s)
+    (rw c.literals-3.ensures.literals (is_narrow g limits cube is low high are long left some s i t)) k)))

@@ -6,44 +6,61 @@ use Rattle.cpg_cover.proofs.fewest.+fewest.Goals as goal
 pub fewest_by_count-fewest_with-requires : goal.fewest_by_count-fewest_with-requires
 fewest_by_count-fewest_with-requires t c =
     let cubes = c.args.cubes.now in
-    let steps : Steps cubes c.args.variable false c.args.bound.budget c.in_ok-zero.zero.items = rw (c.none.ensures.variable, c.none.ensures.more) at c.in_ok-zero.ensures in
-    let needs : Needs c.in_ok-zero.zero.items c.in_ok-without.without = rw c.as_slice.ensures.value at c.in_ok-without.ensures in
-    (search rules, (c.requires, without_from cubes c.in_ok-zero.zero.items c.args.variable c.args.bound.budget c.in_ok-without.without steps needs))
+    let steps : Steps cubes c.args.variable false c.args.bound.budget c.in_ok-zero.zero.items =
+    rw (c.none.ensures.variable, c.none.ensures.more) at c.in_ok-zero.ensures in
+    let needs : Needs c.in_ok-zero.zero.items c.in_ok-without.without =
+    rw c.as_slice.ensures.value at c.in_ok-without.ensures in (
+      search rules,
+      (
+        c.requires,
+        without_from cubes c.in_ok-zero.zero.items c.args.variable c.args.bound.budget
+            c.in_ok-without.without steps needs,
+      ),
+    )
 
 pub fewest_by_parts-returns : goal.fewest_by_parts-returns
 fewest_by_parts-returns t c =
     let sum = c.saturating_add.ensures in
-    parts_from c.args.cubes.now c.in_ok-first.first.items c.in_ok-others.others.items c.args.joined.now c.in_ok-few.few c.in_ok-more.more c.saturating_add.result
+    parts_from c.args.cubes.now c.in_ok-first.first.items c.in_ok-others.others.items c.args.joined.now c.in_ok-few.few
+    c.in_ok-more.more c.saturating_add.result
     c.in_ok-first.ensures.marked c.in_ok-others.ensures.marked c.in_ok-first.ensures.kept c.in_ok-others.ensures.kept
-    (rw c.as_slice.ensures.value at c.in_ok-few.ensures) (rw c.as_slice-2.ensures.value at c.in_ok-more.ensures) (omega arith)
+    (rw c.as_slice.ensures.value at c.in_ok-few.ensures)
+    (rw c.as_slice-2.ensures.value at c.in_ok-more.ensures) (omega arith)
 
 pub fewest_by_value-returns : goal.fewest_by_value-returns
 fewest_by_value-returns t c =
     let cubes = c.args.cubes.now in
     let v = c.args.variable in
     let budget = c.args.bound.budget in
-    let off : Steps cubes v false budget c.in_ok-zero.zero.items = rw (c.none.ensures.variable, c.none.ensures.more) at c.in_ok-zero.ensures in
-    let on : Steps cubes v true budget c.in_ok-one.one.items = rw (c.more.ensures.variable, c.more.ensures.more) at c.in_ok-one.ensures in
+    let off : Steps cubes v false budget c.in_ok-zero.zero.items =
+    rw (c.none.ensures.variable, c.none.ensures.more) at c.in_ok-zero.ensures in
+    let on : Steps cubes v true budget c.in_ok-one.one.items =
+    rw (c.more.ensures.variable, c.more.ensures.more) at c.in_ok-one.ensures in
     let a = c.min-fewer.ensures in
     let b = c.saturating_add.ensures in
     let d = c.min.ensures in
-    value_from cubes c.in_ok-zero.zero.items c.in_ok-one.one.items v budget c.in_ok-without.without c.in_ok-with.with c.min.result c.requires
-    off (rw c.as_slice.ensures.value at c.in_ok-without.ensures) on (rw c.as_slice-2.ensures.value at c.in_ok-with.ensures) (omega arith) (omega arith) (omega arith)
+    value_from cubes c.in_ok-zero.zero.items c.in_ok-one.one.items v budget c.in_ok-without.without c.in_ok-with.with
+    c.min.result c.requires
+    off (rw c.as_slice.ensures.value at c.in_ok-without.ensures) on
+    (rw c.as_slice-2.ensures.value at c.in_ok-with.ensures) (omega arith) (omega arith) (omega arith)
 
 pub fewest_with-returns-then-most-eq0 : goal.fewest_with-returns-then-most-eq0
 fewest_with-returns-then-most-eq0 t c =
     let a = c.min.ensures in
-    count_without c.args.cubes.now c.args.variable c.args.bound.budget c.args.without c.min.result c.requires.count c.requires.without (omega arith) (omega arith)
+    count_without c.args.cubes.now c.args.variable c.args.bound.budget c.args.without c.min.result c.requires.count
+    c.requires.without (omega arith) (omega arith)
 
 pub fewest_with-returns : goal.fewest_with-returns
 fewest_with-returns t c =
     let cubes = c.args.cubes.now in
     let most = c.min-most.result in
-    let on : Steps cubes c.args.variable true (most - 1) c.in_ok-more.more.items = rw (c.more.ensures.variable, c.more.ensures.more) at c.in_ok-more.ensures in
+    let on : Steps cubes c.args.variable true (most - 1) c.in_ok-more.more.items =
+    rw (c.more.ensures.variable, c.more.ensures.more) at c.in_ok-more.ensures in
     let a = c.saturating_sub.ensures in
     let b = c.min-most.ensures in
     let d = c.saturating_add-few.ensures in
     let e = c.min-2.ensures in
-    count_from cubes c.in_ok-more.more.items c.args.variable c.args.bound.budget c.args.without most c.in_ok-with.with c.min-2.result c.requires.count c.requires.without (omega arith) (omega arith)
+    count_from cubes c.in_ok-more.more.items c.args.variable c.args.bound.budget c.args.without most c.in_ok-with.with
+    c.min-2.result c.requires.count c.requires.without (omega arith) (omega arith)
     (omega arith)
     on (rw c.as_slice.ensures.value at c.in_ok-with.ensures) (omega arith) (omega arith)

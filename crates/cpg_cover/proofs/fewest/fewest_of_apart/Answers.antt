@@ -16,9 +16,11 @@ loop-cube-preserved c =
           let sum = w.saturating_add-sum.ensures in
           let later = w.mark_all.new.marks in
           let more : AreMore item marks later = rw w.literals-then-are_all.ensures.literals at w.mark_all.ensures in
-          rw (w.marks-is, w.sum-is) (marked_more cubes item marks later c.loop-cube.sum c.fewest_of_cube-few.result w.saturating_add-sum.result inv
+          rw (w.marks-is, w.sum-is) (marked_more cubes item marks later c.loop-cube.sum c.fewest_of_cube-few.result
+          w.saturating_add-sum.result inv
           (λ n off. rw c.cube-item.is (one_is_off cubes at item (omega arith) n off)) c.fewest_of_cube-few.ensures
-          (rw w.literals.ensures.literals at (sym w.are_all.ensures ∙ w.if-are_all.true)) more.kept more.marked (omega arith))
+          (rw w.literals.ensures.literals at (sym w.are_all.ensures ∙ w.if-are_all.true)) more.kept
+          more.marked (omega arith))
       | else-few-gt0 w ↦ rw (w.marks-is, w.sum-is) inv
     ]
 

@@ -4,5 +4,6 @@ use Rattle.cpg_cover.proofs.fewest.fewest_of_cube.Goals as goal
 
 pub loop-literal-preserved : goal.loop-literal-preserved
 loop-literal-preserved c = rw c.min-fewest.ensures
-    (outside_more c.literals-literal-items.result.now c.loop-literal.literal-index _ c.loop-literal.fewest c.fewest_of_literal.result
+    (outside_more c.literals-literal-items.result.now c.loop-literal.literal-index _ c.loop-literal.fewest
+    c.fewest_of_literal.result
     (omega arith) c.loop-literal.invariant c.fewest_of_literal.ensures.count c.fewest_of_literal.ensures.fewest)

@@ -6,4 +6,5 @@ use Rattle.cpg_cover.proofs.frequency.by_frequency.Goals as goal
 pub returns : goal.returns
 returns c =
     let same : map (λ (r : LiteralRank). r.literal) c.in_ok-ranks.ranks.items ≡ c.args.literals.now = search rules in
-    rw (c.in_ok-ranked.ensures, c.as_slice.ensures.value, ← same) (IsPermutation-map (λ (r : LiteralRank). r.literal) _ _ c.sort_unstable.ensures.permutation)
+    rw (c.in_ok-ranked.ensures, c.as_slice.ensures.value, ← same)
+    (IsPermutation-map (λ (r : LiteralRank). r.literal) _ _ c.sort_unstable.ensures.permutation)

@@ -6,4 +6,5 @@ use Rattle.cpg_cover.proofs.memory.are_equal.Goals as goal
 pub loop-place-preserved : goal.loop-place-preserved
 loop-place-preserved c =
     let blank : Literal = record { variable = 0; low = 0; high = 0 } in
-    take_more_same c.args.literals.now c.args.others.now c.loop-place.place blank (omega arith) (omega arith) c.loop-place.invariant (search rules)
+    take_more_same c.args.literals.now c.args.others.now c.loop-place.place blank (omega arith)
+    (omega arith) c.loop-place.invariant (search rules)

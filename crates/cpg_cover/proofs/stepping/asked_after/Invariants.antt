@@ -3,4 +3,5 @@ use Rattle.cpg_cover.specs.Fewest.{IsStep, after, matches_at}
 use Rattle.cpg_cover.proofs.stepping.asked_after.Given as goal
 
 abbrev pub invariant-loop-literal : goal.invariant-loop-literal
-invariant-loop-literal l = (n : ℕ → ℕ) → IsStep l.step.variable l.step.more l.budget n → matches_at (after l.step.variable n) l.asked.items ≡ true → matches_at n (take l.literal-index l.literals) ≡ true
+invariant-loop-literal l = (n : ℕ → ℕ) → IsStep l.step.variable l.step.more l.budget n →
+    matches_at (after l.step.variable n) l.asked.items ≡ true → matches_at n (take l.literal-index l.literals) ≡ true

@@ -4,4 +4,5 @@ use Rattle.cpg_cube.specs.Bounds.{budget_left}
 use Rattle.cpg_cube.proofs.bounds.budget_left.Given as goal
 
 abbrev pub invariant-loop-literal : goal.invariant-loop-literal
-invariant-loop-literal l = budget_left (is_open l.k) asked_of_literal l.k l.literals ≡ budget_left (is_open l.k) asked_of_literal l.left (drop l.literal-index l.literals)
+invariant-loop-literal l = budget_left (is_open l.k) asked_of_literal l.k l.literals
+    ≡ budget_left (is_open l.k) asked_of_literal l.left (drop l.literal-index l.literals)

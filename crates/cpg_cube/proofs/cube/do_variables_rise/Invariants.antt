@@ -3,4 +3,5 @@ use Rattle.cpg_cube.specs.Rising.{rises_from}
 use Rattle.cpg_cube.proofs.cube.do_variables_rise.Given as goal
 
 abbrev pub invariant-loop-literal : goal.invariant-loop-literal
-invariant-loop-literal l = rises_from 0 l.literals ≡ (l.do_rise && rises_from (l.before + 1) (drop l.literal-index l.rest))
+invariant-loop-literal l =
+    rises_from 0 l.literals ≡ (l.do_rise && rises_from (l.before + 1) (drop l.literal-index l.rest))

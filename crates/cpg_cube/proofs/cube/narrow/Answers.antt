@@ -22,27 +22,35 @@ blank = record { variable = 0; low = 0; high = 0 }
 
 pub returns-then-other-literal-clause-narrowed : goal.returns-then-other-literal-clause-narrowed
 returns-then-other-literal-clause-narrowed c =
-    let e : position (from_variable c.args.literal.variable) c.args.literals.now.items ≡ Some c.in-Some.place = search rules in
+    let e : position (from_variable c.args.literal.variable) c.args.literals.now.items ≡ Some c.in-Some.place =
+    search rules in
     let xs = c.args.literals.now.items in
     let other = slice_index_or xs c.in-Some.place blank in
-    let written : slice_set c.as_mut_slice.result.now c.in-Some.place c.met.result ≡ slice_set xs c.in-Some.place (meet_literal c.args.literal other) =
+    let written : slice_set c.as_mut_slice.result.now c.in-Some.place c.met.result
+    ≡ slice_set xs c.in-Some.place (meet_literal c.args.literal other) =
     rw (c.met.ensures, c.as_slice-2.ensures, c.as_mut_slice.ensures.value) refl in
     rw written (items-with_items c.args.literals.now _ (length-set xs c.in-Some.place _))
-    ∙ sym (narrowed-set c.args.literal xs c.in-Some.place blank (place_found c.args.literal.variable xs c.in-Some.place e) (rw c.as_slice-2.ensures at c.if-other-literal.true))
+    ∙ sym (narrowed-set c.args.literal xs c.in-Some.place blank
+    (place_found c.args.literal.variable xs c.in-Some.place e) (rw c.as_slice-2.ensures at c.if-other-literal.true))
 
 pub returns-then-other-literal-clause-undo : goal.returns-then-other-literal-clause-undo
 returns-then-other-literal-clause-undo c =
     let xs = c.args.literals.now.items in
     let within : c.in-Some.place < length xs = search rules in
-    let there : slice_index_or c.as_slice-2.result.now c.in-Some.place blank ≡ slice_index_or xs c.in-Some.place blank = rw c.as_slice-2.ensures refl in
-    let written : slice_set c.as_mut_slice.result.now c.in-Some.place c.met.result ≡ slice_set xs c.in-Some.place c.met.result = rw c.as_mut_slice.ensures.value refl in
-    undo_set c.met.result xs _ c.in-Some.place _ blank within there (rw written (items-with_items c.args.literals.now _ (length-set xs c.in-Some.place _)))
+    let there : slice_index_or c.as_slice-2.result.now c.in-Some.place blank ≡ slice_index_or xs c.in-Some.place blank =
+    rw c.as_slice-2.ensures refl in
+    let written : slice_set c.as_mut_slice.result.now c.in-Some.place c.met.result
+    ≡ slice_set xs c.in-Some.place c.met.result = rw c.as_mut_slice.ensures.value refl in
+    undo_set c.met.result xs _ c.in-Some.place _ blank within there
+    (rw written (items-with_items c.args.literals.now _ (length-set xs c.in-Some.place _)))
 
 pub returns-clause-narrowed : goal.returns-clause-narrowed
 returns-clause-narrowed c =
-    let e : position (from_variable c.args.literal.variable) c.args.literals.now.items ≡ Some c.in-Some.place = search rules in
+    let e : position (from_variable c.args.literal.variable) c.args.literals.now.items ≡ Some c.in-Some.place =
+    search rules in
     let xs = c.args.literals.now.items in
-    c.in_ok-insert.ensures.ok ∙ sym (narrowed-in c.args.literal xs c.in-Some.place blank (place_found c.args.literal.variable xs c.in-Some.place e)
+    c.in_ok-insert.ensures.ok ∙ sym
+    (narrowed-in c.args.literal xs c.in-Some.place blank (place_found c.args.literal.variable xs c.in-Some.place e)
     (rw c.as_slice-2.ensures at c.if-other-literal.false))
 
 pub returns-clause-undo : goal.returns-clause-undo
@@ -58,10 +66,13 @@ pub returns-then-other-literal-clause-on : goal.returns-then-other-literal-claus
 returns-then-other-literal-clause-on c =
     let xs = c.args.literals.now.items in
     let within : c.in-Some.place < length xs = search rules in
-    let same : (slice_index_or c.as_slice-2.result.now c.in-Some.place blank).variable ≡ c.args.literal.variable = c.if-other-literal.true in
+    let same : (slice_index_or c.as_slice-2.result.now c.in-Some.place blank).variable ≡ c.args.literal.variable =
+    c.if-other-literal.true in
     let met : c.met.result.variable ≡ c.args.literal.variable = ap (λ (m : Literal). m.variable) c.met.ensures ∙ same in
-    let written : slice_set c.as_mut_slice.result.now c.in-Some.place c.met.result ≡ slice_set xs c.in-Some.place c.met.result = rw c.as_mut_slice.ensures.value refl in
-    on_set c.met.result xs _ c.in-Some.place c.args.literal.variable _ within same met (rw written (items-with_items c.args.literals.now _ (length-set xs c.in-Some.place _)))
+    let written : slice_set c.as_mut_slice.result.now c.in-Some.place c.met.result
+    ≡ slice_set xs c.in-Some.place c.met.result = rw c.as_mut_slice.ensures.value refl in
+    on_set c.met.result xs _ c.in-Some.place c.args.literal.variable _ within same met
+    (rw written (items-with_items c.args.literals.now _ (length-set xs c.in-Some.place _)))
 
 pub returns-clause-on : goal.returns-clause-on
 returns-clause-on c =

@@ -6,7 +6,8 @@ use Rattle.cpg_cube.proofs.cube.put.Goals as goal
 
 pub returns-then-is_above-clause-narrowed : goal.returns-then-is_above-clause-narrowed
 returns-then-is_above-clause-narrowed c =
-    let under : All (λ (l : Literal). l.variable < c.args.literal.variable) c.args.literals.now.items = rw c.as_slice.ensures at c.if-is_above.ensures in
+    let under : All (λ (l : Literal). l.variable < c.args.literal.variable) c.args.literals.now.items =
+    rw c.as_slice.ensures at c.if-is_above.ensures in
     c.in_ok-push.ensures.ok ∙ sym (narrowed_above c.args.literal c.args.literals.now.items under)
 
 pub returns-then-is_above-clause-undo : goal.returns-then-is_above-clause-undo

@@ -1,4 +1,5 @@
-use Rattle.std.proofs.Common.{ℕ, ◌<◌, ◌≤◌, ◌≡◌, ◌≢◌, ◌∙◌, List, All, length, map, get_or, IsPermutation, arith, sym, ap, subst, rules}
+use Rattle.std.proofs.Common.{ℕ, ◌<◌, ◌≤◌, ◌≡◌, ◌≢◌, ◌∙◌, List, All, length, map, get_or, IsPermutation, arith, sym, ap}
+use Rattle.std.proofs.Common.{subst, rules}
 use Rattle.std.specs.List.{AllPairs}
 use Rattle.std.specs.List.Sorted.{IsSortedBy}
 use Rattle.std.proofs.lemmas.Fn.{always_returns_same}
@@ -13,17 +14,25 @@ use Rattle.cpg_cube.proofs.KeyPlaces.{variables_apart}
 use Rattle.cpg_cube.proofs.sorting.by_least_scenario.Goals as goal
 
 pub variables_along-requires : goal.variables_along-requires
-variables_along-requires g c = let n = process_count c.args.problem.now in record { order = subst (All (λ p. p < n)) (sym c.processes.ensures.processes) (within_order n c.args.order.now c.requires) }
+variables_along-requires g c = let n = process_count c.args.problem.now in record {
+  order = subst (All (λ p. p < n)) (sym c.processes.ensures.processes) (within_order n c.args.order.now c.requires);
+}
 
 pub with_keys-requires : goal.with_keys-requires
 with_keys-requires g c =
     let problem = c.args.problem.now in
     let order = c.args.order.now in
-    let few : length order ≤ 128 = omega (arith, length_order (process_count problem) order c.requires, c.processes-processes.ensures.within.few_processes) in
-    let along : c.as_slice.result.now ≡ variables_along problem order = c.as_slice.ensures.value ∙ c.in_ok-variables.ensures ∙ ap (variables_along problem) c.processes.ensures.processes in
+    let few : length order ≤ 128 = omega (
+      arith,
+      length_order (process_count problem) order c.requires,
+      c.processes-processes.ensures.within.few_processes,
+    ) in
+    let along : c.as_slice.result.now ≡ variables_along problem order = c.as_slice.ensures.value
+    ∙ c.in_ok-variables.ensures ∙ ap (variables_along problem) c.processes.ensures.processes in
     record {
       few = subst (λ (vs : List ℕ). length vs ≤ 256) (sym along) (few_variables problem order few);
-      apart = subst (AllPairs (λ u v. u ≢ v)) (sym along) (variables_apart problem c.processes-processes.ensures.within.few_processes order c.requires);
+      apart = subst (AllPairs (λ u v. u ≢ v)) (sym along)
+          (variables_apart problem c.processes-processes.ensures.within.few_processes order c.requires);
     }
 
 pub returns-clause-permutation : goal.returns-clause-permutation
@@ -34,7 +43,8 @@ returns-clause-permutation g c =
     let columns = c.args.columns.items in
     IfOk-weaker _ (λ r. r.items ≡ map column after) (λ r. IsPermutation columns r.items)
     (λ r e. subst (IsPermutation columns) (sym e)
-    (subst (λ (xs : List g.row.T.Denot). IsPermutation xs (map column after)) c.in_ok-ranked.ensures.columns (IsPermutation-map column before after c.sort_unstable_by.ensures.permutation)))
+    (subst (λ (xs : List g.row.T.Denot). IsPermutation xs (map column after)) c.in_ok-ranked.ensures.columns
+    (IsPermutation-map column before after c.sort_unstable_by.ensures.permutation)))
     (search rules)
 
 pub returns-clause-by_lows : goal.returns-clause-by_lows
@@ -44,10 +54,17 @@ returns-clause-by_lows g c =
     let after = c.sort_unstable_by.new.self.items in
     let problem = c.args.problem.now in
     let order = c.args.order.now in
-    let few : length order ≤ 128 = omega (arith, length_order (process_count problem) order c.requires, c.processes-processes.ensures.within.few_processes) in
-    let along : c.as_slice.result.now ≡ variables_along problem order = c.as_slice.ensures.value ∙ c.in_ok-variables.ensures ∙ ap (variables_along problem) c.processes.ensures.processes in
-    let up : IsSortedBy is_key_below after = c.sort_unstable_by.ensures.sorted is_key_below is_total (always_returns_same _ _ _ (λ a r f k. search rules)) in
+    let few : length order ≤ 128 = omega (
+      arith,
+      length_order (process_count problem) order c.requires,
+      c.processes-processes.ensures.within.few_processes,
+    ) in
+    let along : c.as_slice.result.now ≡ variables_along problem order = c.as_slice.ensures.value
+    ∙ c.in_ok-variables.ensures ∙ ap (variables_along problem) c.processes.ensures.processes in
+    let up : IsSortedBy is_key_below after =
+    c.sort_unstable_by.ensures.sorted is_key_below is_total (always_returns_same _ _ _ (λ a r f k. search rules)) in
     IfOk-weaker _ (λ r. r.items ≡ map column after) (λ r. AreByLows g.T.Cubed.cubed problem order r.items)
-    (λ r e. subst (AreByLows g.T.Cubed.cubed problem order) (sym e) (by_lows g.T.Cubed.cubed problem order c.as_slice.result.now few along before after
+    (λ r e. subst (AreByLows g.T.Cubed.cubed problem order) (sym e)
+    (by_lows g.T.Cubed.cubed problem order c.as_slice.result.now few along before after
     c.in_ok-ranked.ensures.keys c.sort_unstable_by.ensures.permutation up))
     (search rules)

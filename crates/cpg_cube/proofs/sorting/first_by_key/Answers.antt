@@ -10,10 +10,12 @@ loop-place-init g c =
     let columns = c.args.columns.now in
     let variables = c.args.variables.now in
     let within : 0 < length columns = grind (arith, common_steps) in
-    let of_first : (d : g.row.T.Denot) → c.cube.result.now ≡ g.T.Cubed.cubed (get_or columns 0 d) = λ d. c.cube.ensures ∙
+    let of_first : (d : g.row.T.Denot) → c.cube.result.now ≡ g.T.Cubed.cubed (get_or columns 0 d) =
+    λ d. c.cube.ensures ∙
     ap g.T.Cubed.cubed (c.index-columns-0.is ∙ get_or_default columns 0 c.index-columns-0.result d within) in
     record {
-      first = first_alone g.T.Cubed.cubed columns variables (λ d. subst AreBytes (of_first d) c.in_ok-key.ensures.bytes);
+      first =
+          first_alone g.T.Cubed.cubed columns variables (λ d. subst AreBytes (of_first d) c.in_ok-key.ensures.bytes);
       key = λ d. c.in_ok-key.ensures.key variables c.places_of-places.ensures ∙ ap (key_by variables) (of_first d);
     }
 
@@ -23,14 +25,22 @@ loop-place-preserved g c =
     let variables = c.args.variables.now in
     let n = c.loop-place.place in
     let within : n < length columns = omega (arith, c.loop-place-test.true) in
-    best_next g.T.Cubed.cubed columns variables n c.loop-place.best (record { key = c.in_ok-key-2.key; place = n }) c.loop-place.invariant refl
+    best_next g.T.Cubed.cubed columns variables n c.loop-place.best
+    (record { key = c.in_ok-key-2.key; place = n }) c.loop-place.invariant refl
     (λ d.
     let is : c.cube-in-loop-place.result.now ≡ g.T.Cubed.cubed (get_or columns n d) = c.cube-in-loop-place.ensures ∙
     ap g.T.Cubed.cubed (c.index-columns-place.is ∙ get_or_default columns n c.index-columns-place.result d within) in
-    record { is = c.in_ok-key-2.ensures.key variables c.places_of-places.ensures ∙ ap (key_by variables) is; bytes = subst AreBytes is c.in_ok-key-2.ensures.bytes })
+    record {
+      is = c.in_ok-key-2.ensures.key variables c.places_of-places.ensures ∙ ap (key_by variables) is;
+      bytes = subst AreBytes is c.in_ok-key-2.ensures.bytes;
+    })
     c.lesser-best.result c.lesser-best.ensures
 
 pub returns-clause-first : goal.returns-clause-first
 returns-clause-first g c =
     let h = c.loop-place.invariant.first in
-    record { there = search rules; first = λ j d l. h.first j d (omega (arith, l)); bytes = λ j d l. h.bytes j d (omega (arith, l)) }
+    record {
+      there = search rules;
+      first = λ j d l. h.first j d (omega (arith, l));
+      bytes = λ j d l. h.bytes j d (omega (arith, l));
+    }

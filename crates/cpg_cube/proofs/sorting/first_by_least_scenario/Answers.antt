@@ -9,17 +9,25 @@ use Rattle.cpg_cube.proofs.KeyPlaces.{variables_apart}
 use Rattle.cpg_cube.proofs.sorting.first_by_least_scenario.Goals as goal
 
 pub variables_along-requires : goal.variables_along-requires
-variables_along-requires g c = let n = process_count c.args.problem.now in record { order = subst (All (λ p. p < n)) (sym c.processes.ensures.processes) (within_order n c.args.order.now c.requires) }
+variables_along-requires g c = let n = process_count c.args.problem.now in record {
+  order = subst (All (λ p. p < n)) (sym c.processes.ensures.processes) (within_order n c.args.order.now c.requires);
+}
 
 pub first_by_key-requires : goal.first_by_key-requires
 first_by_key-requires g c =
     let problem = c.args.problem.now in
     let order = c.args.order.now in
-    let few : length order ≤ 128 = omega (arith, length_order (process_count problem) order c.requires, c.processes-processes.ensures.within.few_processes) in
-    let along : c.as_slice.result.now ≡ variables_along problem order = c.as_slice.ensures.value ∙ c.in_ok-variables.ensures ∙ ap (variables_along problem) c.processes.ensures.processes in
+    let few : length order ≤ 128 = omega (
+      arith,
+      length_order (process_count problem) order c.requires,
+      c.processes-processes.ensures.within.few_processes,
+    ) in
+    let along : c.as_slice.result.now ≡ variables_along problem order = c.as_slice.ensures.value
+    ∙ c.in_ok-variables.ensures ∙ ap (variables_along problem) c.processes.ensures.processes in
     record {
       few = subst (λ (vs : List ℕ). length vs ≤ 256) (sym along) (few_variables problem order few);
-      apart = subst (AllPairs (λ u v. u ≢ v)) (sym along) (variables_apart problem c.processes-processes.ensures.within.few_processes order c.requires);
+      apart = subst (AllPairs (λ u v. u ≢ v)) (sym along)
+          (variables_apart problem c.processes-processes.ensures.within.few_processes order c.requires);
     }
 
 pub returns-clause-first : goal.returns-clause-first
@@ -28,7 +36,13 @@ returns-clause-first g c =
     let order = c.args.order.now in
     let columns = c.args.columns.now in
     let variables = c.as_slice.result.now in
-    let few : length order ≤ 128 = omega (arith, length_order (process_count problem) order c.requires, c.processes-processes.ensures.within.few_processes) in
-    let along : variables ≡ variables_along problem order = c.as_slice.ensures.value ∙ c.in_ok-variables.ensures ∙ ap (variables_along problem) c.processes.ensures.processes in
-    IfSome_then c.in_ok-place.place {P = IsFirstByKeys g.T.Cubed.cubed variables (length columns) columns} {Q = IsFirstByLows g.T.Cubed.cubed problem order columns} c.in_ok-place.ensures.first
+    let few : length order ≤ 128 = omega (
+      arith,
+      length_order (process_count problem) order c.requires,
+      c.processes-processes.ensures.within.few_processes,
+    ) in
+    let along : variables ≡ variables_along problem order = c.as_slice.ensures.value ∙ c.in_ok-variables.ensures
+    ∙ ap (variables_along problem) c.processes.ensures.processes in
+    IfSome_then c.in_ok-place.place {P = IsFirstByKeys g.T.Cubed.cubed variables (length columns) columns}
+    {Q = IsFirstByLows g.T.Cubed.cubed problem order columns} c.in_ok-place.ensures.first
     (first_by_lows g.T.Cubed.cubed columns problem order variables few along)

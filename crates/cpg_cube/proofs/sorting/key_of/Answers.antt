@@ -13,16 +13,20 @@ loop-block-preserved c =
     let rest = c.in-Some.rest.now in
     let parted : c.loop-block.left.now ≡ block ++ rest = search rules in
     record {
-      key = old.key ∙ ap (λ ls. with_lows_of places ls c.loop-block.key.items) parted ∙ lows_after places block rest c.loop-block.key.items
+      key = old.key ∙ ap (λ ls. with_lows_of places ls c.loop-block.key.items) parted
+          ∙ lows_after places block rest c.loop-block.key.items
           ∙ ap (with_lows_of places rest) (sym c.in_ok-put_block.ensures.key);
-      bytes = λ later. old.bytes (subst AreBytes (sym parted) (All-append (λ (l : Literal). l.low < 256) block rest c.in_ok-put_block.ensures.bytes later));
+      bytes = λ later. old.bytes (subst AreBytes (sym parted)
+          (All-append (λ (l : Literal). l.low < 256) block rest c.in_ok-put_block.ensures.bytes later));
     }
 
 pub returns-clause-key : goal.returns-clause-key
 returns-clause-key c variables are =
     let bytes : AreBytes c.args.cube.now = c.loop-block.invariant.bytes c.in_ok-put_lows_of.ensures.bytes in
-    let made : with_lows_of c.args.places.now c.args.cube.now [] ≡ c.put_lows_of.new.key.items = c.loop-block.invariant.key ∙ sym c.in_ok-put_lows_of.ensures.key in
-    key_made variables c.args.places.now are c.args.cube.now bytes c.literals-left.ensures.rising c.put_lows_of.new.key.items made
+    let made : with_lows_of c.args.places.now c.args.cube.now [] ≡ c.put_lows_of.new.key.items =
+    c.loop-block.invariant.key ∙ sym c.in_ok-put_lows_of.ensures.key in
+    key_made variables c.args.places.now are c.args.cube.now bytes c.literals-left.ensures.rising
+    c.put_lows_of.new.key.items made
 
 pub returns-clause-bytes : goal.returns-clause-bytes
 returns-clause-bytes c = c.loop-block.invariant.bytes c.in_ok-put_lows_of.ensures.bytes

@@ -3,7 +3,9 @@ use Rattle.cpg_cube.proofs.KeyPlaces.{place_here, place_next}
 use Rattle.cpg_cube.proofs.sorting.place_in.Goals as goal
 
 pub returns-then-key-place : goal.returns-then-key-place
-returns-then-key-place c = place_here c.args.number c.loop-place.place _ c.args.key.now (omega arith) (search rules) c.loop-place.invariant
+returns-then-key-place c =
+    place_here c.args.number c.loop-place.place _ c.args.key.now (omega arith) (search rules) c.loop-place.invariant
 
 pub loop-place-preserved : goal.loop-place-preserved
-loop-place-preserved c = place_next c.args.number c.loop-place.place _ c.args.key.now (omega arith) (search rules) c.loop-place.invariant
+loop-place-preserved c =
+    place_next c.args.number c.loop-place.place _ c.args.key.now (omega arith) (search rules) c.loop-place.invariant

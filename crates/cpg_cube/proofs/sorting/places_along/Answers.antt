@@ -8,21 +8,30 @@ use Rattle.cpg_cube.proofs.KeyPlaces.{variables_apart}
 use Rattle.cpg_cube.proofs.sorting.places_along.Goals as goal
 
 pub variables_along-requires : goal.variables_along-requires
-variables_along-requires c = let n = process_count c.args.problem.now in record { order = subst (All (λ p. p < n)) (sym c.processes.ensures.processes) (within_order n c.args.order.now c.requires) }
+variables_along-requires c = let n = process_count c.args.problem.now in record {
+  order = subst (All (λ p. p < n)) (sym c.processes.ensures.processes) (within_order n c.args.order.now c.requires);
+}
 
 pub places_of-requires : goal.places_of-requires
 places_of-requires c =
     let problem = c.args.problem.now in
     let order = c.args.order.now in
-    let few : length order ≤ 128 = omega (arith, length_order (process_count problem) order c.requires, c.processes-processes.ensures.within.few_processes) in
-    let along : c.as_slice.result.now ≡ variables_along problem order = c.as_slice.ensures.value ∙ c.in_ok-variables.ensures ∙ ap (variables_along problem) c.processes.ensures.processes in
+    let few : length order ≤ 128 = omega (
+      arith,
+      length_order (process_count problem) order c.requires,
+      c.processes-processes.ensures.within.few_processes,
+    ) in
+    let along : c.as_slice.result.now ≡ variables_along problem order = c.as_slice.ensures.value
+    ∙ c.in_ok-variables.ensures ∙ ap (variables_along problem) c.processes.ensures.processes in
     record {
       few = subst (λ (vs : List ℕ). length vs ≤ 256) (sym along) (few_variables problem order few);
-      apart = subst (AllPairs (λ u v. u ≢ v)) (sym along) (variables_apart problem c.processes-processes.ensures.within.few_processes order c.requires);
+      apart = subst (AllPairs (λ u v. u ≢ v)) (sym along)
+          (variables_apart problem c.processes-processes.ensures.within.few_processes order c.requires);
     }
 
 pub returns : goal.returns
 returns c =
     let problem = c.args.problem.now in
-    let along : c.as_slice.result.now ≡ variables_along problem c.args.order.now = c.as_slice.ensures.value ∙ c.in_ok-variables.ensures ∙ ap (variables_along problem) c.processes.ensures.processes in
+    let along : c.as_slice.result.now ≡ variables_along problem c.args.order.now = c.as_slice.ensures.value
+    ∙ c.in_ok-variables.ensures ∙ ap (variables_along problem) c.processes.ensures.processes in
     subst (λ vs. ArePlaces vs c.places_of.result) along c.places_of.ensures

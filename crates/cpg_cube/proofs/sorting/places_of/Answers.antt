@@ -14,5 +14,6 @@ loop-variable-preserved c =
     record {
       left = omega (arith, i.left, within, c.requires.few);
       long = search rules;
-      places = places_more c.args.variables.now c.requires.apart c.loop-variable.variable-index 0 c.loop-variable.left within i.left c.loop-variable.places i.long small i.places;
+      places = places_more c.args.variables.now c.requires.apart c.loop-variable.variable-index 0 c.loop-variable.left
+          within i.left c.loop-variable.places i.long small i.places;
     }

@@ -13,8 +13,10 @@ loop-literal-preserved c =
     let old = c.loop-literal.invariant in
     record {
       key = grind (arith, common_steps);
-      bytes = subst AreBytes (sym (take_more literals i _ (omega arith))) (All-push (λ (l : Literal). l.low < 256) (take i literals) _ old.bytes c.put_low_of.ensures.byte);
+      bytes = subst AreBytes (sym (take_more literals i _ (omega arith)))
+          (All-push (λ (l : Literal). l.low < 256) (take i literals) _ old.bytes c.put_low_of.ensures.byte);
     }
 
 pub returns-clause-bytes : goal.returns-clause-bytes
-returns-clause-bytes c = subst AreBytes (take_all c.loop-literal.literal-index c.args.literals.now (omega arith)) c.loop-literal.invariant.bytes
+returns-clause-bytes c = subst AreBytes
+    (take_all c.loop-literal.literal-index c.args.literals.now (omega arith)) c.loop-literal.invariant.bytes

@@ -4,6 +4,7 @@ use Rattle.cpg_cube.proofs.sorting.put_lows_of.Given as goal
 
 abbrev pub invariant-loop-literal : goal.invariant-loop-literal
 invariant-loop-literal l = record {
-  key : with_lows_of l.places l.literals l.fn.key.items ≡ with_lows_of l.places (drop l.literal-index l.literals) l.key.items;
+  key : with_lows_of l.places l.literals l.fn.key.items
+      ≡ with_lows_of l.places (drop l.literal-index l.literals) l.key.items;
   bytes : AreBytes (take l.literal-index l.literals);
 }

@@ -10,4 +10,5 @@ returns c =
     let at : c.place_in-place.result ≡ place_in c.args.number key = search rules in
     let one : c.insert.new.self.items ≡ insert key c.place_in-place.result c.args.number = search rules in
     let within : c.place_in-place.result ≤ length key = omega arith in
-    one ∙ insert_at key c.place_in-place.result c.args.number within ∙ ap (λ (n : ℕ). take n key ++ c.args.number ∷ drop n key) at
+    one ∙ insert_at key c.place_in-place.result c.args.number within
+    ∙ ap (λ (n : ℕ). take n key ++ c.args.number ∷ drop n key) at

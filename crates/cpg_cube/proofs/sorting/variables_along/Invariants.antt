@@ -3,4 +3,5 @@ use Rattle.cpg_cube.specs.Keys.{variables_along}
 use Rattle.cpg_cube.proofs.sorting.variables_along.Given as goal
 
 abbrev pub invariant-loop-process : goal.invariant-loop-process
-invariant-loop-process l = variables_along l.problem l.order ≡ l.variables.items ++ variables_along l.problem (drop l.process-index l.order)
+invariant-loop-process l =
+    variables_along l.problem l.order ≡ l.variables.items ++ variables_along l.problem (drop l.process-index l.order)

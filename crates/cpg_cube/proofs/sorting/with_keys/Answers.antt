@@ -14,7 +14,8 @@ loop-column-preserved g c =
       columns = grind (arith, common_steps);
       keys = subst (All has_key) (sym c.in_ok-push.ensures.items) (All-push has_key c.loop-column.ranked.items _ i.keys
           (record {
-            is = c.in_ok-key.ensures.key c.args.variables.now c.places_of-places.ensures ∙ ap (λ (ls : List Literal). key_by c.args.variables.now ls) c.cube.ensures;
+            is = c.in_ok-key.ensures.key c.args.variables.now c.places_of-places.ensures
+                ∙ ap (λ (ls : List Literal). key_by c.args.variables.now ls) c.cube.ensures;
             bytes = subst AreBytes c.cube.ensures c.in_ok-key.ensures.bytes;
           }));
     }
@@ -24,7 +25,9 @@ loop-column-init g c =
     let none : c.reserve.new.self.items ≡ [] = c.in_ok-reserve.ensures.items ∙ c.new-ranked.ensures.items in
     record {
       columns = search rules;
-      keys = subst (All (λ (x : Ranked g.row.T.Denot). IsKeyOf c.args.variables.now (g.T.Cubed.cubed x.column) x.key.items)) (sym none) (λ k d l. absurd (omega (arith, l)));
+      keys = subst
+          (All (λ (x : Ranked g.row.T.Denot). IsKeyOf c.args.variables.now (g.T.Cubed.cubed x.column) x.key.items))
+          (sym none) (λ k d l. absurd (omega (arith, l)));
     }
 
 pub returns-clause-columns : goal.returns-clause-columns

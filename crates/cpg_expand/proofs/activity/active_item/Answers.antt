@@ -10,21 +10,30 @@ pub returns-then-item-processes-clause-active : goal.returns-then-item-processes
 returns-then-item-processes-clause-active c =
     let same = c.problem-problem.ensures.problem in
     let p = c.producer-process.result in
-    let tree : c.guard_of-guard.result.now ≡ tree_of c.args.admitted.now.guards p = c.guard_of-guard.ensures.tree ∙ ap (λ guards. tree_of guards p) c.guards.ensures.guards in
-    let chosen = subst (λ (g : Graph). IsActiveTree g.faults c.guard_of-guard.result.now c.in_ok-producing.producing) same c.in_ok-producing.ensures.active in
+    let tree : c.guard_of-guard.result.now ≡ tree_of c.args.admitted.now.guards p =
+    c.guard_of-guard.ensures.tree ∙ ap (λ guards. tree_of guards p) c.guards.ensures.guards in
+    let chosen = subst (λ (g : Graph). IsActiveTree g.faults c.guard_of-guard.result.now c.in_ok-producing.producing)
+    same c.in_ok-producing.ensures.active in
     let within = subst (λ (g : Graph). p < process_count g) same c.producer-process.ensures.within in
-    start_activity c.args.admitted.now.graph c.args.admitted.now.order c.args.admitted.now.guards c.problem-problem.ensures.admitted c.guard_of-guard.result.now p within tree
+    start_activity c.args.admitted.now.graph c.args.admitted.now.order c.args.admitted.now.guards
+    c.problem-problem.ensures.admitted c.guard_of-guard.result.now p within tree
     c.in_ok-producing.producing chosen
-    c.args.item (omega (arith, c.if-item-processes.true, ap length c.processes.ensures.processes, ap process_count same)) (c.producer-process.ensures.producer ∙ ap (λ g. producer g c.args.item) same)
+    c.args.item
+    (omega (arith, c.if-item-processes.true, ap length c.processes.ensures.processes, ap process_count same))
+    (c.producer-process.ensures.producer ∙ ap (λ g. producer g c.args.item) same)
 
 pub returns-clause-active : goal.returns-clause-active
 returns-clause-active c =
     let same = c.problem-problem.ensures.problem in
     let p = c.producer-process.result in
-    let tree : c.guard_of-guard.result.now ≡ tree_of c.args.admitted.now.guards p = c.guard_of-guard.ensures.tree ∙ ap (λ guards. tree_of guards p) c.guards.ensures.guards in
-    let chosen = subst (λ (g : Graph). IsActiveTree g.faults c.guard_of-guard.result.now c.in_ok-producing.producing) same c.in_ok-producing.ensures.active in
+    let tree : c.guard_of-guard.result.now ≡ tree_of c.args.admitted.now.guards p =
+    c.guard_of-guard.ensures.tree ∙ ap (λ guards. tree_of guards p) c.guards.ensures.guards in
+    let chosen = subst (λ (g : Graph). IsActiveTree g.faults c.guard_of-guard.result.now c.in_ok-producing.producing)
+    same c.in_ok-producing.ensures.active in
     let within = subst (λ (g : Graph). p < process_count g) same c.producer-process.ensures.within in
-    let goes = subst (λ (g : Graph). IsGoesTree g c.args.item c.in_ok-producing.producing c.in_ok-goes.goes) same c.in_ok-goes.ensures.goes in
-    sent_activity c.args.admitted.now.graph c.args.admitted.now.order c.args.admitted.now.guards c.problem-problem.ensures.admitted c.guard_of-guard.result.now p within tree
+    let goes = subst (λ (g : Graph). IsGoesTree g c.args.item c.in_ok-producing.producing c.in_ok-goes.goes) same
+    c.in_ok-goes.ensures.goes in
+    sent_activity c.args.admitted.now.graph c.args.admitted.now.order c.args.admitted.now.guards
+    c.problem-problem.ensures.admitted c.guard_of-guard.result.now p within tree
     c.in_ok-producing.producing chosen
     c.args.item (c.producer-process.ensures.producer ∙ ap (λ g. producer g c.args.item) same) c.in_ok-goes.goes goes

@@ -12,7 +12,12 @@ returns-clause-begun c =
       chooser_tree = b.chooser_tree;
       actives = b.actives;
       start = b.start;
-      starts = inl (subst (λ (g : Graph). is_frozen g c.args.process ≡ false) c.problem.ensures.problem (sym c.is_frozen.ensures ∙ c.if-is_frozen.false), refl, b.starts);
+      starts = inl (
+        subst (λ (g : Graph). is_frozen g c.args.process ≡ false) c.problem.ensures.problem
+            (sym c.is_frozen.ensures ∙ c.if-is_frozen.false),
+        refl,
+        b.starts,
+      );
       end = b.end;
       ends = b.ends;
       ready = b.ready;
@@ -26,15 +31,21 @@ returns-in_err-active-clause-fault c =
     let g = c.args.admitted.now.graph in
     let p = c.args.process in
     let f = c.args.forest.now in
-    let frozen : is_frozen g p ≡ true = subst (λ (k : Graph). is_frozen k p ≡ true) c.problem.ensures.problem (sym c.is_frozen.ensures ∙ c.if-is_frozen.true) in
-    handed_as (IsLargeFrozen g c.args.order.now p f (tree_of c.args.admitted.now.guards p)) (IsLargeBegun g c.args.order.now c.args.admitted.now.guards p f) f.wide
-    c.from_residual.result c.in_err-active.field-0.0 c.from_residual.ensures.1 (λ x. inr (frozen, x)) c.in_err-active.ensures.fault
+    let frozen : is_frozen g p ≡ true = subst (λ (k : Graph). is_frozen k p ≡ true) c.problem.ensures.problem
+    (sym c.is_frozen.ensures ∙ c.if-is_frozen.true) in
+    handed_as (IsLargeFrozen g c.args.order.now p f (tree_of c.args.admitted.now.guards p))
+    (IsLargeBegun g c.args.order.now c.args.admitted.now.guards p f) f.wide
+    c.from_residual.result c.in_err-active.field-0.0 c.from_residual.ensures.1
+    (λ x. inr (frozen, x)) c.in_err-active.ensures.fault
 
 pub returns-in_err-active-2-clause-fault : goal.returns-in_err-active-2-clause-fault
 returns-in_err-active-2-clause-fault c =
     let g = c.args.admitted.now.graph in
     let p = c.args.process in
     let f = c.args.forest.now in
-    let thawed : is_frozen g p ≡ false = subst (λ (k : Graph). is_frozen k p ≡ false) c.problem.ensures.problem (sym c.is_frozen.ensures ∙ c.if-is_frozen.false) in
-    handed_as (IsLargeThawed g p f (tree_of c.args.admitted.now.guards p)) (IsLargeBegun g c.args.order.now c.args.admitted.now.guards p f) f.wide
-    c.from_residual-in_err-active-2.result c.in_err-active-2.field-0.0 c.from_residual-in_err-active-2.ensures.1 (λ x. inl (thawed, x)) c.in_err-active-2.ensures.fault
+    let thawed : is_frozen g p ≡ false = subst (λ (k : Graph). is_frozen k p ≡ false) c.problem.ensures.problem
+    (sym c.is_frozen.ensures ∙ c.if-is_frozen.false) in
+    handed_as (IsLargeThawed g p f (tree_of c.args.admitted.now.guards p))
+    (IsLargeBegun g c.args.order.now c.args.admitted.now.guards p f) f.wide
+    c.from_residual-in_err-active-2.result c.in_err-active-2.field-0.0 c.from_residual-in_err-active-2.ensures.1
+    (λ x. inl (thawed, x)) c.in_err-active-2.ensures.fault

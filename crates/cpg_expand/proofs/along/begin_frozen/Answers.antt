@@ -21,11 +21,13 @@ guard_of-requires c =
     omega arith
 
 pub active-requires-clause-few : goal.active-requires-clause-few
-active-requires-clause-few c = few_here c.args.admitted.now.graph c.args.admitted.now.order c.args.admitted.now.guards c.guards-guards.ensures.admitted c.problem-problem.result.now
+active-requires-clause-few c = few_here c.args.admitted.now.graph c.args.admitted.now.order c.args.admitted.now.guards
+    c.guards-guards.ensures.admitted c.problem-problem.result.now
     c.problem-problem.ensures.problem
 
 pub active-requires-clause-tests : goal.active-requires-clause-tests
-active-requires-clause-tests c = tests_here c.args.admitted.now.graph c.args.admitted.now.order c.args.admitted.now.guards c.guards-guards.ensures.admitted c.problem-problem.result.now
+active-requires-clause-tests c = tests_here c.args.admitted.now.graph c.args.admitted.now.order
+    c.args.admitted.now.guards c.guards-guards.ensures.admitted c.problem-problem.result.now
     c.problem-problem.ensures.problem
     c.guards-guards.result.now c.guards-guards.ensures.guards c.guard_of.result.now c.guard_of.ensures.below
 
@@ -38,37 +40,48 @@ latest_start-requires-clause-along c =
     subst (λ (g : Graph). AreAlong g span.guards.now span.order.now) (sym e.problem)
     (subst (λ (x : Guards). AreAlong c.problem-problem.result.now x span.order.now) (sym e.guards)
     (subst (λ o. AreAlong c.problem-problem.result.now found o) (sym e.order)
-    (along_here c.args.admitted.now.graph c.args.admitted.now.order c.args.admitted.now.guards c.guards-guards.ensures.admitted c.problem-problem.result.now c.problem-problem.ensures.problem
+    (along_here c.args.admitted.now.graph c.args.admitted.now.order c.args.admitted.now.guards
+    c.guards-guards.ensures.admitted c.problem-problem.result.now c.problem-problem.ensures.problem
     found c.guards-guards.ensures.guards order c.requires.order)))
 
 pub latest_start-requires-clause-forest : goal.latest_start-requires-clause-forest
-latest_start-requires-clause-forest c = subst (λ (g : Graph). HasTrees g c.args.forest.now) (sym (c.span_before-span.ensures.problem ∙ c.problem-problem.ensures.problem)) c.requires.forest
+latest_start-requires-clause-forest c = subst (λ (g : Graph). HasTrees g c.args.forest.now)
+    (sym (c.span_before-span.ensures.problem ∙ c.problem-problem.ensures.problem)) c.requires.forest
 
 pub latest_start-requires-clause-active : goal.latest_start-requires-clause-active
-latest_start-requires-clause-active c = subst (λ (g : Graph). IsTree g c.in_ok-active.active) (sym c.span_before-span.ensures.problem) c.in_ok-active.ensures.tree
+latest_start-requires-clause-active c = subst (λ (g : Graph). IsTree g c.in_ok-active.active)
+    (sym c.span_before-span.ensures.problem) c.in_ok-active.ensures.tree
 
 pub latest_start-requires-clause-edges : goal.latest_start-requires-clause-edges
-latest_start-requires-clause-edges c = inputs_here c.span_before-span.result.problem.now c.args.process c.inputs-inputs.result.now
-    (subst (λ (g : Graph). c.inputs-inputs.result.now ≡ inputs g c.args.process) (sym c.span_before-span.ensures.problem) c.inputs-inputs.ensures)
+latest_start-requires-clause-edges c =
+    inputs_here c.span_before-span.result.problem.now c.args.process c.inputs-inputs.result.now
+    (subst (λ (g : Graph). c.inputs-inputs.result.now ≡ inputs g c.args.process)
+    (sym c.span_before-span.ensures.problem) c.inputs-inputs.ensures)
 
 pub latest_start-requires-clause-process : goal.latest_start-requires-clause-process
-latest_start-requires-clause-process c = subst (λ (g : Graph). c.args.process < process_count g) (sym (c.span_before-span.ensures.problem ∙ c.problem-problem.ensures.problem)) c.requires.process
+latest_start-requires-clause-process c = subst (λ (g : Graph). c.args.process < process_count g)
+    (sym (c.span_before-span.ensures.problem ∙ c.problem-problem.ensures.problem)) c.requires.process
 
 pub returns-clause-trees : goal.returns-clause-trees
 returns-clause-trees c =
     let same = c.problem-problem.ensures.problem in
     subst (λ (g : Graph). HasTrees g c.put_begun.new.forest) same
-    (has_begun c.problem-problem.result.now c.args.forest.now c.put_begun.new.forest c.args.process c.node_of-node.result c.in_ok-start.start c.in_ok-end.end c.in_ok-ready.ready
+    (has_begun c.problem-problem.result.now c.args.forest.now c.put_begun.new.forest c.args.process
+    c.node_of-node.result c.in_ok-start.start c.in_ok-end.end c.in_ok-ready.ready
     (subst (λ (g : Graph). c.args.process < process_count g) (sym same) c.requires.process) c.node_of-node.ensures.node
-    (subst (λ (g : Graph). HasTrees g c.args.forest.now) (sym same) c.requires.forest) c.in_ok-start.ensures.tree c.in_ok-end.ensures.tree
-    (subst (λ (g : Graph). IsReadyAfter g c.args.process c.in_ok-ready.ready) (sym same) c.in_ok-ready.ensures.of) c.put_begun.ensures)
+    (subst (λ (g : Graph). HasTrees g c.args.forest.now) (sym same) c.requires.forest) c.in_ok-start.ensures.tree
+    c.in_ok-end.ensures.tree
+    (subst (λ (g : Graph). IsReadyAfter g c.args.process c.in_ok-ready.ready) (sym same) c.in_ok-ready.ensures.of)
+    c.put_begun.ensures)
 
 pub returns-clause-count : goal.returns-clause-count
-returns-clause-count c = ap length c.in_ok-start.ensures.frozen.set ∙ set_count c.args.frozen.now c.args.process c.in_ok-latest.latest ∙ c.requires.frozen
+returns-clause-count c = ap length c.in_ok-start.ensures.frozen.set
+    ∙ set_count c.args.frozen.now c.args.process c.in_ok-latest.latest ∙ c.requires.frozen
 
 pub span_before-span-requires : goal.span_before-span-requires
 span_before-span-requires c = record {
-  along = along_here c.args.admitted.now.graph c.args.admitted.now.order c.args.admitted.now.guards c.guards-guards.ensures.admitted c.problem-problem.result.now c.problem-problem.ensures.problem
+  along = along_here c.args.admitted.now.graph c.args.admitted.now.order c.args.admitted.now.guards
+      c.guards-guards.ensures.admitted c.problem-problem.result.now c.problem-problem.ensures.problem
       c.guards-guards.result.now c.guards-guards.ensures.guards c.args.order.now c.requires.order;
 }
 
@@ -86,13 +99,19 @@ returns-clause-begun c =
     let p = c.args.process in
     let span = c.span_before-span.result in
     let e = c.span_before-span.ensures in
-    let cut : IsCut h order guards (node_of h p) (place order p) span.from = subst (λ n. IsCut h order guards n (place order p) span.from) c.node_of-node.ensures.node
+    let cut : IsCut h order guards (node_of h p) (place order p) span.from =
+    subst (λ n. IsCut h order guards n (place order p) span.from) c.node_of-node.ensures.node
     (subst (λ n. IsCut h order guards c.node_of-node.result n span.from) c.place.ensures.place
     (subst (λ (x : Guards). IsCut h order x c.node_of-node.result c.place.result span.from) is_guards e.cut)) in
-    let top = latest_as f span.from p c.in_ok-active.active c.in_ok-latest.latest h span.problem.now e.problem order span.order.now e.order guards span.guards.now (e.guards ∙ is_guards)
-    (node_of h p) span.node (e.node ∙ c.node_of-node.ensures.node) (inputs h p) c.inputs-inputs.result.now c.inputs-inputs.ensures c.in_ok-latest.ensures in
-    begun_made (λ h guard. IsFrozenStart h order guards c.args.process c.args.forest.now c.args.frozen.now c.freeze.new.frozen) c.args.admitted.now.graph h same order c.args.process
-    guard found is_found c.node_of-node.result c.node_of-node.ensures.node f c.put_begun.new.forest c.in_ok-active.active c.in_ok-active.ensures.tree c.in_ok-active.ensures.active
+    let top = latest_as f span.from p c.in_ok-active.active c.in_ok-latest.latest h span.problem.now e.problem order
+    span.order.now e.order guards span.guards.now (e.guards ∙ is_guards)
+    (node_of h p) span.node (e.node ∙ c.node_of-node.ensures.node)
+    (inputs h p) c.inputs-inputs.result.now c.inputs-inputs.ensures c.in_ok-latest.ensures in
+    begun_made
+    (λ h guard. IsFrozenStart h order guards c.args.process c.args.forest.now c.args.frozen.now c.freeze.new.frozen)
+    c.args.admitted.now.graph h same order c.args.process
+    guard found is_found c.node_of-node.result c.node_of-node.ensures.node f c.put_begun.new.forest
+    c.in_ok-active.active c.in_ok-active.ensures.tree c.in_ok-active.ensures.active
     c.in_ok-start.start (record {
       from = c.span_before-span.result.from;
       cut = cut;
@@ -100,7 +119,10 @@ returns-clause-begun c =
       top = top;
       frozen = c.in_ok-start.ensures.frozen;
     })
-    c.in_ok-end.end c.in_ok-end.ensures.end c.in_ok-ready.ready (subst (λ (g : Graph). IsReadyAfter g c.args.process c.in_ok-ready.ready) (sym same) c.in_ok-ready.ensures.of)
-    (subst (λ (k : Guard). IsReadyIfWaited h order f c.args.process k c.in_ok-active.active c.in_ok-end.end (goes_on c.in_ok-end.end c.in_ok-ready.ready)) (sym is_found)
-    (subst (λ (g : Graph). IsReadyIfWaited g order f c.args.process guard c.in_ok-active.active c.in_ok-end.end (goes_on c.in_ok-end.end c.in_ok-ready.ready)) (sym same) c.in_ok-ready.ensures.ready))
+    c.in_ok-end.end c.in_ok-end.ensures.end c.in_ok-ready.ready
+    (subst (λ (g : Graph). IsReadyAfter g c.args.process c.in_ok-ready.ready) (sym same) c.in_ok-ready.ensures.of)
+    (subst (λ (k : Guard). IsReadyIfWaited h order f c.args.process k c.in_ok-active.active c.in_ok-end.end
+    (goes_on c.in_ok-end.end c.in_ok-ready.ready)) (sym is_found)
+    (subst (λ (g : Graph). IsReadyIfWaited g order f c.args.process guard c.in_ok-active.active c.in_ok-end.end
+    (goes_on c.in_ok-end.end c.in_ok-ready.ready)) (sym same) c.in_ok-ready.ensures.ready))
     c.put_begun.ensures

@@ -20,53 +20,68 @@ guard_of-guard-requires c =
     omega arith
 
 pub active-requires-clause-few : goal.active-requires-clause-few
-active-requires-clause-few c = few_here c.args.admitted.now.graph c.args.admitted.now.order c.args.admitted.now.guards c.guards.ensures.admitted c.problem-problem.result.now
+active-requires-clause-few c = few_here c.args.admitted.now.graph c.args.admitted.now.order c.args.admitted.now.guards
+    c.guards.ensures.admitted c.problem-problem.result.now
     c.problem-problem.ensures.problem
 
 pub active-requires-clause-tests : goal.active-requires-clause-tests
-active-requires-clause-tests c = tests_here c.args.admitted.now.graph c.args.admitted.now.order c.args.admitted.now.guards c.guards.ensures.admitted c.problem-problem.result.now
+active-requires-clause-tests c = tests_here c.args.admitted.now.graph c.args.admitted.now.order
+    c.args.admitted.now.guards c.guards.ensures.admitted c.problem-problem.result.now
     c.problem-problem.ensures.problem
     c.guards.result.now c.guards.ensures.guards c.guard_of-guard.result.now c.guard_of-guard.ensures.below
 
 pub unfrozen_start-requires-clause-inputs : goal.unfrozen_start-requires-clause-inputs
-unfrozen_start-requires-clause-inputs c = inputs_here c.problem-problem.result.now c.args.process c.inputs-inputs.result.now c.inputs-inputs.ensures
+unfrozen_start-requires-clause-inputs c =
+    inputs_here c.problem-problem.result.now c.args.process c.inputs-inputs.result.now c.inputs-inputs.ensures
 
 pub unfrozen_start-requires-clause-leaves : goal.unfrozen_start-requires-clause-leaves
-unfrozen_start-requires-clause-leaves c = leads_here c.args.admitted.now.graph c.args.admitted.now.order c.args.admitted.now.guards c.guards.ensures.admitted c.problem-problem.result.now
+unfrozen_start-requires-clause-leaves c = leads_here c.args.admitted.now.graph c.args.admitted.now.order
+    c.args.admitted.now.guards c.guards.ensures.admitted c.problem-problem.result.now
     c.problem-problem.ensures.problem
-    c.args.process c.requires.process c.guard_of-guard.result.now (c.guard_of-guard.ensures.tree ∙ ap (λ (x : Guards). tree_of x c.args.process) c.guards.ensures.guards)
+    c.args.process c.requires.process c.guard_of-guard.result.now
+    (c.guard_of-guard.ensures.tree ∙ ap (λ (x : Guards). tree_of x c.args.process) c.guards.ensures.guards)
 
 pub unfrozen_start-requires-clause-wait : goal.unfrozen_start-requires-clause-wait
-unfrozen_start-requires-clause-wait c = subst (IsWait c.problem-problem.result.now) (sym c.wait_for-wait.ensures) c.in_ok-heard.ensures.of
+unfrozen_start-requires-clause-wait c =
+    subst (IsWait c.problem-problem.result.now) (sym c.wait_for-wait.ensures) c.in_ok-heard.ensures.of
 
 pub returns-clause-trees : goal.returns-clause-trees
 returns-clause-trees c =
     let same = c.problem-problem.ensures.problem in
     subst (λ (g : Graph). HasTrees g c.put_begun.new.forest) same
-    (has_begun c.problem-problem.result.now c.args.forest.now c.put_begun.new.forest c.args.process c.node_of-node.result c.in_ok-start.start c.in_ok-next.next.end c.in_ok-next.next.ready
+    (has_begun c.problem-problem.result.now c.args.forest.now c.put_begun.new.forest c.args.process
+    c.node_of-node.result c.in_ok-start.start c.in_ok-next.next.end c.in_ok-next.next.ready
     (subst (λ (g : Graph). c.args.process < process_count g) (sym same) c.requires.process) c.node_of-node.ensures.node
-    (subst (λ (g : Graph). HasTrees g c.args.forest.now) (sym same) c.requires.forest) c.in_ok-start.ensures.tree c.in_ok-next.ensures.tree c.in_ok-next.ensures.of c.put_begun.ensures)
+    (subst (λ (g : Graph). HasTrees g c.args.forest.now) (sym same) c.requires.forest) c.in_ok-start.ensures.tree
+    c.in_ok-next.ensures.tree c.in_ok-next.ensures.of c.put_begun.ensures)
 
 pub returns-clause-begun : goal.returns-clause-begun
 returns-clause-begun c order =
     let h = c.problem-problem.result.now in
     let f = c.args.forest.now in
     let wait = ready_by h f c.wait_for-wait.result.now in
-    let waits : IsWaitTree h f (node_of h c.args.process) c.guard_of-guard.result.now wait = subst (λ n. IsWaitTree h f n c.guard_of-guard.result.now wait) c.node_of-node.ensures.node
-    (subst (λ (r : Ready). IsWaitTree h f c.node_of-node.result c.guard_of-guard.result.now (ready_by h f r)) (sym c.wait_for-wait.ensures) c.in_ok-heard.ensures.wait) in
-    begun_made (λ h guard. thawed_start h c.args.process c.args.forest.now guard) c.args.admitted.now.graph h c.problem-problem.ensures.problem order c.args.process
-    (tree_of c.args.admitted.now.guards c.args.process) c.guard_of-guard.result.now (c.guard_of-guard.ensures.tree ∙ ap (λ (x : Guards). tree_of x c.args.process) c.guards.ensures.guards)
-    c.node_of-node.result c.node_of-node.ensures.node f c.put_begun.new.forest c.in_ok-active.active c.in_ok-active.ensures.tree c.in_ok-active.ensures.active
+    let waits : IsWaitTree h f (node_of h c.args.process) c.guard_of-guard.result.now wait =
+    subst (λ n. IsWaitTree h f n c.guard_of-guard.result.now wait) c.node_of-node.ensures.node
+    (subst (λ (r : Ready). IsWaitTree h f c.node_of-node.result c.guard_of-guard.result.now (ready_by h f r))
+    (sym c.wait_for-wait.ensures) c.in_ok-heard.ensures.wait) in
+    begun_made (λ h guard. thawed_start h c.args.process c.args.forest.now guard) c.args.admitted.now.graph h
+    c.problem-problem.ensures.problem order c.args.process
+    (tree_of c.args.admitted.now.guards c.args.process) c.guard_of-guard.result.now
+    (c.guard_of-guard.ensures.tree ∙ ap (λ (x : Guards). tree_of x c.args.process) c.guards.ensures.guards)
+    c.node_of-node.result c.node_of-node.ensures.node f c.put_begun.new.forest c.in_ok-active.active
+    c.in_ok-active.ensures.tree c.in_ok-active.ensures.active
     c.in_ok-start.start (record {
       wait = wait;
       waits = waits;
-      is = subst (λ es. IsStartTree h f wait (process_at h c.args.process).release es c.guard_of-guard.result.now c.in_ok-start.start) c.inputs-inputs.ensures c.in_ok-start.ensures.start;
+      is = subst (λ es. IsStartTree h f wait (process_at h c.args.process).release es c.guard_of-guard.result.now
+          c.in_ok-start.start) c.inputs-inputs.ensures c.in_ok-start.ensures.start;
     })
     c.in_ok-next.next.end c.in_ok-next.ensures.end c.in_ok-next.next.ready c.in_ok-next.ensures.of
     (λ waited. record { wait = wait; waits = waits; is = c.in_ok-next.ensures.ready }) c.put_begun.ensures
 
 pub follow-requires-clause-wait : goal.follow-requires-clause-wait
-follow-requires-clause-wait c = subst (IsWait c.problem-problem.result.now) (sym c.wait_for-wait.ensures) c.in_ok-heard.ensures.of
+follow-requires-clause-wait c =
+    subst (IsWait c.problem-problem.result.now) (sym c.wait_for-wait.ensures) c.in_ok-heard.ensures.of
 
 pub returns-in_err-heard-clause-fault : goal.returns-in_err-heard-clause-fault
 returns-in_err-heard-clause-fault c =
@@ -76,9 +91,11 @@ returns-in_err-heard-clause-fault c =
     let found = c.guard_of-guard.result.now in
     let guard = tree_of c.args.admitted.now.guards p in
     let is : found ≡ guard = c.guard_of-guard.ensures.tree ∙ ap (λ (x : Guards). tree_of x p) c.guards.ensures.guards in
-    handed_as (IsLargeWait h f c.node_of-node.result found) (IsLargeThawed c.args.admitted.now.graph p f guard) f.wide c.from_residual-in_err-heard.result c.in_err-heard.field-0.0
+    handed_as (IsLargeWait h f c.node_of-node.result found) (IsLargeThawed c.args.admitted.now.graph p f guard) f.wide
+    c.from_residual-in_err-heard.result c.in_err-heard.field-0.0
     c.from_residual-in_err-heard.ensures.1
-    (λ x. thawed_as c.args.admitted.now.graph h c.problem-problem.ensures.problem p f guard found is (inl (subst (λ n. IsLargeWait h f n found) c.node_of-node.ensures.node x)))
+    (λ x. thawed_as c.args.admitted.now.graph h c.problem-problem.ensures.problem p f guard found is
+    (inl (subst (λ n. IsLargeWait h f n found) c.node_of-node.ensures.node x)))
     c.in_err-heard.ensures.fault
 
 pub returns-in_err-start-clause-fault : goal.returns-in_err-start-clause-fault
@@ -90,10 +107,13 @@ returns-in_err-start-clause-fault c =
     let guard = tree_of c.args.admitted.now.guards p in
     let is : found ≡ guard = c.guard_of-guard.ensures.tree ∙ ap (λ (x : Guards). tree_of x p) c.guards.ensures.guards in
     let wait = ready_by h f c.wait_for-wait.result.now in
-    let waits : IsWaitTree h f (node_of h p) found wait = subst (λ n. IsWaitTree h f n found wait) c.node_of-node.ensures.node
-    (subst (λ (r : Ready). IsWaitTree h f c.node_of-node.result found (ready_by h f r)) (sym c.wait_for-wait.ensures) c.in_ok-heard.ensures.wait) in
+    let waits : IsWaitTree h f (node_of h p) found wait =
+    subst (λ n. IsWaitTree h f n found wait) c.node_of-node.ensures.node
+    (subst (λ (r : Ready). IsWaitTree h f c.node_of-node.result found (ready_by h f r))
+    (sym c.wait_for-wait.ensures) c.in_ok-heard.ensures.wait) in
     handed_as (IsLargeStart h f wait (process_at h p).release c.inputs-inputs.result.now found)
-    (IsLargeThawed c.args.admitted.now.graph p f guard) f.wide c.from_residual-in_err-start.result c.in_err-start.field-0.0 c.from_residual-in_err-start.ensures.1
+    (IsLargeThawed c.args.admitted.now.graph p f guard) f.wide c.from_residual-in_err-start.result
+    c.in_err-start.field-0.0 c.from_residual-in_err-start.ensures.1
     (λ x. thawed_as c.args.admitted.now.graph h c.problem-problem.ensures.problem p f guard found is (inr (record {
       wait = wait;
       waits = waits;
@@ -110,11 +130,19 @@ returns-in_err-next-clause-fault c =
     let is : found ≡ guard = c.guard_of-guard.ensures.tree ∙ ap (λ (x : Guards). tree_of x p) c.guards.ensures.guards in
     let start = c.in_ok-start.start in
     let wait = ready_by h f c.wait_for-wait.result.now in
-    let waits : IsWaitTree h f (node_of h p) found wait = subst (λ n. IsWaitTree h f n found wait) c.node_of-node.ensures.node
-    (subst (λ (r : Ready). IsWaitTree h f c.node_of-node.result found (ready_by h f r)) (sym c.wait_for-wait.ensures) c.in_ok-heard.ensures.wait) in
-    handed_as (IsLargeEnd h p start) (IsLargeThawed c.args.admitted.now.graph p f guard) f.wide c.from_residual-in_err-next.result c.in_err-next.field-0.0 c.from_residual-in_err-next.ensures.1
+    let waits : IsWaitTree h f (node_of h p) found wait =
+    subst (λ n. IsWaitTree h f n found wait) c.node_of-node.ensures.node
+    (subst (λ (r : Ready). IsWaitTree h f c.node_of-node.result found (ready_by h f r))
+    (sym c.wait_for-wait.ensures) c.in_ok-heard.ensures.wait) in
+    handed_as (IsLargeEnd h p start) (IsLargeThawed c.args.admitted.now.graph p f guard) f.wide
+    c.from_residual-in_err-next.result c.in_err-next.field-0.0 c.from_residual-in_err-next.ensures.1
     (λ x. thawed_as c.args.admitted.now.graph h c.problem-problem.ensures.problem p f guard found is (inr (record {
       wait = wait;
       waits = waits;
-      large = inr (start, subst (λ es. IsStartTree h f wait (process_at h p).release es found start) c.inputs-inputs.ensures c.in_ok-start.ensures.start, x);
+      large = inr (
+        start,
+        subst (λ es. IsStartTree h f wait (process_at h p).release es found start) c.inputs-inputs.ensures
+            c.in_ok-start.ensures.start,
+        x,
+      );
     }))) c.in_err-next.ensures.fault

@@ -6,13 +6,17 @@ use Rattle.cpg_expand.proofs.along.follow.Goals as goal
 
 pub returns-in_err-few-clause-fault : goal.returns-in_err-few-clause-fault
 returns-in_err-few-clause-fault c =
-    handed_as (IsLarge c.args.start.now) (IsLargeEnd c.args.problem.now c.args.process c.args.start.now) c.args.forest.now.wide c.from_residual.result c.in_err-few.field-0.0 c.from_residual.ensures.1
+    handed_as (IsLarge c.args.start.now) (IsLargeEnd c.args.problem.now c.args.process c.args.start.now)
+    c.args.forest.now.wide c.from_residual.result c.in_err-few.field-0.0 c.from_residual.ensures.1
     (λ x. inl x)
-    (named_as (IsLarge c.args.start.now) c.forest.inside.wide c.args.forest.now.wide c.in_err-few.field-0.0 (ap (λ (x : ForestState). x.wide) c.forest.view_is) c.in_err-few.ensures)
+    (named_as (IsLarge c.args.start.now) c.forest.inside.wide c.args.forest.now.wide c.in_err-few.field-0.0
+    (ap (λ (x : ForestState). x.wide) c.forest.view_is) c.in_err-few.ensures)
 
 pub returns-in_err-few-2-clause-fault : goal.returns-in_err-few-2-clause-fault
 returns-in_err-few-2-clause-fault c =
-    handed_as (IsLarge c.in_ok-end.end) (IsLargeEnd c.args.problem.now c.args.process c.args.start.now) c.args.forest.now.wide c.from_residual-in_err-few-2.result c.in_err-few-2.field-0.0
+    handed_as (IsLarge c.in_ok-end.end) (IsLargeEnd c.args.problem.now c.args.process c.args.start.now)
+    c.args.forest.now.wide c.from_residual-in_err-few-2.result c.in_err-few-2.field-0.0
     c.from_residual-in_err-few-2.ensures.1
     (λ x. inr (c.in_ok-end.end, c.in_ok-end.ensures.end, x))
-    (named_as (IsLarge c.in_ok-end.end) c.forest.inside.wide c.args.forest.now.wide c.in_err-few-2.field-0.0 (ap (λ (x : ForestState). x.wide) c.forest.view_is) c.in_err-few-2.ensures)
+    (named_as (IsLarge c.in_ok-end.end) c.forest.inside.wide c.args.forest.now.wide c.in_err-few-2.field-0.0
+    (ap (λ (x : ForestState). x.wide) c.forest.view_is) c.in_err-few-2.ensures)

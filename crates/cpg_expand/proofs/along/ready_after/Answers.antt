@@ -27,11 +27,16 @@ returns-clause-ready c waited =
     let found = c.guard_of-guard.result.now in
     let wait = ready_by h f c.wait_for-wait.result.now in
     let then = goes_on c.args.end.now c.in_ok-ready.ready in
-    let is_found : found ≡ tree_of c.args.admitted.now.guards p = c.guard_of-guard.ensures.tree ∙ ap (λ (x : Guards). tree_of x p) c.guards.ensures.guards in
-    let waits : IsWaitTree h f (node_of h p) found wait = subst (λ n. IsWaitTree h f n found wait) c.node_of-node.ensures.node
-    (subst (λ (r : Ready). IsWaitTree h f c.node_of-node.result found (ready_by h f r)) (sym c.wait_for-wait.ensures) c.in_ok-heard.ensures.wait) in
-    let made : IsReadyOnce h f (node_of h p) found c.args.active.now c.args.end.now then = record { wait = wait; waits = waits; is = c.in_ok-ready.ensures.ready } in
-    subst (λ (g : Graph). IsReadyOnce g f (node_of g p) (tree_of c.args.admitted.now.guards p) c.args.active.now c.args.end.now then) c.problem-problem.ensures.problem
+    let is_found : found ≡ tree_of c.args.admitted.now.guards p =
+    c.guard_of-guard.ensures.tree ∙ ap (λ (x : Guards). tree_of x p) c.guards.ensures.guards in
+    let waits : IsWaitTree h f (node_of h p) found wait =
+    subst (λ n. IsWaitTree h f n found wait) c.node_of-node.ensures.node
+    (subst (λ (r : Ready). IsWaitTree h f c.node_of-node.result found (ready_by h f r))
+    (sym c.wait_for-wait.ensures) c.in_ok-heard.ensures.wait) in
+    let made : IsReadyOnce h f (node_of h p) found c.args.active.now c.args.end.now then =
+    record { wait = wait; waits = waits; is = c.in_ok-ready.ensures.ready } in
+    subst (λ (g : Graph). IsReadyOnce g f (node_of g p)
+    (tree_of c.args.admitted.now.guards p) c.args.active.now c.args.end.now then) c.problem-problem.ensures.problem
     (subst (λ (k : Guard). IsReadyOnce h f (node_of h p) k c.args.active.now c.args.end.now then) is_found made)
 
 pub returns-in_err-heard-clause-fault : goal.returns-in_err-heard-clause-fault
@@ -45,8 +50,14 @@ returns-in_err-heard-clause-fault c =
     let guard = tree_of c.args.admitted.now.guards p in
     let is : found ≡ guard = c.guard_of-guard.ensures.tree ∙ ap (λ (x : Guards). tree_of x p) c.guards.ensures.guards in
     let same = c.problem-problem.ensures.problem in
-    let waited : IsWaitedFor g order (place order p + 1) (node_of g p) = subst (λ (k : Graph). IsWaitedFor k order (place order p + 1) (node_of k p)) same
+    let waited : IsWaitedFor g order (place order p + 1) (node_of g p) =
+    subst (λ (k : Graph). IsWaitedFor k order (place order p + 1) (node_of k p)) same
     (c.is_waited_for.ensures.by c.if-not-is_waited_for.false) in
-    handed_as (IsLargeWait h f c.node_of-node.result found) (IsLargeFrozen g order p f guard) f.wide c.from_residual-in_err-heard.result c.in_err-heard.field-0.0 c.from_residual-in_err-heard.ensures.1
-    (λ x. (waited, subst (λ (k : Graph). IsLargeWait k f (node_of k p) guard) same (subst (IsLargeWait h f (node_of h p)) is (subst (λ n. IsLargeWait h f n found) c.node_of-node.ensures.node x))))
+    handed_as (IsLargeWait h f c.node_of-node.result found) (IsLargeFrozen g order p f guard) f.wide
+    c.from_residual-in_err-heard.result c.in_err-heard.field-0.0 c.from_residual-in_err-heard.ensures.1
+    (λ x. (
+      waited,
+      subst (λ (k : Graph). IsLargeWait k f (node_of k p) guard) same (subst (IsLargeWait h f (node_of h p)) is
+          (subst (λ n. IsLargeWait h f n found) c.node_of-node.ensures.node x)),
+    ))
     c.in_err-heard.ensures.fault

@@ -9,15 +9,19 @@ use Rattle.cpg_expand.proofs.along.step.Goals as goal
 pub returns-clause-grown : goal.returns-clause-grown
 returns-clause-grown c =
     let a = c.args.admitted.now in
-    stepped a.graph a.order a.guards c.problem-problem.ensures.admitted c.args.order.now c.args.process c.requires.process c.args.forest.now c.begin.new.forest c.send.new.forest c.args.frozen.now
+    stepped a.graph a.order a.guards c.problem-problem.ensures.admitted c.args.order.now c.args.process
+    c.requires.process c.args.forest.now c.begin.new.forest c.send.new.forest c.args.frozen.now
     c.begin.new.frozen c.send.new.frozen
     c.in_ok-active.active c.in_ok-active.ensures.begun c.in_ok-active.ensures.trees
-    (subst (λ (g : Graph). AreItemsAdded g c.args.order.now c.in_ok-active.active (queue_of g c.args.process) c.begin.new.forest c.send.new.forest c.begin.new.frozen c.send.new.frozen)
+    (subst (λ (g : Graph). AreItemsAdded g c.args.order.now c.in_ok-active.active
+    (queue_of g c.args.process) c.begin.new.forest c.send.new.forest c.begin.new.frozen c.send.new.frozen)
     c.problem-problem.ensures.problem c.in_ok-send.ensures.added)
 
 pub returns-clause-wide : goal.returns-clause-wide
 returns-clause-wide c =
-    added_wide c.problem-problem.result.now c.args.order.now c.in_ok-active.active (queue_of c.problem-problem.result.now c.args.process) c.begin.new.forest c.send.new.forest c.begin.new.frozen
+    added_wide c.problem-problem.result.now c.args.order.now c.in_ok-active.active
+    (queue_of c.problem-problem.result.now c.args.process) c.begin.new.forest c.send.new.forest c.begin.new.frozen
     c.send.new.frozen c.in_ok-send.ensures.added
-    ∙ begun_wide c.args.admitted.now.graph c.args.order.now c.args.admitted.now.guards c.args.process c.args.forest.now c.begin.new.forest c.args.frozen.now c.begin.new.frozen c.in_ok-active.active
+    ∙ begun_wide c.args.admitted.now.graph c.args.order.now c.args.admitted.now.guards c.args.process c.args.forest.now
+    c.begin.new.forest c.args.frozen.now c.begin.new.frozen c.in_ok-active.active
     c.in_ok-active.ensures.begun

@@ -8,32 +8,43 @@ use Rattle.cpg_expand.proofs.descent.+found.Goals as goal
 
 pub tree_of-requires : goal.tree_of-requires
 tree_of-requires g t c =
-    still_there (g.D.Descent.made c.args.descent.now) (g.D.Descent.fits c.args.descent.now) c.found.new.known.items c.found-in-Test.new.known.items c.as_slice-kept.result.now
-    c.in_ok-yes-in-Test.ensures.kept c.as_slice-kept.ensures.value c.in-Test.no.now c.in_ok-no-in-Test.no c.in_ok-no-in-Test.ensures.found
+    still_there (g.D.Descent.made c.args.descent.now) (g.D.Descent.fits c.args.descent.now) c.found.new.known.items
+    c.found-in-Test.new.known.items c.as_slice-kept.result.now
+    c.in_ok-yes-in-Test.ensures.kept c.as_slice-kept.ensures.value c.in-Test.no.now c.in_ok-no-in-Test.no
+    c.in_ok-no-in-Test.ensures.found
 
 pub test-requires-clause-no : goal.test-requires-clause-no
 test-requires-clause-no g t c =
-    let fits = still_has_value (g.D.Descent.made c.args.descent.now) (g.D.Descent.fits c.args.descent.now) c.found.new.known.items c.found-in-Test.new.known.items c.as_slice-kept.result.now
-    c.in_ok-yes-in-Test.ensures.kept c.as_slice-kept.ensures.value c.in-Test.no.now c.in_ok-no-in-Test.no c.in_ok-no-in-Test.ensures.found c.in_ok-yes-in-Test.ensures.known c.tree_of.result.now
+    let fits = still_has_value (g.D.Descent.made c.args.descent.now) (g.D.Descent.fits c.args.descent.now)
+    c.found.new.known.items c.found-in-Test.new.known.items c.as_slice-kept.result.now
+    c.in_ok-yes-in-Test.ensures.kept c.as_slice-kept.ensures.value c.in-Test.no.now c.in_ok-no-in-Test.no
+    c.in_ok-no-in-Test.ensures.found c.in_ok-yes-in-Test.ensures.known c.tree_of.result.now
     c.tree_of.ensures in
     fits.0
 
 pub test-requires-clause-yes : goal.test-requires-clause-yes
 test-requires-clause-yes g t c =
-    let fits = still_has_value (g.D.Descent.made c.args.descent.now) (g.D.Descent.fits c.args.descent.now) c.found-in-Test.new.known.items c.found-in-Test.new.known.items c.as_slice-kept.result.now
-    (λ i g at. at) c.as_slice-kept.ensures.value c.in-Test.yes.now c.in_ok-yes-in-Test.yes c.in_ok-yes-in-Test.ensures.found c.in_ok-yes-in-Test.ensures.known c.tree_of-in-Test.result.now
+    let fits = still_has_value (g.D.Descent.made c.args.descent.now) (g.D.Descent.fits c.args.descent.now)
+    c.found-in-Test.new.known.items c.found-in-Test.new.known.items c.as_slice-kept.result.now
+    (λ i g at. at) c.as_slice-kept.ensures.value c.in-Test.yes.now c.in_ok-yes-in-Test.yes
+    c.in_ok-yes-in-Test.ensures.found c.in_ok-yes-in-Test.ensures.known c.tree_of-in-Test.result.now
     c.tree_of-in-Test.ensures in
     fits.0
 
 pub returns-in_ok-source-in-Test-clause-known : goal.returns-in_ok-source-in-Test-clause-known
 returns-in_ok-source-in-Test-clause-known g t c =
-    let low = still_has_value (g.D.Descent.made c.args.descent.now) (g.D.Descent.fits c.args.descent.now) c.found.new.known.items c.found-in-Test.new.known.items c.as_slice-kept.result.now
-    c.in_ok-yes-in-Test.ensures.kept c.as_slice-kept.ensures.value c.in-Test.no.now c.in_ok-no-in-Test.no c.in_ok-no-in-Test.ensures.found c.in_ok-yes-in-Test.ensures.known c.tree_of.result.now
+    let low = still_has_value (g.D.Descent.made c.args.descent.now) (g.D.Descent.fits c.args.descent.now)
+    c.found.new.known.items c.found-in-Test.new.known.items c.as_slice-kept.result.now
+    c.in_ok-yes-in-Test.ensures.kept c.as_slice-kept.ensures.value c.in-Test.no.now c.in_ok-no-in-Test.no
+    c.in_ok-no-in-Test.ensures.found c.in_ok-yes-in-Test.ensures.known c.tree_of.result.now
     c.tree_of.ensures in
-    let high = still_has_value (g.D.Descent.made c.args.descent.now) (g.D.Descent.fits c.args.descent.now) c.found-in-Test.new.known.items c.found-in-Test.new.known.items c.as_slice-kept.result.now
-    (λ i g at. at) c.as_slice-kept.ensures.value c.in-Test.yes.now c.in_ok-yes-in-Test.yes c.in_ok-yes-in-Test.ensures.found c.in_ok-yes-in-Test.ensures.known c.tree_of-in-Test.result.now
+    let high = still_has_value (g.D.Descent.made c.args.descent.now) (g.D.Descent.fits c.args.descent.now)
+    c.found-in-Test.new.known.items c.found-in-Test.new.known.items c.as_slice-kept.result.now
+    (λ i g at. at) c.as_slice-kept.ensures.value c.in-Test.yes.now c.in_ok-yes-in-Test.yes
+    c.in_ok-yes-in-Test.ensures.found c.in_ok-yes-in-Test.ensures.known c.tree_of-in-Test.result.now
     c.tree_of-in-Test.ensures in
-    added_known (g.D.Descent.made c.args.descent.now) (g.D.Descent.fits c.args.descent.now) c.found-in-Test.new.known.items c.keep-in-Test.new.known.items c.args.guard.now c.in_ok-tree-in-Test.tree
+    added_known (g.D.Descent.made c.args.descent.now) (g.D.Descent.fits c.args.descent.now)
+    c.found-in-Test.new.known.items c.keep-in-Test.new.known.items c.args.guard.now c.in_ok-tree-in-Test.tree
     c.in_ok-source-in-Test.source c.in_ok-yes-in-Test.ensures.known
     c.in_ok-tree-in-Test.ensures.made
     (subst (λ (h : Guard). g.D.Descent.fits c.args.descent.now h c.in_ok-tree-in-Test.tree) (sym c.in-Test.ensures)
@@ -41,20 +52,28 @@ returns-in_ok-source-in-Test-clause-known g t c =
 
 pub returns-in_ok-source-in-Test-clause-kept : goal.returns-in_ok-source-in-Test-clause-kept
 returns-in_ok-source-in-Test-clause-kept g t c =
-    kept_still c.args.known.now.items c.found.new.known.items c.keep-in-Test.new.known.items c.in_ok-no-in-Test.ensures.kept
-    (kept_still c.found.new.known.items c.found-in-Test.new.known.items c.keep-in-Test.new.known.items c.in_ok-yes-in-Test.ensures.kept
-    (added_kept (g.D.Descent.made c.args.descent.now) (g.D.Descent.fits c.args.descent.now) c.found-in-Test.new.known.items c.keep-in-Test.new.known.items c.args.guard.now c.in_ok-tree-in-Test.tree
+    kept_still c.args.known.now.items c.found.new.known.items c.keep-in-Test.new.known.items
+    c.in_ok-no-in-Test.ensures.kept
+    (kept_still c.found.new.known.items c.found-in-Test.new.known.items c.keep-in-Test.new.known.items
+    c.in_ok-yes-in-Test.ensures.kept
+    (added_kept (g.D.Descent.made c.args.descent.now) (g.D.Descent.fits c.args.descent.now)
+    c.found-in-Test.new.known.items c.keep-in-Test.new.known.items c.args.guard.now c.in_ok-tree-in-Test.tree
     c.in_ok-source-in-Test.source c.in_ok-source-in-Test.ensures))
 
 pub returns-in_ok-source-in-Test-clause-found : goal.returns-in_ok-source-in-Test-clause-found
 returns-in_ok-source-in-Test-clause-found g t c =
-    let low = still_has_value (g.D.Descent.made c.args.descent.now) (g.D.Descent.fits c.args.descent.now) c.found.new.known.items c.found-in-Test.new.known.items c.as_slice-kept.result.now
-    c.in_ok-yes-in-Test.ensures.kept c.as_slice-kept.ensures.value c.in-Test.no.now c.in_ok-no-in-Test.no c.in_ok-no-in-Test.ensures.found c.in_ok-yes-in-Test.ensures.known c.tree_of.result.now
+    let low = still_has_value (g.D.Descent.made c.args.descent.now) (g.D.Descent.fits c.args.descent.now)
+    c.found.new.known.items c.found-in-Test.new.known.items c.as_slice-kept.result.now
+    c.in_ok-yes-in-Test.ensures.kept c.as_slice-kept.ensures.value c.in-Test.no.now c.in_ok-no-in-Test.no
+    c.in_ok-no-in-Test.ensures.found c.in_ok-yes-in-Test.ensures.known c.tree_of.result.now
     c.tree_of.ensures in
-    let high = still_has_value (g.D.Descent.made c.args.descent.now) (g.D.Descent.fits c.args.descent.now) c.found-in-Test.new.known.items c.found-in-Test.new.known.items c.as_slice-kept.result.now
-    (λ i g at. at) c.as_slice-kept.ensures.value c.in-Test.yes.now c.in_ok-yes-in-Test.yes c.in_ok-yes-in-Test.ensures.found c.in_ok-yes-in-Test.ensures.known c.tree_of-in-Test.result.now
+    let high = still_has_value (g.D.Descent.made c.args.descent.now) (g.D.Descent.fits c.args.descent.now)
+    c.found-in-Test.new.known.items c.found-in-Test.new.known.items c.as_slice-kept.result.now
+    (λ i g at. at) c.as_slice-kept.ensures.value c.in-Test.yes.now c.in_ok-yes-in-Test.yes
+    c.in_ok-yes-in-Test.ensures.found c.in_ok-yes-in-Test.ensures.known c.tree_of-in-Test.result.now
     c.tree_of-in-Test.ensures in
-    added_found (g.D.Descent.made c.args.descent.now) (g.D.Descent.fits c.args.descent.now) c.found-in-Test.new.known.items c.keep-in-Test.new.known.items c.args.guard.now c.in_ok-tree-in-Test.tree
+    added_found (g.D.Descent.made c.args.descent.now) (g.D.Descent.fits c.args.descent.now)
+    c.found-in-Test.new.known.items c.keep-in-Test.new.known.items c.args.guard.now c.in_ok-tree-in-Test.tree
     c.in_ok-source-in-Test.source
     c.in_ok-tree-in-Test.ensures.made
     (subst (λ (h : Guard). g.D.Descent.fits c.args.descent.now h c.in_ok-tree-in-Test.tree) (sym c.in-Test.ensures)
@@ -64,30 +83,42 @@ pub returns-in_err-tree-in-Leaf-clause-fault : goal.returns-in_err-tree-in-Leaf-
 returns-in_err-tree-in-Leaf-clause-fault g t c =
     handed_on _ c.from_residual.result c.in_err-tree-in-Leaf.field-0.0 c.from_residual.ensures.1
     (large_leaf (g.D.Descent.large c.args.descent.now) (g.D.Descent.fits c.args.descent.now)
-    (g.D.Descent.wide c.args.descent.now) c.in_err-tree-in-Leaf.field-0.0 c.args.guard.now c.in-Leaf.activation c.in-Leaf.ensures c.in_err-tree-in-Leaf.ensures.fault)
+    (g.D.Descent.wide c.args.descent.now) c.in_err-tree-in-Leaf.field-0.0 c.args.guard.now c.in-Leaf.activation
+    c.in-Leaf.ensures c.in_err-tree-in-Leaf.ensures.fault)
 
 pub returns-in_err-no-in-Test-clause-fault : goal.returns-in_err-no-in-Test-clause-fault
 returns-in_err-no-in-Test-clause-fault g t c =
-    handed_on _ c.from_residual-in_err-no-in-Test.result c.in_err-no-in-Test.field-0.0 c.from_residual-in_err-no-in-Test.ensures.1
+    handed_on _ c.from_residual-in_err-no-in-Test.result c.in_err-no-in-Test.field-0.0
+    c.from_residual-in_err-no-in-Test.ensures.1
     (large_off (g.D.Descent.large c.args.descent.now) (g.D.Descent.fits c.args.descent.now)
-    (g.D.Descent.wide c.args.descent.now) c.in_err-no-in-Test.field-0.0 c.args.guard.now c.in-Test.condition c.in-Test.no.now c.in-Test.yes.now c.in-Test.ensures c.in_err-no-in-Test.ensures.fault)
+    (g.D.Descent.wide c.args.descent.now) c.in_err-no-in-Test.field-0.0 c.args.guard.now c.in-Test.condition
+    c.in-Test.no.now c.in-Test.yes.now c.in-Test.ensures c.in_err-no-in-Test.ensures.fault)
 
 pub returns-in_err-yes-in-Test-clause-fault : goal.returns-in_err-yes-in-Test-clause-fault
 returns-in_err-yes-in-Test-clause-fault g t c =
-    handed_on _ c.from_residual-in_err-yes-in-Test.result c.in_err-yes-in-Test.field-0.0 c.from_residual-in_err-yes-in-Test.ensures.1
-    (large_on (g.D.Descent.large c.args.descent.now) (g.D.Descent.fits c.args.descent.now) (g.D.Descent.wide c.args.descent.now) c.in_err-yes-in-Test.field-0.0 c.args.guard.now c.in-Test.condition
+    handed_on _ c.from_residual-in_err-yes-in-Test.result c.in_err-yes-in-Test.field-0.0
+    c.from_residual-in_err-yes-in-Test.ensures.1
+    (large_on (g.D.Descent.large c.args.descent.now) (g.D.Descent.fits c.args.descent.now)
+    (g.D.Descent.wide c.args.descent.now) c.in_err-yes-in-Test.field-0.0 c.args.guard.now c.in-Test.condition
     c.in-Test.no.now c.in-Test.yes.now c.in-Test.ensures c.in_err-yes-in-Test.ensures.fault)
 
 pub returns-in_err-few-in-Test-clause-fault : goal.returns-in_err-few-in-Test-clause-fault
 returns-in_err-few-in-Test-clause-fault g t c =
-    let low = still_has_value (g.D.Descent.made c.args.descent.now) (g.D.Descent.fits c.args.descent.now) c.found.new.known.items c.found-in-Test.new.known.items c.as_slice-kept.result.now
-    c.in_ok-yes-in-Test.ensures.kept c.as_slice-kept.ensures.value c.in-Test.no.now c.in_ok-no-in-Test.no c.in_ok-no-in-Test.ensures.found c.in_ok-yes-in-Test.ensures.known c.tree_of.result.now
+    let low = still_has_value (g.D.Descent.made c.args.descent.now) (g.D.Descent.fits c.args.descent.now)
+    c.found.new.known.items c.found-in-Test.new.known.items c.as_slice-kept.result.now
+    c.in_ok-yes-in-Test.ensures.kept c.as_slice-kept.ensures.value c.in-Test.no.now c.in_ok-no-in-Test.no
+    c.in_ok-no-in-Test.ensures.found c.in_ok-yes-in-Test.ensures.known c.tree_of.result.now
     c.tree_of.ensures in
-    let high = still_has_value (g.D.Descent.made c.args.descent.now) (g.D.Descent.fits c.args.descent.now) c.found-in-Test.new.known.items c.found-in-Test.new.known.items c.as_slice-kept.result.now
-    (λ i g at. at) c.as_slice-kept.ensures.value c.in-Test.yes.now c.in_ok-yes-in-Test.yes c.in_ok-yes-in-Test.ensures.found c.in_ok-yes-in-Test.ensures.known c.tree_of-in-Test.result.now
+    let high = still_has_value (g.D.Descent.made c.args.descent.now) (g.D.Descent.fits c.args.descent.now)
+    c.found-in-Test.new.known.items c.found-in-Test.new.known.items c.as_slice-kept.result.now
+    (λ i g at. at) c.as_slice-kept.ensures.value c.in-Test.yes.now c.in_ok-yes-in-Test.yes
+    c.in_ok-yes-in-Test.ensures.found c.in_ok-yes-in-Test.ensures.known c.tree_of-in-Test.result.now
     c.tree_of-in-Test.ensures in
-    handed_on _ c.from_residual-in_err-few-in-Test.result c.in_err-few-in-Test.field-0.0 c.from_residual-in_err-few-in-Test.ensures.1
+    handed_on _ c.from_residual-in_err-few-in-Test.result c.in_err-few-in-Test.field-0.0
+    c.from_residual-in_err-few-in-Test.ensures.1
     (large_part (g.D.Descent.large c.args.descent.now) (g.D.Descent.fits c.args.descent.now)
-    (g.D.Descent.wide c.args.descent.now) c.in_err-few-in-Test.field-0.0 c.args.guard.now c.in-Test.condition c.in-Test.no.now c.in-Test.yes.now c.in-Test.ensures c.in_ok-tree-in-Test.tree
+    (g.D.Descent.wide c.args.descent.now) c.in_err-few-in-Test.field-0.0 c.args.guard.now c.in-Test.condition
+    c.in-Test.no.now c.in-Test.yes.now c.in-Test.ensures c.in_ok-tree-in-Test.tree
     (c.in_ok-tree-in-Test.ensures.fits c.in-Test.no.now c.in-Test.yes.now low.1 high.1)
-    (named_as (IsLarge c.in_ok-tree-in-Test.tree) c.wide.result (g.D.Descent.wide c.args.descent.now) c.in_err-few-in-Test.field-0.0 c.wide.ensures c.in_err-few-in-Test.ensures))
+    (named_as (IsLarge c.in_ok-tree-in-Test.tree) c.wide.result (g.D.Descent.wide c.args.descent.now)
+    c.in_err-few-in-Test.field-0.0 c.wide.ensures c.in_err-few-in-Test.ensures))

@@ -10,14 +10,28 @@ pub returns-then-is_true-clause-asked : goal.returns-then-is_true-clause-asked
 returns-then-is_true-clause-asked c =
     let g = c.args.span.now.problem.now in
     let span = c.args.span.now in
-    let there : c.loop-other.other ≤ process_count g = omega (arith, c.loop-other-test.true, ap length c.processes.ensures.processes, c.processes.ensures.within.few_processes) in
-    asked_everywhere g span.order.now span.guards.now span.node span.from c.args.to c.args.condition c.loop-other.other (process_count g) c.loop-other.asked there
-    (subst (λ b. OnTrue b (IsConstant true c.loop-other.asked.faults c.loop-other.asked)) c.if-is_true.true c.is_true.ensures) c.loop-other.invariant.1
+    let there : c.loop-other.other ≤ process_count g = omega (
+      arith,
+      c.loop-other-test.true,
+      ap length c.processes.ensures.processes,
+      c.processes.ensures.within.few_processes,
+    ) in
+    asked_everywhere g span.order.now span.guards.now span.node span.from c.args.to c.args.condition c.loop-other.other
+    (process_count g) c.loop-other.asked there
+    (subst (λ b. OnTrue b (IsConstant true c.loop-other.asked.faults c.loop-other.asked)) c.if-is_true.true
+    c.is_true.ensures) c.loop-other.invariant.1
 
 pub returns-clause-asked : goal.returns-clause-asked
 returns-clause-asked c =
     let g = c.args.span.now.problem.now in
     let span = c.args.span.now in
     let all : c.loop-other.other ≡ process_count g =
-    omega (arith, c.loop-other-test.false, c.loop-other.auto.other-end, ap length c.processes.ensures.processes, c.processes.ensures.within.few_processes) in
-    subst (λ n. IsAskedTree g span.order.now span.guards.now span.node span.from c.args.to c.args.condition n c.loop-other.asked) all c.loop-other.invariant.1
+    omega (
+      arith,
+      c.loop-other-test.false,
+      c.loop-other.auto.other-end,
+      ap length c.processes.ensures.processes,
+      c.processes.ensures.within.few_processes,
+    ) in
+    subst (λ n. IsAskedTree g span.order.now span.guards.now span.node span.from c.args.to c.args.condition n
+    c.loop-other.asked) all c.loop-other.invariant.1

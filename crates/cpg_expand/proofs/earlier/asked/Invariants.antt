@@ -3,4 +3,5 @@ use Rattle.cpg_expand.specs.Earlier.{IsAskedTree}
 use Rattle.cpg_expand.proofs.earlier.asked.Given as goal
 
 abbrev pub invariant-loop-other : goal.invariant-loop-other
-invariant-loop-other l = IsTree l.span.problem.now l.asked × IsAskedTree l.span.problem.now l.span.order.now l.span.guards.now l.span.node l.span.from l.to l.condition l.other l.asked
+invariant-loop-other l = IsTree l.span.problem.now l.asked × IsAskedTree l.span.problem.now l.span.order.now
+    l.span.guards.now l.span.node l.span.from l.to l.condition l.other l.asked

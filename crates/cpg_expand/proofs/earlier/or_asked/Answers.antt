@@ -11,23 +11,31 @@ pub returns-clause-tree : goal.returns-clause-tree
 returns-clause-tree c =
     let g = c.args.span.now.problem.now in
     let of_tested = c.in_ok-tested.ensures.tree in
-    same_tree g c.in_ok-tested.tested c.in_ok-either.either of_tested.faults c.in_ok-either.ensures.is.faults c.in_ok-either.ensures.each
-    (c.in_ok-either.ensures.pass (is_variable g) of_tested.known (c.in_ok-always.ensures.pass (is_variable g)) c.requires.tree.known)
+    same_tree g c.in_ok-tested.tested c.in_ok-either.either of_tested.faults c.in_ok-either.ensures.is.faults
+    c.in_ok-either.ensures.each
+    (c.in_ok-either.ensures.pass (is_variable g) of_tested.known
+    (c.in_ok-always.ensures.pass (is_variable g)) c.requires.tree.known)
 
 pub returns-clause-asked : goal.returns-clause-asked
 returns-clause-asked c =
     let g = c.args.span.now.problem.now in
     let span = c.args.span.now in
-    asked_too g span.order.now span.guards.now span.node span.from c.args.to c.args.condition c.args.other c.in_ok-tested.tested c.in_ok-always.always c.args.asked c.in_ok-either.either
-    (between_from g span.order.now span.node span.from c.args.to c.args.other c.requires.other (sym c.stands_between.ensures ∙ c.if-not-stands_between.false))
+    asked_too g span.order.now span.guards.now span.node span.from c.args.to c.args.condition c.args.other
+    c.in_ok-tested.tested c.in_ok-always.always c.args.asked c.in_ok-either.either
+    (between_from g span.order.now span.node span.from c.args.to c.args.other c.requires.other
+    (sym c.stands_between.ensures ∙ c.if-not-stands_between.false))
     c.in_ok-tested.ensures.tree
-    (constant_tree g true c.faults.result c.in_ok-always.always c.faults.ensures.faults c.in_ok-always.ensures.each c.in_ok-always.ensures.is (c.in_ok-always.ensures.pass (is_variable g)))
-    c.requires.tree (subst (λ (guard : Guard). IsTestedOn g.faults guard c.args.condition c.in_ok-tested.tested) c.guard_of.ensures.tree c.in_ok-tested.ensures.tested)
-    (subst (λ n. IsConstant true n c.in_ok-always.always) c.faults.ensures.faults c.in_ok-always.ensures.is) c.in_ok-either.ensures.is c.requires.asked
+    (constant_tree g true c.faults.result c.in_ok-always.always c.faults.ensures.faults c.in_ok-always.ensures.each
+    c.in_ok-always.ensures.is (c.in_ok-always.ensures.pass (is_variable g)))
+    c.requires.tree (subst (λ (guard : Guard). IsTestedOn g.faults guard c.args.condition c.in_ok-tested.tested)
+    c.guard_of.ensures.tree c.in_ok-tested.ensures.tested)
+    (subst (λ n. IsConstant true n c.in_ok-always.always) c.faults.ensures.faults c.in_ok-always.ensures.is)
+    c.in_ok-either.ensures.is c.requires.asked
 
 pub returns-then-not-stands_between-clause-asked : goal.returns-then-not-stands_between-clause-asked
 returns-then-not-stands_between-clause-asked c =
     let g = c.args.span.now.problem.now in
     let span = c.args.span.now in
     asked_same g span.order.now span.guards.now span.node span.from c.args.to c.args.condition c.args.other c.args.asked
-    (not_between g span.order.now span.node span.from c.args.to c.args.other (sym c.stands_between.ensures ∙ c.if-not-stands_between.true)) c.requires.asked
+    (not_between g span.order.now span.node span.from c.args.to c.args.other
+    (sym c.stands_between.ensures ∙ c.if-not-stands_between.true)) c.requires.asked

@@ -3,5 +3,6 @@ use Rattle.cpg_base.specs.Duration.{duration}
 use Rattle.cpg_expand.proofs.ending.durations.Goals as goal
 
 pub loop-faults-preserved : goal.loop-faults-preserved
-loop-faults-preserved c = map_below_push (duration c.args.problem.now c.args.process) c.loop-faults.durations.items c.push.new.self.items c.duration.result c.loop-faults.faults
+loop-faults-preserved c = map_below_push (duration c.args.problem.now c.args.process) c.loop-faults.durations.items
+    c.push.new.self.items c.duration.result c.loop-faults.faults
     c.loop-faults.invariant c.duration.ensures.duration c.in_ok-push.ensures.items

@@ -6,11 +6,16 @@ use Rattle.cpg_expand.proofs.GuardTrees.{end_valued, same_tree, count_passes}
 use Rattle.cpg_expand.proofs.ending.end.Goals as goal
 
 pub returns-clause-tree : goal.returns-clause-tree
-returns-clause-tree c = same_tree c.args.problem.now c.args.start.now c.in_ok-end.end c.requires.start.faults c.in_ok-end.ensures.is.faults c.in_ok-end.ensures.each
+returns-clause-tree c = same_tree c.args.problem.now c.args.start.now c.in_ok-end.end c.requires.start.faults
+    c.in_ok-end.ensures.is.faults c.in_ok-end.ensures.each
     (c.in_ok-end.ensures.pass (is_variable c.args.problem.now) c.requires.start.known
-    (c.in_ok-faults.ensures.pass (is_variable c.args.problem.now) (count_passes c.args.problem.now c.args.process c.requires.process)))
+    (c.in_ok-faults.ensures.pass (is_variable c.args.problem.now)
+    (count_passes c.args.problem.now c.args.process c.requires.process)))
 
 pub returns-clause-end : goal.returns-clause-end
-returns-clause-end c = end_valued c.args.problem.now c.args.process c.args.start.now c.in_ok-end.end c.in_ok-faults.faults c.requires.start
-    (subst (λ k. IsNumber c.args.process k (λ n. n) c.in_ok-faults.faults) c.faults.ensures.faults c.in_ok-faults.ensures.is) c.in_ok-faults.ensures.each
-    (subst (λ (ds : List ℕ). IsJoin (λ x n z. z ≡ ended ds n x) c.args.start.now c.in_ok-faults.faults c.in_ok-end.end) (c.as_slice.ensures.value ∙ c.in_ok-durations.ensures) c.in_ok-end.ensures.is)
+returns-clause-end c =
+    end_valued c.args.problem.now c.args.process c.args.start.now c.in_ok-end.end c.in_ok-faults.faults c.requires.start
+    (subst (λ k. IsNumber c.args.process k (λ n. n) c.in_ok-faults.faults) c.faults.ensures.faults
+    c.in_ok-faults.ensures.is) c.in_ok-faults.ensures.each
+    (subst (λ (ds : List ℕ). IsJoin (λ x n z. z ≡ ended ds n x) c.args.start.now c.in_ok-faults.faults c.in_ok-end.end)
+    (c.as_slice.ensures.value ∙ c.in_ok-durations.ensures) c.in_ok-end.ensures.is)

@@ -3,4 +3,5 @@ use Rattle.cpg_expand.proofs.GuardTrees.{ready_always}
 use Rattle.cpg_expand.proofs.ending.ready.Goals as goal
 
 pub returns-then-is_true-clause-ready : goal.returns-then-is_true-clause-ready
-returns-then-is_true-clause-ready c = ready_always c.args.problem.now c.args.active.now c.args.end.now (ready_by c.args.problem.now c.args.forest.now c.args.wait.now) c.if-is_true.ensures
+returns-then-is_true-clause-ready c = ready_always c.args.problem.now c.args.active.now c.args.end.now
+    (ready_by c.args.problem.now c.args.forest.now c.args.wait.now) c.if-is_true.ensures

@@ -12,8 +12,10 @@ pub returns-in_ok-ready-in-After-clause-ready : goal.returns-in_ok-ready-in-Afte
 returns-in_ok-ready-in-After-clause-ready c =
     let g = c.args.problem.now in
     let f = c.args.forest.now in
-    subst (λ (r : Ready). IsReadyTree g.faults c.args.active.now c.args.end.now (ready_by g f r) c.in_ok-ready-in-After.ready) (sym c.in-After.is)
-    (ready_after g.faults c.args.active.now c.args.end.now (later_tree (ends_of g f c.in-After.process)) c.in_ok-before-in-After.before c.in_ok-ready-in-After.ready
+    subst (λ (r : Ready). IsReadyTree g.faults c.args.active.now c.args.end.now
+    (ready_by g f r) c.in_ok-ready-in-After.ready) (sym c.in-After.is)
+    (ready_after g.faults c.args.active.now c.args.end.now
+    (later_tree (ends_of g f c.in-After.process)) c.in_ok-before-in-After.before c.in_ok-ready-in-After.ready
     c.in_ok-before-in-After.ensures.later c.in_ok-ready-in-After.ensures.ready)
 
 pub end_or-requires-in-At-clause-wait : goal.end_or-requires-in-At-clause-wait
@@ -23,4 +25,5 @@ pub returns-in_ok-ready-in-At-clause-ready : goal.returns-in_ok-ready-in-At-clau
 returns-in_ok-ready-in-At-clause-ready c =
     let g = c.args.problem.now in
     let f = c.args.forest.now in
-    subst (λ (r : Ready). IsReadyTree g.faults c.args.active.now c.args.end.now (ready_by g f r) c.in_ok-ready-in-At.ready) (sym c.in-At.is) c.in_ok-ready-in-At.ensures.ready
+    subst (λ (r : Ready). IsReadyTree g.faults c.args.active.now c.args.end.now
+    (ready_by g f r) c.in_ok-ready-in-At.ready) (sym c.in-At.is) c.in_ok-ready-in-At.ensures.ready

@@ -12,7 +12,8 @@ assemble-requires c =
     let g = c.args.admitted.now.graph in
     let grown = c.in_ok-grown.grown in
     let same : grown.order ≡ c.args.order.now = c.in_ok-grown.ensures.grown.same ∙ c.in_ok-copy.ensures in
-    built_writable g c.args.admitted.now.order c.args.admitted.now.guards c.problem-problem.ensures.admitted grown.order (subst (IsTopological g) (sym same) c.requires.topological)
+    built_writable g c.args.admitted.now.order c.args.admitted.now.guards c.problem-problem.ensures.admitted grown.order
+    (subst (IsTopological g) (sym same) c.requires.topological)
     c.in_ok-rows.rows c.in_ok-rows.ensures.rows
 
 pub returns-clause-built : goal.returns-clause-built
@@ -22,7 +23,8 @@ returns-clause-built c =
     let grown = c.in_ok-grown.grown in
     let same : grown.order ≡ c.args.order.now = c.in_ok-grown.ensures.grown.same ∙ c.in_ok-copy.ensures in
     subst (λ o. IsBuiltFor g urgency o c.in_ok-built.built) same
-    (assembled g urgency c.args.admitted.now.guards c.problem-problem.ensures.admitted grown.order (subst (IsTopological g) (sym same) c.requires.topological)
+    (assembled g urgency c.args.admitted.now.guards c.problem-problem.ensures.admitted grown.order
+    (subst (IsTopological g) (sym same) c.requires.topological)
     c.in_ok-rows.rows c.in_ok-rows.ensures.rows c.in_ok-built.built c.in_ok-built.ensures)
 
 pub returns-clause-narrow : goal.returns-clause-narrow

@@ -5,10 +5,13 @@ use Rattle.cpg_expand.proofs.WideRowsMade.{named_least, width_of}
 use Rattle.cpg_expand.proofs.expanding.grow_bounded.Goals as goal
 
 pub grow_with-requires-clause-wide : goal.grow_with-requires-clause-wide
-grow_with-requires-clause-wide c = width_of c.args.admitted.now.graph c.args.order c.in_ok-wide.wide c.in_ok-wide.ensures.some c.in_ok-wide.ensures.none
+grow_with-requires-clause-wide c = width_of c.args.admitted.now.graph c.args.order c.in_ok-wide.wide
+    c.in_ok-wide.ensures.some c.in_ok-wide.ensures.none
 
 pub returns-in_err-grown-clause-fault : goal.returns-in_err-grown-clause-fault
 returns-in_err-grown-clause-fault c =
     handed_on _ c.from_residual-in_err-grown.result c.in_err-grown.field-0.0 c.from_residual-in_err-grown.ensures.1
-    (named_least (HasLargeTree c.args.admitted.now.graph c.args.admitted.now.order c.args.order) c.args.admitted.now.graph c.args.order c.in_ok-wide.wide c.in_err-grown.field-0.0
-    (width_of c.args.admitted.now.graph c.args.order c.in_ok-wide.wide c.in_ok-wide.ensures.some c.in_ok-wide.ensures.none) c.in_err-grown.ensures.fault)
+    (named_least (HasLargeTree c.args.admitted.now.graph c.args.admitted.now.order c.args.order)
+    c.args.admitted.now.graph c.args.order c.in_ok-wide.wide c.in_err-grown.field-0.0
+    (width_of c.args.admitted.now.graph c.args.order c.in_ok-wide.wide c.in_ok-wide.ensures.some
+    c.in_ok-wide.ensures.none) c.in_err-grown.ensures.fault)

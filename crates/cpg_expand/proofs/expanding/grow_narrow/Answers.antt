@@ -4,4 +4,6 @@ use Rattle.cpg_expand.proofs.expanding.grow_narrow.Goals as goal
 
 pub unreachable-requires : goal.unreachable-requires
 unreachable-requires c =
-    rw c.in-Err-TooWide.field-0-is at (none_named (HasLargeTree c.args.admitted.now.graph c.args.admitted.now.order c.args.order) (λ _. ⊥) c.in-Err-TooWide.field-0 c.in-Err-TooWide.ensures.fault)
+    rw c.in-Err-TooWide.field-0-is at
+    (none_named (HasLargeTree c.args.admitted.now.graph c.args.admitted.now.order c.args.order)
+    (λ _. ⊥) c.in-Err-TooWide.field-0 c.in-Err-TooWide.ensures.fault)

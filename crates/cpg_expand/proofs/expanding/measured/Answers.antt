@@ -18,13 +18,18 @@ returns c =
     let frozen : List (Option ℕ) = c.args.trees.frozen in
     let forest : ForestState = c.args.trees.forest in
     let grown : IsGrown g order (process_count g) frozen forest = c.requires.grown in
-    let has_value : GiveEnds g order frozen forest.ends = grown_gives_ends g urgency guards a order c.requires.topological frozen forest grown in
-    let worst : IsWorstOfTrees g urgency forest.ends c.in_ok-worst.worst = said_of (λ h us ts. IsWorstOfTrees h us ts c.in_ok-worst.worst) g c.problem-problem.result.now urgency
+    let has_value : GiveEnds g order frozen forest.ends =
+    grown_gives_ends g urgency guards a order c.requires.topological frozen forest grown in
+    let worst : IsWorstOfTrees g urgency forest.ends c.in_ok-worst.worst =
+    said_of (λ h us ts. IsWorstOfTrees h us ts c.in_ok-worst.worst) g c.problem-problem.result.now urgency
     c.order-urgency.result.now forest.ends c.as_slice-ends.result.now
-    c.problem-problem.ensures.problem c.order-urgency.ensures.order (c.as_slice-ends.ensures.value ∙ ap (λ (m : GrownForest). m.forest.ends) c.trees.view_is) c.in_ok-worst.ensures.worst in
-    let excess : IsExcessOfTrees g urgency forest.ends c.in_ok-excess.excess = said_of (λ h us ts. IsExcessOfTrees h us ts c.in_ok-excess.excess) g c.problem-problem.result.now urgency
+    c.problem-problem.ensures.problem c.order-urgency.ensures.order (c.as_slice-ends.ensures.value
+    ∙ ap (λ (m : GrownForest). m.forest.ends) c.trees.view_is) c.in_ok-worst.ensures.worst in
+    let excess : IsExcessOfTrees g urgency forest.ends c.in_ok-excess.excess =
+    said_of (λ h us ts. IsExcessOfTrees h us ts c.in_ok-excess.excess) g c.problem-problem.result.now urgency
     c.order-urgency.result.now forest.ends c.as_slice-ends.result.now
-    c.problem-problem.ensures.problem c.order-urgency.ensures.order (c.as_slice-ends.ensures.value ∙ ap (λ (m : GrownForest). m.forest.ends) c.trees.view_is) c.in_ok-excess.ensures.excess in
+    c.problem-problem.ensures.problem c.order-urgency.ensures.order (c.as_slice-ends.ensures.value
+    ∙ ap (λ (m : GrownForest). m.forest.ends) c.trees.view_is) c.in_ok-excess.ensures.excess in
     record {
       same = refl;
       wide = c.requires.wide;

@@ -7,7 +7,10 @@ use Rattle.cpg_expand.proofs.forest.ready_first.Goals as goal
 
 pub loop-preserved : goal.loop-preserved
 loop-preserved c =
-    nodes_pushed c.args.problem.now c.loop.nodes.items c.push.new.self.items c.in_ok-zero.zero c.loop.counter (c.loop.invariant.0, c.loop.invariant.1, c.loop.invariant.2)
-    (constant_tree c.args.problem.now 0 c.faults.result c.in_ok-zero.zero c.faults.ensures.faults c.in_ok-zero.ensures.each c.in_ok-zero.ensures.is
+    nodes_pushed c.args.problem.now c.loop.nodes.items c.push.new.self.items c.in_ok-zero.zero c.loop.counter
+    (c.loop.invariant.0, c.loop.invariant.1, c.loop.invariant.2)
+    (constant_tree c.args.problem.now 0 c.faults.result c.in_ok-zero.zero c.faults.ensures.faults
+    c.in_ok-zero.ensures.each c.in_ok-zero.ensures.is
     (c.in_ok-zero.ensures.pass (is_variable c.args.problem.now)))
-    (subst (λ k. IsConstant 0 k c.in_ok-zero.zero) c.faults.ensures.faults c.in_ok-zero.ensures.is) c.in_ok-push.ensures.items
+    (subst (λ k. IsConstant 0 k c.in_ok-zero.zero) c.faults.ensures.faults c.in_ok-zero.ensures.is)
+    c.in_ok-push.ensures.items

@@ -4,4 +4,5 @@ use Rattle.cpg_expand.specs.Grown.{IsReadyFirst}
 use Rattle.cpg_expand.proofs.forest.ready_first.Given as goal
 
 abbrev pub invariant-loop : goal.invariant-loop
-invariant-loop l = (length l.nodes.items ≡ l.counter) × All (IsWait l.problem) l.nodes.items × All (IsReadyFirst l.problem.faults) l.nodes.items
+invariant-loop l = (length l.nodes.items ≡ l.counter) × All (IsWait l.problem) l.nodes.items ×
+    All (IsReadyFirst l.problem.faults) l.nodes.items

@@ -4,4 +4,5 @@ use Rattle.cpg_tree.specs.Tree.{IsConstant}
 use Rattle.cpg_expand.proofs.forest.without_times.Given as goal
 
 abbrev pub invariant-loop : goal.invariant-loop
-invariant-loop l = (length l.trees.items ≡ l.counter) × All (IsTree l.problem) l.trees.items × All (IsConstant None l.problem.faults) l.trees.items
+invariant-loop l = (length l.trees.items ≡ l.counter) × All (IsTree l.problem) l.trees.items ×
+    All (IsConstant None l.problem.faults) l.trees.items

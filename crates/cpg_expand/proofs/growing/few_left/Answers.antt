@@ -7,7 +7,8 @@ use Rattle.cpg_expand.proofs.growing.few_left.Goals as goal
 
 pub returns-in_err-few_sent : goal.returns-in_err-few_sent
 returns-in_err-few_sent c =
-    handed_as (HasLargeSend c.args.problem.now c.args.process c.args.forest.now) (IsLargeLeft c.args.problem.now c.args.order.now c.args.process c.args.forest.now) c.args.forest.now.wide
+    handed_as (HasLargeSend c.args.problem.now c.args.process c.args.forest.now)
+    (IsLargeLeft c.args.problem.now c.args.order.now c.args.process c.args.forest.now) c.args.forest.now.wide
     c.from_residual.result c.in_err-few_sent.field-0.0 c.from_residual.ensures.1 (λ x. inl x) c.in_err-few_sent.ensures
 
 pub returns-in_err-few_free : goal.returns-in_err-few_free
@@ -18,5 +19,6 @@ returns-in_err-few_free c =
     let f = c.args.forest.now in
     handed_as (HasLargeFree g order (c.place.result + 1) c.node_of-node.result f) (IsLargeLeft g order p f) f.wide
     c.from_residual-in_err-few_free.result c.in_err-few_free.field-0.0 c.from_residual-in_err-few_free.ensures.1
-    (λ x. inr (subst (λ i. HasLargeFree g order (i + 1) (node_of g p) f) c.place.ensures.place (subst (λ n. HasLargeFree g order (c.place.result + 1) n f) c.node_of-node.ensures.node x)))
+    (λ x. inr (subst (λ i. HasLargeFree g order (i + 1) (node_of g p) f) c.place.ensures.place
+    (subst (λ n. HasLargeFree g order (c.place.result + 1) n f) c.node_of-node.ensures.node x)))
     c.in_err-few_free.ensures

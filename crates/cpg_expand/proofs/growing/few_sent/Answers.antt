@@ -18,7 +18,8 @@ index-requires c =
     let g = c.args.problem.now in
     let is = c.queue-item-items.ensures in
     let within = (in_queue g c.args.process (get_or c.queue-item-items.result.now c.loop-item.item-index 0)
-    (item_queued c.queue-item-items.result.now (queue_of g c.args.process) c.loop-item.item-index c.loop-item-test.true is)).within in
+    (item_queued c.queue-item-items.result.now
+    (queue_of g c.args.process) c.loop-item.item-index c.loop-item-test.true is)).within in
     omega (arith, within, c.requires.forest.times, ap (λ (f : ForestState). length f.times) c.forest.view_is)
 
 pub returns-in_err-few : goal.returns-in_err-few
@@ -27,7 +28,8 @@ returns-in_err-few c =
     let f = c.args.forest.now in
     let p = c.args.process in
     let item = get_or c.queue-item-items.result.now c.loop-item.item-index 0 in
-    let queued = item_queued c.queue-item-items.result.now (queue_of g p) c.loop-item.item-index c.loop-item-test.true c.queue-item-items.ensures in
+    let queued = item_queued c.queue-item-items.result.now
+    (queue_of g p) c.loop-item.item-index c.loop-item-test.true c.queue-item-items.ensures in
     let inside : ForestState = record {
       times = c.forest.inside.times.items;
       ends = c.forest.inside.ends.items;
@@ -37,7 +39,10 @@ returns-in_err-few c =
           c.forest.inside.wide;
     } in
     let tree : TreeState (Option ℕ) = c.index.result.now in
-    let same : tree ≡ times_of g f item = times_read g f c.requires.forest inside c.forest.view_is tree item item c.index.ensures refl (in_queue g p item queued).within in
-    handed_as (IsLarge tree) (HasLargeSend g p f) f.wide c.from_residual.result c.in_err-few.field-0.0 c.from_residual.ensures.1
+    let same : tree ≡ times_of g f item = times_read g f c.requires.forest inside c.forest.view_is tree item item
+    c.index.ensures refl (in_queue g p item queued).within in
+    handed_as (IsLarge tree)
+    (HasLargeSend g p f) f.wide c.from_residual.result c.in_err-few.field-0.0 c.from_residual.ensures.1
     (λ x. record { item = item; sent = queued; large = subst (λ (t : TreeState (Option ℕ)). IsLarge t) same x })
-    (named_as (IsLarge tree) c.forest.inside.wide f.wide c.in_err-few.field-0.0 (ap (λ (x : ForestState). x.wide) c.forest.view_is) c.in_err-few.ensures)
+    (named_as (IsLarge tree) c.forest.inside.wide f.wide c.in_err-few.field-0.0
+    (ap (λ (x : ForestState). x.wide) c.forest.view_is) c.in_err-few.ensures)

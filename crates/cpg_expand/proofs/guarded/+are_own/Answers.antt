@@ -9,11 +9,13 @@ use Rattle.cpg_expand.proofs.guarded.+are_own.Goals as goal
 
 pub returns-in_default : goal.returns-in_default
 returns-in_default t c = subst (All (λ (e : ℕ). is_message c.args.problem.now e ≡ false))
-    (sym (nil_from_length c.args.edges.now (MatchOption-at_none _ _ c.in_default.is c.split_first.ensures.cases))) (All-nil (λ (e : ℕ). is_message c.args.problem.now e ≡ false))
+    (sym (nil_from_length c.args.edges.now (MatchOption-at_none _ _ c.in_default.is c.split_first.ensures.cases)))
+    (All-nil (λ (e : ℕ). is_message c.args.problem.now e ≡ false))
 
 pub are_own-requires : goal.are_own-requires
 are_own-requires t c =
-    let below = all_parts (λ e. e < edge_count c.args.problem.now) c.args.edges.now c.in-Some.edge.now c.in-Some.others.now c.in-Some.ensures.cases.0 c.requires in
+    let below = all_parts (λ e. e < edge_count c.args.problem.now) c.args.edges.now c.in-Some.edge.now
+    c.in-Some.others.now c.in-Some.ensures.cases.0 c.requires in
     let shorter = c.in-Some.ensures.cases.1 in
     let at = c.decreases in
     (omega arith, below.1)
@@ -22,4 +24,5 @@ pub returns : goal.returns
 returns t c =
     let own : ℕ → Type 0 = λ e. is_message c.args.problem.now e ≡ false in
     of_true c.are_own.result c.are_own.ensures
-    (λ others. subst (All own) (sym c.in-Some.ensures.cases.0) (All-cons own c.in-Some.edge.now c.in-Some.others.now (sym c.is_message.ensures ∙ c.if-is_message.false) others))
+    (λ others. subst (All own) (sym c.in-Some.ensures.cases.0) (All-cons own c.in-Some.edge.now c.in-Some.others.now
+    (sym c.is_message.ensures ∙ c.if-is_message.false) others))

@@ -14,16 +14,20 @@ use Rattle.cpg_expand.proofs.guarded.+start_after.Goals as goal
 
 pub returns-in_default-clause-start : goal.returns-in_default-clause-start
 returns-in_default-clause-start t c = subst
-    (λ (es : List ℕ). IsStartAfter c.args.problem.now c.args.forest.now (ready_by c.args.problem.now c.args.forest.now c.args.wait.now) c.args.release es c.in_ok-start.start)
-    (sym (nil_from_length c.args.edges.now (MatchOption-at_none _ _ c.in_default.is c.split_first.ensures.cases))) c.in_ok-start.ensures.start
+    (λ (es : List ℕ). IsStartAfter c.args.problem.now c.args.forest.now
+    (ready_by c.args.problem.now c.args.forest.now c.args.wait.now) c.args.release es c.in_ok-start.start)
+    (sym (nil_from_length c.args.edges.now (MatchOption-at_none _ _ c.in_default.is c.split_first.ensures.cases)))
+    c.in_ok-start.ensures.start
 
 pub returns-then-not-is_message-clause-start : goal.returns-then-not-is_message-clause-start
 returns-then-not-is_message-clause-start t c =
     let g = c.args.problem.now in
     let f = c.args.forest.now in
     let wait = ready_by g f c.args.wait.now in
-    subst (λ (es : List ℕ). IsStartAfter g f wait c.args.release es c.in_ok-start-2.start) (sym c.in-Some.ensures.cases.0)
-    (λ s few. own_input g f s [] wait c.in_ok-start-2.start c.args.release c.in-Some.edge.now c.in-Some.others.now (sym c.is_message.ensures ∙ c.if-not-is_message.true)
+    subst (λ (es : List ℕ). IsStartAfter g f wait c.args.release es c.in_ok-start-2.start)
+    (sym c.in-Some.ensures.cases.0)
+    (λ s few. own_input g f s [] wait c.in_ok-start-2.start c.args.release c.in-Some.edge.now c.in-Some.others.now
+    (sym c.is_message.ensures ∙ c.if-not-is_message.true)
     (c.in_ok-start-2.ensures.start s few))
 
 pub returns-then-are_own-clause-start : goal.returns-then-are_own-clause-start
@@ -31,13 +35,16 @@ returns-then-are_own-clause-start t c =
     let g = c.args.problem.now in
     let f = c.args.forest.now in
     let wait = ready_by g f c.args.wait.now in
-    subst (λ (es : List ℕ). IsStartAfter g f wait c.args.release es c.in_ok-start-3.start) (sym c.in-Some.ensures.cases.0)
-    (λ s few. last_input g f s [] wait c.in_ok-start-3.start c.args.release c.in-Some.edge.now c.in-Some.others.now (from_true c.are_own.result c.if-are_own.true c.are_own.ensures)
+    subst (λ (es : List ℕ). IsStartAfter g f wait c.args.release es c.in_ok-start-3.start)
+    (sym c.in-Some.ensures.cases.0)
+    (λ s few. last_input g f s [] wait c.in_ok-start-3.start c.args.release c.in-Some.edge.now c.in-Some.others.now
+    (from_true c.are_own.result c.if-are_own.true c.are_own.ensures)
     (c.in_ok-start-3.ensures.start s few))
 
 pub start_after-requires-2 : goal.start_after-requires-2
 start_after-requires-2 t c =
-    let below = all_parts (λ e. e < edge_count c.args.problem.now) c.args.edges.now c.in-Some.edge.now c.in-Some.others.now c.in-Some.ensures.cases.0 c.requires.edges in
+    let below = all_parts (λ e. e < edge_count c.args.problem.now) c.args.edges.now c.in-Some.edge.now
+    c.in-Some.others.now c.in-Some.ensures.cases.0 c.requires.edges in
     let shorter = c.in-Some.ensures.cases.1 in
     let at = c.decreases in
     (omega arith, (c.requires.forest, (c.in_ok-there.ensures.tree, below.1)))
@@ -47,26 +54,38 @@ returns-clause-start t c =
     let g = c.args.problem.now in
     let f = c.args.forest.now in
     let wait = ready_by g f c.args.wait.now in
-    subst (λ (es : List ℕ). IsStartAfter g f wait c.args.release es c.in_ok-start-4.start) (sym c.in-Some.ensures.cases.0)
-    (λ s few. one_input g f s [] few wait (later_by (input_delay g c.in-Some.edge.now) (input_tree g f c.in-Some.edge.now)) c.in_ok-there.there c.in_ok-start-4.start c.args.release c.in-Some.edge.now
+    subst (λ (es : List ℕ). IsStartAfter g f wait c.args.release es c.in_ok-start-4.start)
+    (sym c.in-Some.ensures.cases.0)
+    (λ s few.
+    one_input g f s [] few wait (later_by (input_delay g c.in-Some.edge.now) (input_tree g f c.in-Some.edge.now))
+    c.in_ok-there.there c.in_ok-start-4.start c.args.release c.in-Some.edge.now
     c.in-Some.others.now
-    (later_is g (input_delay g c.in-Some.edge.now) (input_tree g f c.in-Some.edge.now)) c.in_ok-there.ensures.both (c.in_ok-start-4.ensures.start s few))
+    (later_is g (input_delay g c.in-Some.edge.now) (input_tree g f c.in-Some.edge.now)) c.in_ok-there.ensures.both
+    (c.in_ok-start-4.ensures.start s few))
 
 pub returns-in_err-start-2-clause-fault : goal.returns-in_err-start-2-clause-fault
 returns-in_err-start-2-clause-fault t c =
-    handed_on _ c.from_residual-in_err-start-2.result c.in_err-start-2.field-0.0 c.from_residual-in_err-start-2.ensures.1
-    (large_own c.args.problem.now c.args.forest.now (ready_by c.args.problem.now c.args.forest.now c.args.wait.now) c.args.forest.now.wide c.in_err-start-2.field-0.0 c.args.edges.now
-    c.in-Some.edge.now c.in-Some.others.now c.in-Some.ensures.cases.0 (sym c.is_message.ensures ∙ c.if-not-is_message.true) c.in_err-start-2.ensures.fault)
+    handed_on _ c.from_residual-in_err-start-2.result c.in_err-start-2.field-0.0
+    c.from_residual-in_err-start-2.ensures.1
+    (large_own c.args.problem.now c.args.forest.now (ready_by c.args.problem.now c.args.forest.now c.args.wait.now)
+    c.args.forest.now.wide c.in_err-start-2.field-0.0 c.args.edges.now
+    c.in-Some.edge.now c.in-Some.others.now c.in-Some.ensures.cases.0
+    (sym c.is_message.ensures ∙ c.if-not-is_message.true) c.in_err-start-2.ensures.fault)
 
 pub returns-in_err-few-clause-fault : goal.returns-in_err-few-clause-fault
 returns-in_err-few-clause-fault t c =
     handed_on _ c.from_residual-in_err-few.result c.in_err-few.field-0.0 c.from_residual-in_err-few.ensures.1
-    (large_both c.args.problem.now c.args.forest.now (ready_by c.args.problem.now c.args.forest.now c.args.wait.now) c.args.forest.now.wide c.in_err-few.field-0.0 c.args.edges.now c.in-Some.edge.now
+    (large_both c.args.problem.now c.args.forest.now (ready_by c.args.problem.now c.args.forest.now c.args.wait.now)
+    c.args.forest.now.wide c.in_err-few.field-0.0 c.args.edges.now c.in-Some.edge.now
     c.in-Some.others.now c.in-Some.ensures.cases.0 c.in_ok-there.there c.in_ok-there.ensures.both
-    (named_as (IsLarge c.in_ok-there.there) c.forest.inside.wide c.args.forest.now.wide c.in_err-few.field-0.0 (ap (λ (x : ForestState). x.wide) c.forest.view_is) c.in_err-few.ensures))
+    (named_as (IsLarge c.in_ok-there.there) c.forest.inside.wide c.args.forest.now.wide c.in_err-few.field-0.0
+    (ap (λ (x : ForestState). x.wide) c.forest.view_is) c.in_err-few.ensures))
 
 pub returns-in_err-start-4-clause-fault : goal.returns-in_err-start-4-clause-fault
 returns-in_err-start-4-clause-fault t c =
-    handed_on _ c.from_residual-in_err-start-4.result c.in_err-start-4.field-0.0 c.from_residual-in_err-start-4.ensures.1
-    (large_later c.args.problem.now c.args.forest.now (ready_by c.args.problem.now c.args.forest.now c.args.wait.now) c.args.forest.now.wide c.in_err-start-4.field-0.0 c.args.edges.now
-    c.in-Some.edge.now c.in-Some.others.now c.in-Some.ensures.cases.0 c.in_ok-there.there c.in_ok-there.ensures.both c.in_err-start-4.ensures.fault)
+    handed_on _ c.from_residual-in_err-start-4.result c.in_err-start-4.field-0.0
+    c.from_residual-in_err-start-4.ensures.1
+    (large_later c.args.problem.now c.args.forest.now (ready_by c.args.problem.now c.args.forest.now c.args.wait.now)
+    c.args.forest.now.wide c.in_err-start-4.field-0.0 c.args.edges.now
+    c.in-Some.edge.now c.in-Some.others.now c.in-Some.ensures.cases.0 c.in_ok-there.there c.in_ok-there.ensures.both
+    c.in_err-start-4.ensures.fault)

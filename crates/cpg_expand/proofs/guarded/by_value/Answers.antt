@@ -7,11 +7,15 @@ use Rattle.cpg_expand.proofs.guarded.by_value.Goals as goal
 
 pub returns-clause-tree : goal.returns-clause-tree
 returns-clause-tree g c = same_tree c.args.problem.now c.in_ok-value.value c.in_ok-picked.picked
-    (c.in_ok-value.ensures.is.faults ∙ c.faults.ensures.faults) c.in_ok-picked.ensures.is.faults c.in_ok-picked.ensures.each
-    (c.in_ok-picked.ensures.pass (is_variable c.args.problem.now) (c.in_ok-value.ensures.pass (is_variable c.args.problem.now) (value_passes c.args.problem.now c.args.condition c.requires.condition))
+    (c.in_ok-value.ensures.is.faults ∙ c.faults.ensures.faults) c.in_ok-picked.ensures.is.faults
+    c.in_ok-picked.ensures.each
+    (c.in_ok-picked.ensures.pass (is_variable c.args.problem.now) (c.in_ok-value.ensures.pass
+    (is_variable c.args.problem.now) (value_passes c.args.problem.now c.args.condition c.requires.condition))
     c.requires.yes.known c.requires.no.known)
 
 pub returns-clause-picks : goal.returns-clause-picks
-returns-clause-picks g c = value_picks c.args.problem.now c.args.condition c.in_ok-value.value c.args.yes.now c.args.no.now c.in_ok-picked.picked
-    (subst (λ k. IsNumber (128 + c.args.condition) k number_of_value c.in_ok-value.value) c.faults.ensures.faults c.in_ok-value.ensures.is) c.in_ok-value.ensures.each c.requires.yes c.requires.no
+returns-clause-picks g c = value_picks c.args.problem.now c.args.condition c.in_ok-value.value c.args.yes.now
+    c.args.no.now c.in_ok-picked.picked
+    (subst (λ k. IsNumber (128 + c.args.condition) k number_of_value c.in_ok-value.value) c.faults.ensures.faults
+    c.in_ok-value.ensures.is) c.in_ok-value.ensures.each c.requires.yes c.requires.no
     c.in_ok-picked.ensures.is

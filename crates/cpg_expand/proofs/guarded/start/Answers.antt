@@ -12,23 +12,30 @@ pub returns-then-is_by_activity-clause-start : goal.returns-then-is_by_activity-
 returns-then-is_by_activity-clause-start c =
     let g = c.args.problem.now in
     let f = c.args.forest.now in
-    active_starts g f c.args.active.now (ready_by g f c.args.wait.now) c.args.release c.args.inputs.now c.args.guard.now c.in_ok-start.start
-    (from_true c.is_by_activity.result c.if-is_by_activity.true c.is_by_activity.ensures) c.requires.actives c.in_ok-start.ensures.start
+    active_starts g f c.args.active.now
+    (ready_by g f c.args.wait.now) c.args.release c.args.inputs.now c.args.guard.now c.in_ok-start.start
+    (from_true c.is_by_activity.result c.if-is_by_activity.true c.is_by_activity.ensures) c.requires.actives
+    c.in_ok-start.ensures.start
 
 pub returns-in_err-start-clause-fault : goal.returns-in_err-start-clause-fault
 returns-in_err-start-clause-fault c =
     let g = c.args.problem.now in
     let f = c.args.forest.now in
     let wait = ready_by g f c.args.wait.now in
-    let for_all : AreLeaves WaitsForAll c.args.guard.now = from_true c.is_by_activity.result c.if-is_by_activity.true c.is_by_activity.ensures in
-    handed_as (IsLargeWith g f wait c.args.inputs.now) (IsLargeStart g f wait c.args.release c.args.inputs.now c.args.guard.now) f.wide
-    c.from_residual.result c.in_err-start.field-0.0 c.from_residual.ensures.1 (λ x. inl (for_all, x)) c.in_err-start.ensures.fault
+    let for_all : AreLeaves WaitsForAll c.args.guard.now =
+    from_true c.is_by_activity.result c.if-is_by_activity.true c.is_by_activity.ensures in
+    handed_as (IsLargeWith g f wait c.args.inputs.now)
+    (IsLargeStart g f wait c.args.release c.args.inputs.now c.args.guard.now) f.wide
+    c.from_residual.result c.in_err-start.field-0.0 c.from_residual.ensures.1
+    (λ x. inl (for_all, x)) c.in_err-start.ensures.fault
 
 pub returns-in_err-start-2-clause-fault : goal.returns-in_err-start-2-clause-fault
 returns-in_err-start-2-clause-fault c =
     let g = c.args.problem.now in
     let f = c.args.forest.now in
     let wait = ready_by g f c.args.wait.now in
-    handed_as (IsLargeDown (λ a. IsLargeWith g f wait (awaited c.args.inputs.now a)) (IsStartTree g f wait c.args.release c.args.inputs.now) c.args.guard.now)
+    handed_as (IsLargeDown (λ a. IsLargeWith g f wait (awaited c.args.inputs.now a))
+    (IsStartTree g f wait c.args.release c.args.inputs.now) c.args.guard.now)
     (IsLargeStart g f wait c.args.release c.args.inputs.now c.args.guard.now) f.wide
-    c.from_residual-in_err-start-2.result c.in_err-start-2.field-0.0 c.from_residual-in_err-start-2.ensures.1 (λ x. inr x) c.in_err-start-2.ensures.fault
+    c.from_residual-in_err-start-2.result c.in_err-start-2.field-0.0 c.from_residual-in_err-start-2.ensures.1
+    (λ x. inr x) c.in_err-start-2.ensures.fault

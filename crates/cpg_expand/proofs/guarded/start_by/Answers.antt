@@ -10,26 +10,34 @@ use Rattle.cpg_expand.proofs.guarded.start_by.Goals as goal
 
 pub returns-in_ok-start-in-Plain-clause-start : goal.returns-in_ok-start-in-Plain-clause-start
 returns-in_ok-start-in-Plain-clause-start c =
-    subst (λ (a : Activation). IsStartBy c.args.problem.now c.args.forest.now (ready_by c.args.problem.now c.args.forest.now c.args.wait.now) c.args.release c.args.inputs.now a
+    subst (λ (a : Activation). IsStartBy c.args.problem.now c.args.forest.now
+    (ready_by c.args.problem.now c.args.forest.now c.args.wait.now) c.args.release c.args.inputs.now a
     c.in_ok-start-in-Plain.start) (sym c.in-Plain.is)
-    (start_active c.args.problem.now c.args.forest.now (ready_by c.args.problem.now c.args.forest.now c.args.wait.now) c.in_ok-start-in-Plain.start c.args.release c.args.inputs.now Plain refl
+    (start_active c.args.problem.now c.args.forest.now (ready_by c.args.problem.now c.args.forest.now c.args.wait.now)
+    c.in_ok-start-in-Plain.start c.args.release c.args.inputs.now Plain refl
     c.in_ok-start-in-Plain.ensures.start)
 
 pub returns-in_ok-start-in-By-clause-start : goal.returns-in_ok-start-in-By-clause-start
 returns-in_ok-start-in-By-clause-start c =
-    subst (λ (a : Activation). IsStartBy c.args.problem.now c.args.forest.now (ready_by c.args.problem.now c.args.forest.now c.args.wait.now) c.args.release c.args.inputs.now a
+    subst (λ (a : Activation). IsStartBy c.args.problem.now c.args.forest.now
+    (ready_by c.args.problem.now c.args.forest.now c.args.wait.now) c.args.release c.args.inputs.now a
     c.in_ok-start-in-By.start) (sym c.in-By.is)
-    (start_active c.args.problem.now c.args.forest.now (ready_by c.args.problem.now c.args.forest.now c.args.wait.now) c.in_ok-start-in-By.start c.args.release c.args.inputs.now
+    (start_active c.args.problem.now c.args.forest.now (ready_by c.args.problem.now c.args.forest.now c.args.wait.now)
+    c.in_ok-start-in-By.start c.args.release c.args.inputs.now
     (By c.in-By.edge) refl c.in_ok-start-in-By.ensures.start)
 
 pub returns-in_ok-constant-in-Inactive-clause-tree : goal.returns-in_ok-constant-in-Inactive-clause-tree
-returns-in_ok-constant-in-Inactive-clause-tree c = constant_tree c.args.problem.now None c.faults.result c.in_ok-constant-in-Inactive.constant c.faults.ensures.faults
+returns-in_ok-constant-in-Inactive-clause-tree c =
+    constant_tree c.args.problem.now None c.faults.result c.in_ok-constant-in-Inactive.constant c.faults.ensures.faults
     c.in_ok-constant-in-Inactive.ensures.each c.in_ok-constant-in-Inactive.ensures.is
     (c.in_ok-constant-in-Inactive.ensures.pass (is_variable c.args.problem.now))
 
 pub returns-in_ok-constant-in-Inactive-clause-start : goal.returns-in_ok-constant-in-Inactive-clause-start
 returns-in_ok-constant-in-Inactive-clause-start c =
-    subst (λ (a : Activation). IsStartBy c.args.problem.now c.args.forest.now (ready_by c.args.problem.now c.args.forest.now c.args.wait.now) c.args.release c.args.inputs.now a
+    subst (λ (a : Activation). IsStartBy c.args.problem.now c.args.forest.now
+    (ready_by c.args.problem.now c.args.forest.now c.args.wait.now) c.args.release c.args.inputs.now a
     c.in_ok-constant-in-Inactive.constant) (sym c.in-Inactive.is)
-    (no_start c.args.problem.now c.args.forest.now (ready_by c.args.problem.now c.args.forest.now c.args.wait.now) c.args.release c.args.inputs.now c.in_ok-constant-in-Inactive.constant
-    (subst (λ k. IsConstant None k c.in_ok-constant-in-Inactive.constant) c.faults.ensures.faults c.in_ok-constant-in-Inactive.ensures.is))
+    (no_start c.args.problem.now c.args.forest.now (ready_by c.args.problem.now c.args.forest.now c.args.wait.now)
+    c.args.release c.args.inputs.now c.in_ok-constant-in-Inactive.constant
+    (subst (λ k. IsConstant None k c.in_ok-constant-in-Inactive.constant) c.faults.ensures.faults
+    c.in_ok-constant-in-Inactive.ensures.is))

@@ -11,13 +11,17 @@ returns-then-after_condition-latest c =
     let f = c.args.forest.now in
     let active = c.args.active.now in
     let at = c.args.condition in
-    heard_no_later g span.order.now span.guards.now f active c.requires.active span.node span.from c.args.to at c.args.latest
-    (subst (λ n. IsRaised g (HasLater (heard_tree g f span.node at) active (heard_delay g span.node at)) c.args.latest n) c.if-after_condition-latest.true c.after_condition.ensures)
+    heard_no_later g span.order.now span.guards.now f active c.requires.active span.node span.from c.args.to
+    at c.args.latest
+    (subst
+    (λ n. IsRaised g (HasLater (heard_tree g f span.node at) active (heard_delay g span.node at)) c.args.latest n)
+    c.if-after_condition-latest.true c.after_condition.ensures)
 
 pub returns : goal.returns
 returns c =
     let span = c.args.span.now in
-    heard_raised span.problem.now span.order.now span.guards.now c.args.forest.now c.args.active.now c.requires.active span.node span.from c.args.to c.args.condition
+    heard_raised span.problem.now span.order.now span.guards.now c.args.forest.now c.args.active.now c.requires.active
+    span.node span.from c.args.to c.args.condition
     c.in_ok-asked.asked c.in_ok-wanted.wanted c.in_ok-asked.ensures.tree
     c.in_ok-wanted.ensures.tree c.in_ok-asked.ensures.asked c.in_ok-wanted.ensures.both
     c.args.latest c.after_condition-heard.result c.after_condition-heard.ensures

@@ -12,7 +12,8 @@ returns-then-node_of-node c =
     let f = c.args.forest.now in
     heard_by_end g f c.args.node c.args.condition c.args.wanted.now c.args.latest c.after_end.result
     (ap (node_of g) (sym c.process_of-process.ensures.process) ∙ sym c.node_of.ensures.node ∙ c.if-node_of-node.true)
-    (subst (λ q. IsRaised g (HasLater (ends_of g f q) c.args.wanted.now 0) c.args.latest c.after_end.result) c.process_of-process.ensures.process c.after_end.ensures)
+    (subst (λ q. IsRaised g (HasLater (ends_of g f q) c.args.wanted.now 0) c.args.latest c.after_end.result)
+    c.process_of-process.ensures.process c.after_end.ensures)
 
 pub returns : goal.returns
 returns c =
@@ -20,4 +21,5 @@ returns c =
     let f = c.args.forest.now in
     heard_by_frame g f c.args.node c.args.condition c.args.wanted.now c.args.latest c.after_frame.result
     (λ e. c.if-node_of-node.false (c.node_of.ensures.node ∙ ap (node_of g) c.process_of-process.ensures.process ∙ e))
-    (subst (λ x. IsRaised g (HasLater (times_of g f x) c.args.wanted.now (slot_length g (home g x))) c.args.latest c.after_frame.result) c.broadcast_item.ensures.item c.after_frame.ensures)
+    (subst (λ x. IsRaised g (HasLater (times_of g f x) c.args.wanted.now (slot_length g (home g x))) c.args.latest
+    c.after_frame.result) c.broadcast_item.ensures.item c.after_frame.ensures)

@@ -18,8 +18,12 @@ returns c =
       wide =
           c.forest.inside.wide;
     } in
-    let tree : c.index.result.now ≡ ends_of g f c.args.process = ends_read g f c.requires.forest inside c.forest.view_is c.index.result.now c.args.process c.args.process c.index.ensures refl
+    let tree : c.index.result.now ≡ ends_of g f c.args.process = ends_read g f c.requires.forest inside c.forest.view_is
+    c.index.result.now c.args.process c.args.process c.index.ensures refl
     c.requires.process in
-    subst (IsRaised g (HasLater (ends_of g f c.args.process) c.args.wanted.now 0) c.args.latest) (sym c.or_later.ensures)
-    (subst (λ (t : TreeState (Option ℕ)). IsRaised g (HasLater t c.args.wanted.now 0) c.args.latest (or_later c.args.latest 0 c.most_where-time.result)) tree
-    (later_raised g c.index.result.now c.args.wanted.now c.args.latest 0 c.most_where-time.result c.most_where-time.ensures))
+    subst (IsRaised g (HasLater (ends_of g f c.args.process) c.args.wanted.now 0) c.args.latest)
+    (sym c.or_later.ensures)
+    (subst (λ (t : TreeState (Option ℕ)). IsRaised g (HasLater t c.args.wanted.now 0) c.args.latest
+    (or_later c.args.latest 0 c.most_where-time.result)) tree
+    (later_raised g c.index.result.now c.args.wanted.now c.args.latest 0 c.most_where-time.result
+    c.most_where-time.ensures))

@@ -4,10 +4,12 @@ use Rattle.cpg_expand.proofs.latest.after_ends.Goals as goal
 pub loop-other-init : goal.loop-other-init
 loop-other-init c =
     let span = c.args.span.now in
-    none_ended span.problem.now span.order.now c.args.forest.now c.args.active.now span.node span.from c.args.to c.args.first
+    none_ended span.problem.now span.order.now c.args.forest.now c.args.active.now span.node span.from
+    c.args.to c.args.first
 
 pub loop-other-preserved : goal.loop-other-preserved
 loop-other-preserved c =
     let span = c.args.span.now in
-    next_ended span.problem.now span.order.now c.args.forest.now c.args.active.now span.node span.from c.args.to c.loop-other.other c.args.first c.loop-other.latest c.after_one-latest.result
+    next_ended span.problem.now span.order.now c.args.forest.now c.args.active.now span.node span.from c.args.to
+    c.loop-other.other c.args.first c.loop-other.latest c.after_one-latest.result
     c.loop-other.invariant c.after_one-latest.ensures

@@ -20,10 +20,16 @@ returns c =
       wide =
           c.forest.inside.wide;
     } in
-    let tree : c.index.result.now ≡ times_of g f c.args.item = times_read g f c.requires.forest inside c.forest.view_is c.index.result.now c.args.item c.args.item c.index.ensures refl
+    let tree : c.index.result.now ≡ times_of g f c.args.item = times_read g f c.requires.forest inside c.forest.view_is
+    c.index.result.now c.args.item c.args.item c.index.ensures refl
     c.requires.item in
-    let delay : c.slot_length.result ≡ slot_length g (home g c.args.item) = c.slot_length.ensures ∙ ap (slot_length g) c.home.ensures.home in
-    subst (IsRaised g (HasLater (times_of g f c.args.item) c.args.wanted.now (slot_length g (home g c.args.item))) c.args.latest) (sym c.or_later.ensures)
-    (subst (λ n. IsRaised g (HasLater (times_of g f c.args.item) c.args.wanted.now n) c.args.latest (or_later c.args.latest c.slot_length.result c.most_where-time.result)) delay
-    (subst (λ (t : TreeState (Option ℕ)). IsRaised g (HasLater t c.args.wanted.now c.slot_length.result) c.args.latest (or_later c.args.latest c.slot_length.result c.most_where-time.result)) tree
-    (later_raised g c.index.result.now c.args.wanted.now c.args.latest c.slot_length.result c.most_where-time.result c.most_where-time.ensures)))
+    let delay : c.slot_length.result ≡ slot_length g (home g c.args.item) =
+    c.slot_length.ensures ∙ ap (slot_length g) c.home.ensures.home in
+    subst (IsRaised g (HasLater (times_of g f c.args.item) c.args.wanted.now (slot_length g (home g c.args.item)))
+    c.args.latest) (sym c.or_later.ensures)
+    (subst (λ n. IsRaised g (HasLater (times_of g f c.args.item) c.args.wanted.now n) c.args.latest
+    (or_later c.args.latest c.slot_length.result c.most_where-time.result)) delay
+    (subst (λ (t : TreeState (Option ℕ)). IsRaised g (HasLater t c.args.wanted.now c.slot_length.result) c.args.latest
+    (or_later c.args.latest c.slot_length.result c.most_where-time.result)) tree
+    (later_raised g c.index.result.now c.args.wanted.now c.args.latest c.slot_length.result c.most_where-time.result
+    c.most_where-time.ensures)))

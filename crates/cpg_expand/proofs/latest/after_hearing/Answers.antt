@@ -4,10 +4,12 @@ use Rattle.cpg_expand.proofs.latest.after_hearing.Goals as goal
 pub loop-condition-init : goal.loop-condition-init
 loop-condition-init c =
     let span = c.args.span.now in
-    none_heard span.problem.now span.order.now span.guards.now c.args.forest.now c.args.active.now c.requires.active span.node span.from c.args.to c.args.first
+    none_heard span.problem.now span.order.now span.guards.now c.args.forest.now c.args.active.now c.requires.active
+    span.node span.from c.args.to c.args.first
 
 pub loop-condition-preserved : goal.loop-condition-preserved
 loop-condition-preserved c =
     let span = c.args.span.now in
-    next_heard span.problem.now span.order.now span.guards.now c.args.forest.now c.args.active.now c.requires.active span.node span.from c.args.to c.loop-condition.condition c.args.first
+    next_heard span.problem.now span.order.now span.guards.now c.args.forest.now c.args.active.now c.requires.active
+    span.node span.from c.args.to c.loop-condition.condition c.args.first
     c.loop-condition.latest c.in_ok-latest.latest c.loop-condition.invariant c.in_ok-latest.ensures

@@ -2,4 +2,5 @@ use Rattle.cpg_expand.specs.Latest.{HasHeardOf, IsRaised}
 use Rattle.cpg_expand.proofs.latest.after_hearing.Given as goal
 
 abbrev pub invariant-loop-condition : goal.invariant-loop-condition
-invariant-loop-condition l = IsRaised l.span.problem.now (HasHeardOf l.span.problem.now l.span.order.now l.span.guards.now l.forest l.active l.span.node l.span.from l.to l.condition) l.first l.latest
+invariant-loop-condition l = IsRaised l.span.problem.now (HasHeardOf l.span.problem.now l.span.order.now
+    l.span.guards.now l.forest l.active l.span.node l.span.from l.to l.condition) l.first l.latest

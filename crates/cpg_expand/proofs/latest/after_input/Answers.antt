@@ -12,4 +12,5 @@ returns c =
     let f = c.args.forest.now in
     let on : is_message g c.args.edge ≡ true = sym c.is_message.ensures ∙ c.if-not-is_message.false in
     input_raised g f c.args.active.now c.args.edge c.args.latest c.after_frame.result on
-    (subst (λ x. IsRaised g (HasLater (times_of g f x) c.args.active.now (slot_length g (home g x))) c.args.latest c.after_frame.result) c.message_item.ensures.item c.after_frame.ensures)
+    (subst (λ x. IsRaised g (HasLater (times_of g f x) c.args.active.now (slot_length g (home g x))) c.args.latest
+    c.after_frame.result) c.message_item.ensures.item c.after_frame.ensures)

@@ -3,4 +3,5 @@ use Rattle.cpg_expand.specs.Latest.{HasInputOf, IsRaised}
 use Rattle.cpg_expand.proofs.latest.after_inputs.Given as goal
 
 abbrev pub invariant-loop-edge : goal.invariant-loop-edge
-invariant-loop-edge l = IsRaised l.problem (HasInputOf l.problem l.forest l.active (take l.edge-index l.edges)) l.first l.latest
+invariant-loop-edge l =
+    IsRaised l.problem (HasInputOf l.problem l.forest l.active (take l.edge-index l.edges)) l.first l.latest

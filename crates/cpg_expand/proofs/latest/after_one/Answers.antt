@@ -6,5 +6,7 @@ use Rattle.cpg_expand.proofs.latest.after_one.Goals as goal
 pub returns : goal.returns
 returns c =
     let span = c.args.span.now in
-    one_ended span.problem.now span.order.now c.args.forest.now c.args.active.now span.node span.from c.args.to c.args.other c.args.latest c.after_end.result
-    (between_from span.problem.now span.order.now span.node span.from c.args.to c.args.other c.requires.other (sym c.stands_between.ensures ∙ c.if-not-stands_between.false)) c.after_end.ensures
+    one_ended span.problem.now span.order.now c.args.forest.now c.args.active.now span.node span.from c.args.to
+    c.args.other c.args.latest c.after_end.result
+    (between_from span.problem.now span.order.now span.node span.from c.args.to c.args.other c.requires.other
+    (sym c.stands_between.ensures ∙ c.if-not-stands_between.false)) c.after_end.ensures

@@ -9,5 +9,6 @@ loop-other-init c =
 pub loop-other-preserved : goal.loop-other-preserved
 loop-other-preserved c =
     let sent = c.args.sent.now in
-    next_queued c.args.problem.now c.args.order.now c.args.forest.now sent.goes.now sent.item c.loop-other.other c.args.first c.loop-other.latest c.after_queued-latest.result c.loop-other.invariant
+    next_queued c.args.problem.now c.args.order.now c.args.forest.now sent.goes.now sent.item c.loop-other.other
+    c.args.first c.loop-other.latest c.after_queued-latest.result c.loop-other.invariant
     c.after_queued-latest.ensures

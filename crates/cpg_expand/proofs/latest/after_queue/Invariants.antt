@@ -2,4 +2,5 @@ use Rattle.cpg_expand.specs.Latest.{HasQueuedOf, IsRaised}
 use Rattle.cpg_expand.proofs.latest.after_queue.Given as goal
 
 abbrev pub invariant-loop-other : goal.invariant-loop-other
-invariant-loop-other l = IsRaised l.problem (HasQueuedOf l.problem l.order l.forest l.sent.goes.now l.sent.item l.other) l.first l.latest
+invariant-loop-other l =
+    IsRaised l.problem (HasQueuedOf l.problem l.order l.forest l.sent.goes.now l.sent.item l.other) l.first l.latest

@@ -22,9 +22,14 @@ returns c =
       wide =
           c.forest.inside.wide;
     } in
-    let tree : c.index.result.now ≡ times_of g f y = times_read g f c.requires.forest inside c.forest.view_is c.index.result.now y y c.index.ensures refl c.requires.other in
-    one_queued g c.args.order.now f goes sent.item y c.args.latest c.or_later.result (sym c.stands_before.ensures ∙ c.if-not-stands_before.false)
+    let tree : c.index.result.now ≡ times_of g f y = times_read g f c.requires.forest inside c.forest.view_is
+    c.index.result.now y y c.index.ensures refl c.requires.other in
+    one_queued g c.args.order.now f goes sent.item y c.args.latest c.or_later.result
+    (sym c.stands_before.ensures ∙ c.if-not-stands_before.false)
     (subst (IsRaised g (HasLater (times_of g f y) goes (round g)) c.args.latest) (sym c.or_later.ensures)
-    (subst (λ n. IsRaised g (HasLater (times_of g f y) goes n) c.args.latest (or_later c.args.latest sent.round c.most_where-time.result)) c.requires.round
-    (subst (λ (t : TreeState (Option ℕ)). IsRaised g (HasLater t goes sent.round) c.args.latest (or_later c.args.latest sent.round c.most_where-time.result)) tree
-    (later_raised g c.index.result.now goes c.args.latest sent.round c.most_where-time.result c.most_where-time.ensures))))
+    (subst (λ n. IsRaised g (HasLater (times_of g f y) goes n) c.args.latest
+    (or_later c.args.latest sent.round c.most_where-time.result)) c.requires.round
+    (subst (λ (t : TreeState (Option ℕ)). IsRaised g (HasLater t goes sent.round) c.args.latest
+    (or_later c.args.latest sent.round c.most_where-time.result)) tree
+    (later_raised g c.index.result.now goes c.args.latest sent.round c.most_where-time.result
+    c.most_where-time.ensures))))

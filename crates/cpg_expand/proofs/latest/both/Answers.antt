@@ -8,12 +8,16 @@ use Rattle.cpg_expand.proofs.latest.both.Goals as goal
 pub returns-clause-tree : goal.returns-clause-tree
 returns-clause-tree c =
     let g = c.args.problem.now in
-    same_tree g c.args.first.now c.in_ok-both.both c.requires.first.faults c.in_ok-both.ensures.is.faults c.in_ok-both.ensures.each
-    (c.in_ok-both.ensures.pass (is_variable g) c.requires.first.known c.requires.second.known (c.in_ok-never.ensures.pass (is_variable g)))
+    same_tree g c.args.first.now c.in_ok-both.both c.requires.first.faults c.in_ok-both.ensures.is.faults
+    c.in_ok-both.ensures.each
+    (c.in_ok-both.ensures.pass (is_variable g) c.requires.first.known c.requires.second.known
+    (c.in_ok-never.ensures.pass (is_variable g)))
 
 pub returns-clause-both : goal.returns-clause-both
 returns-clause-both c =
     let g = c.args.problem.now in
     both_true g c.args.first.now c.args.second.now c.in_ok-never.never c.in_ok-both.both c.requires.first
-    (constant_tree g false c.faults.result c.in_ok-never.never c.faults.ensures.faults c.in_ok-never.ensures.each c.in_ok-never.ensures.is (c.in_ok-never.ensures.pass (is_variable g)))
-    (subst (λ n. IsConstant false n c.in_ok-never.never) c.faults.ensures.faults c.in_ok-never.ensures.is) c.in_ok-both.ensures.is
+    (constant_tree g false c.faults.result c.in_ok-never.never c.faults.ensures.faults c.in_ok-never.ensures.each
+    c.in_ok-never.ensures.is (c.in_ok-never.ensures.pass (is_variable g)))
+    (subst (λ n. IsConstant false n c.in_ok-never.never) c.faults.ensures.faults c.in_ok-never.ensures.is)
+    c.in_ok-both.ensures.is

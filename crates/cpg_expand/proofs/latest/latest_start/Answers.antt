@@ -9,9 +9,12 @@ returns-in_default c =
     let span = c.args.span.now in
     record {
       ready = c.in_ok-ready.ready;
-      each = subst (λ n. HasOnePathEach n c.in_ok-ready.ready.paths) (ap (λ t. t.faults) c.in_ok-ready.ensures.is ∙ c.faults.ensures.faults) c.in_ok-ready.ensures.each;
-      at = subst (λ n. IsConstant (Some (process_at span.problem.now c.args.process).release) n c.in_ok-ready.ready) c.faults.ensures.faults
-          (subst (λ r. IsConstant (Some r) c.faults.result c.in_ok-ready.ready) c.release.ensures c.in_ok-ready.ensures.is);
+      each = subst (λ n. HasOnePathEach n c.in_ok-ready.ready.paths)
+          (ap (λ t. t.faults) c.in_ok-ready.ensures.is ∙ c.faults.ensures.faults) c.in_ok-ready.ensures.each;
+      at = subst (λ n. IsConstant (Some (process_at span.problem.now c.args.process).release) n c.in_ok-ready.ready)
+          c.faults.ensures.faults
+          (subst (λ r. IsConstant (Some r) c.faults.result c.in_ok-ready.ready) c.release.ensures
+          c.in_ok-ready.ensures.is);
       is = c.in_default.ensures;
     }
 
@@ -23,17 +26,22 @@ returns c =
     let active = c.args.active.now in
     record {
       ready = c.in_ok-ready.ready;
-      each = subst (λ n. HasOnePathEach n c.in_ok-ready.ready.paths) (ap (λ t. t.faults) c.in_ok-ready.ensures.is ∙ c.faults.ensures.faults) c.in_ok-ready.ensures.each;
-      at = subst (λ n. IsConstant (Some (process_at g c.args.process).release) n c.in_ok-ready.ready) c.faults.ensures.faults
-          (subst (λ r. IsConstant (Some r) c.faults.result c.in_ok-ready.ready) c.release.ensures c.in_ok-ready.ensures.is);
+      each = subst (λ n. HasOnePathEach n c.in_ok-ready.ready.paths)
+          (ap (λ t. t.faults) c.in_ok-ready.ensures.is ∙ c.faults.ensures.faults) c.in_ok-ready.ensures.each;
+      at = subst (λ n. IsConstant (Some (process_at g c.args.process).release) n c.in_ok-ready.ready)
+          c.faults.ensures.faults
+          (subst (λ r. IsConstant (Some r) c.faults.result c.in_ok-ready.ready) c.release.ensures
+          c.in_ok-ready.ensures.is);
       is = record {
         first = c.in-Some.first;
         top = c.in-Some.ensures;
         ended = c.after_ends-ended.result;
-        ends = subst (λ n. IsRaised g (HasEndedOf g span.order.now f active span.node span.from n (process_count g)) c.in-Some.first c.after_ends-ended.result) c.place-at.ensures.place
+        ends = subst (λ n. IsRaised g (HasEndedOf g span.order.now f active span.node span.from n (process_count g))
+            c.in-Some.first c.after_ends-ended.result) c.place-at.ensures.place
             c.after_ends-ended.ensures;
         heard = c.in_ok-heard.heard;
-        hears = subst (λ n. IsRaised g (HasHeardOf g span.order.now span.guards.now f active span.node span.from (n + 1) (condition_count g)) c.after_ends-ended.result c.in_ok-heard.heard)
+        hears = subst (λ n. IsRaised g (HasHeardOf g span.order.now span.guards.now f active span.node span.from (n + 1)
+            (condition_count g)) c.after_ends-ended.result c.in_ok-heard.heard)
             c.place-at.ensures.place c.in_ok-heard.ensures;
         raised = c.after_inputs.ensures;
       };

@@ -2,5 +2,6 @@ use Rattle.cpg_expand.proofs.LatestFound.{top_where}
 use Rattle.cpg_expand.proofs.latest.most_where.Goals as goal
 
 pub returns : goal.returns
-returns c = top_where c.args.problem.now c.processes-processes.ensures.within.few_processes c.args.tree.now c.args.wanted.now c.requires.tree c.requires.wanted c.most_where.result
+returns c = top_where c.args.problem.now c.processes-processes.ensures.within.few_processes c.args.tree.now
+    c.args.wanted.now c.requires.tree c.requires.wanted c.most_where.result
     c.most_where.ensures.none c.most_where.ensures.some

@@ -20,37 +20,48 @@ loop-process-preserved c =
     let bar = c.bar_of-bar.result in
     let top : Option ℕ = get_or tops n None in
     let asked : c.reaches.result ≡ reaches bar top = search rules in
-    let below : n < process_count g = omega (arith, c.loop-process-test.true, ap length c.processes.ensures.processes) in
-    let are : HasTops g (process_count g) (EndsAt g ends) tops = ends_tops g c.processes.ensures.within.few_processes ends c.requires.trees tops c.requires.tops c.requires.count in
+    let below : n < process_count g =
+    omega (arith, c.loop-process-test.true, ap length c.processes.ensures.processes) in
+    let are : HasTops g (process_count g) (EndsAt g ends) tops = ends_tops g c.processes.ensures.within.few_processes
+    ends c.requires.trees tops c.requires.tops c.requires.count in
     let count : length tops ≡ process_count g = c.requires.tops.count ∙ c.requires.count in
     let is_top : IsTop g (EndsAt g ends n) top = are n below in
     elim c.if-reaches.branch [
       | then-reaches+in_ok-peak-2 w ↦
           let tree = w.index-ends-process.result in
-          let same : tree ≡ tree_at g ends n = w.index-ends-process.is ∙ get_or_default ends n tree (no_tree g.faults) (omega (arith, below, c.requires.count)) in
-          subst (IsPeak g urgency (n + 1) (HasFrom bar (EndsAt g ends))) (sym w.peak-is) (next_end g urgency ends n tree same c.loop-process.peak w.in_ok-peak-2.peak
+          let same : tree ≡ tree_at g ends n = w.index-ends-process.is
+          ∙ get_or_default ends n tree (no_tree g.faults) (omega (arith, below, c.requires.count)) in
+          subst (IsPeak g urgency (n + 1) (HasFrom bar (EndsAt g ends))) (sym w.peak-is)
+          (next_end g urgency ends n tree same c.loop-process.peak w.in_ok-peak-2.peak
           bar top (sym asked ∙ w.if-reaches.true) is_top c.loop-process.invariant w.in_ok-peak-2.ensures)
       | else-reaches w ↦ subst (IsPeak g urgency (n + 1) (HasFrom bar (EndsAt g ends))) (sym w.peak-is)
-          (next_under g urgency n (EndsAt g ends) bar top is_top (sym asked ∙ w.if-reaches.false) c.loop-process.peak c.loop-process.invariant)
+          (next_under g urgency n (EndsAt g ends) bar top is_top
+          (sym asked ∙ w.if-reaches.false) c.loop-process.peak c.loop-process.invariant)
     ]
 
-peak_of : (c : goal.After-loop-process) → IsPeak c.args.problem.now c.args.urgency.now (process_count c.args.problem.now) (EndsAt c.args.problem.now c.args.ends.now) c.loop-process.peak
+peak_of : (c : goal.After-loop-process) →
+    IsPeak c.args.problem.now c.args.urgency.now (process_count c.args.problem.now)
+    (EndsAt c.args.problem.now c.args.ends.now) c.loop-process.peak
 peak_of c =
     let g = c.args.problem.now in
     let urgency = c.args.urgency.now in
     let ends = c.args.ends.now in
     let tops = c.args.tops.now in
     let peak = c.loop-process.peak in
-    let are : HasTops g (process_count g) (EndsAt g ends) tops = ends_tops g c.processes.ensures.within.few_processes ends c.requires.trees tops c.requires.tops c.requires.count in
+    let are : HasTops g (process_count g) (EndsAt g ends) tops = ends_tops g c.processes.ensures.within.few_processes
+    ends c.requires.trees tops c.requires.tops c.requires.count in
     let count : length tops ≡ process_count g = c.requires.tops.count ∙ c.requires.count in
     let all = all_processes g urgency (HasFrom c.bar_of-bar.result (EndsAt g ends)) c.loop-process.process peak
-    (omega (arith, c.loop-process-test.false, c.loop-process.auto.process-end, ap length c.processes.ensures.processes)) c.loop-process.invariant in
+    (omega (arith, c.loop-process-test.false, c.loop-process.auto.process-end, ap length c.processes.ensures.processes))
+    c.loop-process.invariant in
     peak_of_all g urgency (process_count g) (EndsAt g ends) tops count are peak
-    (subst (λ (bar : ℕ). IsPeak g urgency (process_count g) (HasFrom bar (EndsAt g ends)) peak) c.bar_of-bar.ensures all)
+    (subst (λ (bar : ℕ). IsPeak g urgency (process_count g) (HasFrom bar (EndsAt g ends)) peak)
+    c.bar_of-bar.ensures all)
 
 pub returns-clause-peak : goal.returns-clause-peak
 returns-clause-peak c = peak_of c
 
 pub returns-clause-worst : goal.returns-clause-worst
-returns-clause-worst c = λ order frozen topological support. peak_is_worst c.args.problem.now order topological frozen c.args.ends.now c.requires.trees c.requires.count support c.args.urgency.now
+returns-clause-worst c = λ order frozen topological support. peak_is_worst c.args.problem.now order topological frozen
+    c.args.ends.now c.requires.trees c.requires.count support c.args.urgency.now
     c.loop-process.peak (peak_of c)

@@ -5,7 +5,8 @@ use Rattle.cpg_expand.proofs.rows.row.Goals as goal
 
 pub returns : goal.returns
 returns c =
-    let send : AreEntriesOf c.args.problem.now c.args.urgency.now c.args.tree.now c.in_ok-columns-2.columns.items = record {
+    let send : AreEntriesOf c.args.problem.now c.args.urgency.now c.args.tree.now c.in_ok-columns-2.columns.items =
+    record {
       are = record {
         each = c.requires.tree.each;
         all = c.in_ok-columns-2.ensures.all;
@@ -13,7 +14,8 @@ returns c =
       };
       by_lows = c.in_ok-columns-2.ensures.by_lows;
     } in
-    let above : process_count c.args.problem.now ≤ c.args.item = omega (arith, ap length c.processes.ensures.processes, c.if-item-processes.false) in
+    let above : process_count c.args.problem.now ≤ c.args.item =
+    omega (arith, ap length c.processes.ensures.processes, c.if-item-processes.false) in
     rw c.new-2.ensures (record {
       item = refl;
       start = λ below. absurd (omega (arith, below, above));

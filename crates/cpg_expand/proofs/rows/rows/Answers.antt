@@ -18,7 +18,8 @@ row-requires-clause-tree c =
     let rest = c.next.new.self.rest.items in
     let is : c.loop-tree.tree-iterator.rest.items ≡ c.in-Some.tree ∷ rest = search rules in
     let within : n < length times = omega (arith, inv.count, ap length is) in
-    subst (IsTree g) (next_left times rest c.in-Some.tree (no_tree g.faults) n (sym is ∙ inv.left)).0 (c.requires.trees n (no_tree g.faults) within)
+    subst (IsTree g) (next_left times rest c.in-Some.tree (no_tree g.faults) n (sym is ∙ inv.left)).0
+    (c.requires.trees n (no_tree g.faults) within)
 
 pub loop-tree-preserved : goal.loop-tree-preserved
 loop-tree-preserved c =
@@ -32,9 +33,12 @@ loop-tree-preserved c =
     record {
       count = omega (arith, inv.count, ap length is);
       left = next.1;
-      rows = rows_more g c.args.urgency.now times n c.loop-tree.rows.items c.push.new.self.items c.in_ok-row.row inv.rows
-          (subst (λ t. IsRowOf g c.args.urgency.now t n c.in_ok-row.row) (sym next.0) c.in_ok-row.ensures) c.in_ok-push.ensures.items;
-      few = few_more g c.loop-tree.rows.items c.push.new.self.items c.in_ok-row.row n inv.rows.count c.in_ok-push.ensures.items c.args.wide c.loop-tree.load c.in_ok-load.load inv.few
+      rows =
+          rows_more g c.args.urgency.now times n c.loop-tree.rows.items c.push.new.self.items c.in_ok-row.row inv.rows
+          (subst (λ t. IsRowOf g c.args.urgency.now t n c.in_ok-row.row) (sym next.0) c.in_ok-row.ensures)
+          c.in_ok-push.ensures.items;
+      few = few_more g c.loop-tree.rows.items c.push.new.self.items c.in_ok-row.row n inv.rows.count
+          c.in_ok-push.ensures.items c.args.wide c.loop-tree.load c.in_ok-load.load inv.few
           c.in_ok-load.ensures.load;
       load = c.in_ok-load.ensures.few;
     }
@@ -51,7 +55,8 @@ loop-tree-init c = record {
 pub returns-clause-few : goal.returns-clause-few
 returns-clause-few c =
     let inv = c.loop-tree.invariant in
-    few_all c.args.wide c.args.problem.now c.loop-tree.rows.items c.loop-tree.item c.loop-tree.load (search rules) inv.few
+    few_all c.args.wide c.args.problem.now c.loop-tree.rows.items c.loop-tree.item c.loop-tree.load
+    (search rules) inv.few
 
 pub returns-in_err-load-clause-fault : goal.returns-in_err-load-clause-fault
 returns-in_err-load-clause-fault c =
@@ -65,5 +70,7 @@ returns-in_err-load-clause-fault c =
     let next = next_left times rest c.in-Some.tree (no_tree g.faults) n (sym is ∙ inv.left) in
     let fault = c.in_err-load.field-0.0 in
     handed_on _ c.from_residual-in_err-load.result fault c.from_residual-in_err-load.ensures.1
-    (wide_shown c.args.wide fault g c.args.urgency.now times c.loop-tree.rows.items c.in_ok-row.row n c.loop-tree.load (omega (arith, within, c.requires.count)) inv.rows
-    (subst (λ t. IsRowOf g c.args.urgency.now t n c.in_ok-row.row) (sym next.0) c.in_ok-row.ensures) inv.few c.in_err-load.ensures.fault)
+    (wide_shown c.args.wide fault g c.args.urgency.now times c.loop-tree.rows.items c.in_ok-row.row n c.loop-tree.load
+    (omega (arith, within, c.requires.count)) inv.rows
+    (subst (λ t. IsRowOf g c.args.urgency.now t n c.in_ok-row.row) (sym next.0) c.in_ok-row.ensures) inv.few
+    c.in_err-load.ensures.fault)

@@ -16,19 +16,23 @@ merged_tidy-requires-clause-tidy c =
     let k = c.args.problem.now.faults in
     let listed = c.in_ok-listing.listing.columns.items in
     let has_no_whole = λ (e : Column). All (λ (l : Literal). is_whole k l ≡ false) e.cube in
-    All-weaker (IsTidyColumn c.args.problem.now) has_no_whole (λ e tidy. tidy.not_whole) listed c.in_ok-listing.ensures.tidy
+    All-weaker (IsTidyColumn c.args.problem.now) has_no_whole
+    (λ e tidy. tidy.not_whole) listed c.in_ok-listing.ensures.tidy
 
 pub merged_tidy-requires-clause-entries : goal.merged_tidy-requires-clause-entries
 merged_tidy-requires-clause-entries c =
     let listed = c.in_ok-listing.listing.columns.items in
-    mergeable c.args.problem.now c.processes-processes.ensures.within.few_processes c.args.urgency.now c.requires.order c.args.tree.now listed
-    (listed_all c.args.problem.now c.args.tree.now listed c.requires.tree.each c.in_ok-listing.ensures.all c.in_ok-listing.ensures.tidy)
+    mergeable c.args.problem.now c.processes-processes.ensures.within.few_processes c.args.urgency.now c.requires.order
+    c.args.tree.now listed
+    (listed_all c.args.problem.now c.args.tree.now listed c.requires.tree.each c.in_ok-listing.ensures.all
+    c.in_ok-listing.ensures.tidy)
 
 pub returns : goal.returns
 returns c =
     let listed = c.in_ok-listing.listing.columns.items in
     record {
       columns = listed;
-      are = listed_all c.args.problem.now c.args.tree.now listed c.requires.tree.each c.in_ok-listing.ensures.all c.in_ok-listing.ensures.tidy;
+      are = listed_all c.args.problem.now c.args.tree.now listed c.requires.tree.each c.in_ok-listing.ensures.all
+          c.in_ok-listing.ensures.tidy;
       merge = c.in_ok-columns.ensures;
     }

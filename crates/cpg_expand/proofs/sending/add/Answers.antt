@@ -4,16 +4,21 @@ use Rattle.cpg_expand.proofs.SentTrees.{sent_count, item_added}
 use Rattle.cpg_expand.proofs.sending.add.Goals as goal
 
 pub returns-clause-trees : goal.returns-clause-trees
-returns-clause-trees c = has_put c.args.course.now.problem.now c.args.forest.now c.put.new.forest c.args.item c.home.result c.in_ok-sent.sent c.in_ok-free.free c.requires.forest
+returns-clause-trees c = has_put c.args.course.now.problem.now c.args.forest.now c.put.new.forest c.args.item
+    c.home.result c.in_ok-sent.sent c.in_ok-free.free c.requires.forest
     c.in_ok-sent.ensures.tree c.in_ok-free.ensures.tree c.put.ensures
 
 pub returns-clause-added : goal.returns-clause-added
 returns-clause-added c =
-    item_added c.args.course.now.problem.now c.args.course.now.order.now c.args.active.now c.args.item c.home.result c.home.ensures.home
-    c.args.forest.now c.put.new.forest c.args.frozen.now c.sent_of.new.frozen c.in_ok-goes.goes c.in_ok-goes.ensures.tree c.in_ok-goes.ensures.goes
-    c.in_ok-sent.sent c.in_ok-sent.ensures.tree c.in_ok-sent.ensures.sent c.in_ok-free.free c.in_ok-free.ensures.tree c.in_ok-free.ensures.free c.put.ensures
+    item_added c.args.course.now.problem.now c.args.course.now.order.now c.args.active.now c.args.item c.home.result
+    c.home.ensures.home
+    c.args.forest.now c.put.new.forest c.args.frozen.now c.sent_of.new.frozen c.in_ok-goes.goes
+    c.in_ok-goes.ensures.tree c.in_ok-goes.ensures.goes
+    c.in_ok-sent.sent c.in_ok-sent.ensures.tree c.in_ok-sent.ensures.sent c.in_ok-free.free c.in_ok-free.ensures.tree
+    c.in_ok-free.ensures.free c.put.ensures
 
 pub returns-clause-count : goal.returns-clause-count
 returns-clause-count c =
-    sent_count c.args.course.now.problem.now c.args.course.now.order.now c.in_ok-goes.goes c.args.item c.args.forest.now c.args.frozen.now c.sent_of.new.frozen c.in_ok-sent.sent
+    sent_count c.args.course.now.problem.now c.args.course.now.order.now c.in_ok-goes.goes c.args.item c.args.forest.now
+    c.args.frozen.now c.sent_of.new.frozen c.in_ok-sent.sent
     c.in_ok-sent.ensures.sent ∙ c.requires.frozen

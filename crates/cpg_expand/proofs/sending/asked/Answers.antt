@@ -3,4 +3,5 @@ use Rattle.cpg_base.proofs.ConditionProcesses.{condition_of_below}
 use Rattle.cpg_expand.proofs.sending.asked.Goals as goal
 
 pub returns-in-Some-condition_of-clause-condition : goal.returns-in-Some-condition_of-clause-condition
-returns-in-Some-condition_of-clause-condition c = condition_of_below c.args.problem.now c.source-source.result c.in-Some-condition_of.condition (sym c.condition_of.ensures ∙ c.in-Some-condition_of.is)
+returns-in-Some-condition_of-clause-condition c = condition_of_below c.args.problem.now c.source-source.result
+    c.in-Some-condition_of.condition (sym c.condition_of.ensures ∙ c.in-Some-condition_of.is)

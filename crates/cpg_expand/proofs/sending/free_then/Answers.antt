@@ -20,7 +20,9 @@ returns-clause-free c queued =
       wide =
           c.forest.inside.wide;
     } in
-    free_then_read g.faults g.faults c.round.result (round g) c.args.goes.now c.args.sent.now c.index-free.result.now (free_of g f (home g x)) c.in_ok-freed.freed refl c.round.ensures
-    (free_read g f c.requires.forest inside c.forest.view_is c.index-free.result.now c.home.result (home g x) c.index-free.ensures c.home.ensures.home
+    free_then_read g.faults g.faults c.round.result (round g) c.args.goes.now c.args.sent.now c.index-free.result.now
+    (free_of g f (home g x)) c.in_ok-freed.freed refl c.round.ensures
+    (free_read g f c.requires.forest inside c.forest.view_is c.index-free.result.now c.home.result
+    (home g x) c.index-free.ensures c.home.ensures.home
     (omega (arith, c.home.ensures.home, c.home.ensures.within)))
     (c.in_ok-freed.ensures.free queued)

@@ -19,8 +19,10 @@ returns c =
       wide =
           c.forest.inside.wide;
     } in
-    latest_read g c.args.course.now.order.now f c.share-share.result (share_of g (home g x)) c.args.goes.now c.index-end.result.now (ends_of g f (producer g x)) x c.latest_send.result
+    latest_read g c.args.course.now.order.now f c.share-share.result (share_of g (home g x)) c.args.goes.now
+    c.index-end.result.now (ends_of g f (producer g x)) x c.latest_send.result
     (c.share-share.ensures ∙ ap (share_of g) c.home.ensures.home)
-    (ends_read g f c.requires.forest inside c.forest.view_is c.index-end.result.now c.producer.result (producer g x) c.index-end.ensures c.producer.ensures.producer
+    (ends_read g f c.requires.forest inside c.forest.view_is c.index-end.result.now c.producer.result
+    (producer g x) c.index-end.ensures c.producer.ensures.producer
     (omega (arith, c.producer.ensures.producer, c.producer.ensures.within)))
     c.latest_send.ensures

@@ -5,13 +5,17 @@ use Rattle.cpg_expand.proofs.Goes.{live_simple, live_tested}
 use Rattle.cpg_expand.proofs.sending.live.Goals as goal
 
 pub returns-in_ok-tested-in-Some-clause-live : goal.returns-in_ok-tested-in-Some-clause-live
-returns-in_ok-tested-in-Some-clause-live c = live_tested c.args.problem.now c.args.edge c.args.active.now c.in_ok-tested-in-Some.tested c.in-Some.question.0 c.in-Some.question.1
+returns-in_ok-tested-in-Some-clause-live c = live_tested c.args.problem.now c.args.edge c.args.active.now
+    c.in_ok-tested-in-Some.tested c.in-Some.question.0 c.in-Some.question.1
     (sym c.asked.ensures.asked ∙ c.in-Some.is) c.in_ok-tested-in-Some.ensures.tested
 
 pub returns-in_ok-same-in-None-clause-tree : goal.returns-in_ok-same-in-None-clause-tree
-returns-in_ok-same-in-None-clause-tree c = same_tree c.args.problem.now c.args.active.now c.in_ok-same-in-None.same c.requires.active.faults c.in_ok-same-in-None.ensures.is.faults
-    c.in_ok-same-in-None.ensures.each (c.in_ok-same-in-None.ensures.pass (is_variable c.args.problem.now) c.requires.active.known)
+returns-in_ok-same-in-None-clause-tree c = same_tree c.args.problem.now c.args.active.now c.in_ok-same-in-None.same
+    c.requires.active.faults c.in_ok-same-in-None.ensures.is.faults
+    c.in_ok-same-in-None.ensures.each
+    (c.in_ok-same-in-None.ensures.pass (is_variable c.args.problem.now) c.requires.active.known)
 
 pub returns-in_ok-same-in-None-clause-live : goal.returns-in_ok-same-in-None-clause-live
-returns-in_ok-same-in-None-clause-live c = live_simple c.args.problem.now c.args.edge c.args.active.now c.in_ok-same-in-None.same c.requires.edge c.asked.ensures.within
+returns-in_ok-same-in-None-clause-live c = live_simple c.args.problem.now c.args.edge c.args.active.now
+    c.in_ok-same-in-None.same c.requires.edge c.asked.ensures.within
     (sym c.asked.ensures.asked ∙ c.in-None.is) c.requires.active c.in_ok-same-in-None.ensures.is

@@ -15,14 +15,16 @@ add-requires-clause-item c =
     let g = c.args.course.now.problem.now in
     let is = c.queue-item-items.ensures in
     (in_queue g c.args.process (get_or c.queue-item-items.result.now c.loop-item.item-index 0)
-    (item_queued c.queue-item-items.result.now (queue_of g c.args.process) c.loop-item.item-index c.loop-item-test.true is)).within
+    (item_queued c.queue-item-items.result.now
+    (queue_of g c.args.process) c.loop-item.item-index c.loop-item-test.true is)).within
 
 pub add-requires-clause-sent : goal.add-requires-clause-sent
 add-requires-clause-sent c =
     let g = c.args.course.now.problem.now in
     let is = c.queue-item-items.ensures in
     (in_queue g c.args.process (get_or c.queue-item-items.result.now c.loop-item.item-index 0)
-    (item_queued c.queue-item-items.result.now (queue_of g c.args.process) c.loop-item.item-index c.loop-item-test.true is)).sent
+    (item_queued c.queue-item-items.result.now
+    (queue_of g c.args.process) c.loop-item.item-index c.loop-item-test.true is)).sent
 
 pub loop-item-preserved : goal.loop-item-preserved
 loop-item-preserved c =
@@ -34,7 +36,9 @@ loop-item-preserved c =
     record {
       trees = c.in_ok-add.ensures.trees;
       count = c.in_ok-add.ensures.count;
-      added = next_added g c.args.course.now.order.now c.args.active.now qs c.loop-item.item-index inside c.args.forest.now c.loop-item.forest c.add.new.forest c.args.frozen.now c.loop-item.frozen
+      added = next_added g c.args.course.now.order.now c.args.active.now qs c.loop-item.item-index inside
+          c.args.forest.now c.loop-item.forest c.add.new.forest c.args.frozen.now c.loop-item.frozen
           c.add.new.frozen c.loop-item.invariant.added
-          (subst (λ x. IsItemAdded g c.args.course.now.order.now c.args.active.now x c.loop-item.forest c.add.new.forest c.loop-item.frozen c.add.new.frozen) here c.in_ok-add.ensures.added);
+          (subst (λ x. IsItemAdded g c.args.course.now.order.now c.args.active.now x c.loop-item.forest c.add.new.forest
+          c.loop-item.frozen c.add.new.frozen) here c.in_ok-add.ensures.added);
     }

@@ -9,5 +9,6 @@ abbrev pub invariant-loop-item : goal.invariant-loop-item
 invariant-loop-item l = record {
   trees : HasTrees l.course.problem.now l.forest;
   count : length l.frozen ≡ item_count l.course.problem.now;
-  added : AreItemsAdded l.course.problem.now l.course.order.now l.active (take l.item-index (queue_of l.course.problem.now l.process)) l.fn.forest l.forest l.fn.frozen l.frozen;
+  added : AreItemsAdded l.course.problem.now l.course.order.now l.active
+      (take l.item-index (queue_of l.course.problem.now l.process)) l.fn.forest l.forest l.fn.frozen l.frozen;
 }

@@ -21,11 +21,14 @@ returns-clause-slots c =
       wide =
           c.forest.inside.wide;
     } in
-    slots_read g.faults g.faults c.share-share.result (share_of g (home g x)) c.args.goes.now c.index-end.result.now (ends_of g f (producer g x)) c.index-free.result.now
+    slots_read g.faults g.faults c.share-share.result (share_of g (home g x)) c.args.goes.now c.index-end.result.now
+    (ends_of g f (producer g x)) c.index-free.result.now
     (free_of g f (home g x)) c.in_ok-sent.sent
     refl (c.share-share.ensures ∙ ap (share_of g) c.home-node.ensures.home)
-    (ends_read g f c.requires.forest inside c.forest.view_is c.index-end.result.now c.producer.result (producer g x) c.index-end.ensures c.producer.ensures.producer
+    (ends_read g f c.requires.forest inside c.forest.view_is c.index-end.result.now c.producer.result
+    (producer g x) c.index-end.ensures c.producer.ensures.producer
     (omega (arith, c.producer.ensures.producer, c.producer.ensures.within)))
-    (free_read g f c.requires.forest inside c.forest.view_is c.index-free.result.now c.home-node.result (home g x) c.index-free.ensures c.home-node.ensures.home
+    (free_read g f c.requires.forest inside c.forest.view_is c.index-free.result.now c.home-node.result
+    (home g x) c.index-free.ensures c.home-node.ensures.home
     (omega (arith, c.home-node.ensures.home, c.home-node.ensures.within)))
     c.in_ok-sent.ensures.sent

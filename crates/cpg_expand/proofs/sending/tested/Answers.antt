@@ -6,18 +6,24 @@ use Rattle.cpg_expand.proofs.GuardTrees.{tested_valued, same_tree, value_passes}
 use Rattle.cpg_expand.proofs.sending.tested.Goals as goal
 
 pub returns-clause-tree : goal.returns-clause-tree
-returns-clause-tree c = same_tree c.args.problem.now c.args.active.now c.in_ok-both.both c.requires.active.faults c.in_ok-both.ensures.is.faults c.in_ok-both.ensures.each
+returns-clause-tree c = same_tree c.args.problem.now c.args.active.now c.in_ok-both.both c.requires.active.faults
+    c.in_ok-both.ensures.is.faults c.in_ok-both.ensures.each
     (c.in_ok-both.ensures.pass (is_variable c.args.problem.now) c.requires.active.known
     (c.in_ok-alike.ensures.pass (is_variable c.args.problem.now)
-    (c.in_ok-value.ensures.pass (is_variable c.args.problem.now) (value_passes c.args.problem.now c.args.condition c.requires.condition)))
+    (c.in_ok-value.ensures.pass (is_variable c.args.problem.now)
+    (value_passes c.args.problem.now c.args.condition c.requires.condition)))
     (c.in_ok-never.ensures.pass (is_variable c.args.problem.now)))
 
 pub returns-clause-tested : goal.returns-clause-tested
-returns-clause-tested c = tested_valued c.args.problem.now c.args.condition c.args.wanted c.args.active.now c.in_ok-value.value c.in_ok-alike.alike c.in_ok-never.never c.in_ok-both.both
+returns-clause-tested c = tested_valued c.args.problem.now c.args.condition c.args.wanted c.args.active.now
+    c.in_ok-value.value c.in_ok-alike.alike c.in_ok-never.never c.in_ok-both.both
     c.requires.active
-    (subst (λ k. IsNumber (128 + c.args.condition) k number_of_value c.in_ok-value.value) c.faults-2.ensures.faults c.in_ok-value.ensures.is) c.in_ok-value.ensures.each
+    (subst (λ k. IsNumber (128 + c.args.condition) k number_of_value c.in_ok-value.value) c.faults-2.ensures.faults
+    c.in_ok-value.ensures.is) c.in_ok-value.ensures.each
     c.in_ok-alike.ensures.is c.in_ok-alike.ensures.each
     (c.in_ok-alike.ensures.pass (is_variable c.args.problem.now)
-    (c.in_ok-value.ensures.pass (is_variable c.args.problem.now) (value_passes c.args.problem.now c.args.condition c.requires.condition)))
-    (subst (λ k. IsConstant false k c.in_ok-never.never) c.faults.ensures.faults c.in_ok-never.ensures.is) c.in_ok-never.ensures.each
+    (c.in_ok-value.ensures.pass (is_variable c.args.problem.now)
+    (value_passes c.args.problem.now c.args.condition c.requires.condition)))
+    (subst (λ k. IsConstant false k c.in_ok-never.never) c.faults.ensures.faults c.in_ok-never.ensures.is)
+    c.in_ok-never.ensures.each
     (c.in_ok-never.ensures.pass (is_variable c.args.problem.now)) c.in_ok-both.ensures.is

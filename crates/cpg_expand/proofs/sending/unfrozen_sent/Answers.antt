@@ -5,21 +5,28 @@ use Rattle.cpg_expand.proofs.GuardTrees.{sent_valued, sent_always, same_tree}
 use Rattle.cpg_expand.proofs.sending.unfrozen_sent.Goals as goal
 
 pub returns-clause-tree : goal.returns-clause-tree
-returns-clause-tree c = same_tree c.args.problem.now c.args.goes.now c.in_ok-sent.sent c.requires.goes.faults c.in_ok-sent.ensures.is.faults c.in_ok-sent.ensures.each
-    (c.in_ok-sent.ensures.pass (is_variable c.args.problem.now) c.requires.goes.known (c.in_ok-slots.ensures.pass (is_variable c.args.problem.now) c.requires.end.known c.requires.free.known)
+returns-clause-tree c = same_tree c.args.problem.now c.args.goes.now c.in_ok-sent.sent c.requires.goes.faults
+    c.in_ok-sent.ensures.is.faults c.in_ok-sent.ensures.each
+    (c.in_ok-sent.ensures.pass (is_variable c.args.problem.now) c.requires.goes.known
+    (c.in_ok-slots.ensures.pass (is_variable c.args.problem.now) c.requires.end.known c.requires.free.known)
     (c.in_ok-never.ensures.pass (is_variable c.args.problem.now)))
 
 pub returns-clause-sent : goal.returns-clause-sent
-returns-clause-sent c = sent_valued c.args.problem.now c.args.share c.args.goes.now c.args.end.now c.args.free.now c.in_ok-slots.slots c.in_ok-never.never c.in_ok-sent.sent c.requires.goes
+returns-clause-sent c = sent_valued c.args.problem.now c.args.share c.args.goes.now c.args.end.now c.args.free.now
+    c.in_ok-slots.slots c.in_ok-never.never c.in_ok-sent.sent c.requires.goes
     c.requires.end c.requires.free
-    c.in_ok-slots.ensures.is c.in_ok-slots.ensures.each (c.in_ok-slots.ensures.pass (is_variable c.args.problem.now) c.requires.end.known c.requires.free.known)
-    (subst (λ k. IsConstant None k c.in_ok-never.never) c.faults.ensures.faults c.in_ok-never.ensures.is) c.in_ok-never.ensures.each
+    c.in_ok-slots.ensures.is c.in_ok-slots.ensures.each
+    (c.in_ok-slots.ensures.pass (is_variable c.args.problem.now) c.requires.end.known c.requires.free.known)
+    (subst (λ k. IsConstant None k c.in_ok-never.never) c.faults.ensures.faults c.in_ok-never.ensures.is)
+    c.in_ok-never.ensures.each
     (c.in_ok-never.ensures.pass (is_variable c.args.problem.now)) c.in_ok-sent.ensures.is
 
 pub returns-then-is_true-clause-tree : goal.returns-then-is_true-clause-tree
-returns-then-is_true-clause-tree c = same_tree c.args.problem.now c.args.end.now c.in_ok-slots.slots c.requires.end.faults c.in_ok-slots.ensures.is.faults c.in_ok-slots.ensures.each
+returns-then-is_true-clause-tree c = same_tree c.args.problem.now c.args.end.now c.in_ok-slots.slots
+    c.requires.end.faults c.in_ok-slots.ensures.is.faults c.in_ok-slots.ensures.each
     (c.in_ok-slots.ensures.pass (is_variable c.args.problem.now) c.requires.end.known c.requires.free.known)
 
 pub returns-then-is_true-clause-sent : goal.returns-then-is_true-clause-sent
-returns-then-is_true-clause-sent c = sent_always c.args.problem.now c.args.share c.args.goes.now c.args.end.now c.args.free.now c.in_ok-slots.slots c.if-is_true.ensures c.requires.end c.requires.free
+returns-then-is_true-clause-sent c = sent_always c.args.problem.now c.args.share c.args.goes.now c.args.end.now
+    c.args.free.now c.in_ok-slots.slots c.if-is_true.ensures c.requires.end c.requires.free
     c.in_ok-slots.ensures.is

@@ -3,5 +3,6 @@ use Rattle.cpg_expand.proofs.GuardTrees.{same_tree}
 use Rattle.cpg_expand.proofs.starting.freeze.Goals as goal
 
 pub returns-clause-tree : goal.returns-clause-tree
-returns-clause-tree c = same_tree c.args.problem.now c.args.goes.now c.in_ok-one.one c.requires.goes.faults c.in_ok-one.ensures.is.faults c.in_ok-one.ensures.each
+returns-clause-tree c = same_tree c.args.problem.now c.args.goes.now c.in_ok-one.one c.requires.goes.faults
+    c.in_ok-one.ensures.is.faults c.in_ok-one.ensures.each
     (c.in_ok-one.ensures.pass (is_variable c.args.problem.now) c.requires.goes.known)

@@ -8,4 +8,6 @@ pub returns-clause-fault : goal.returns-clause-fault
 returns-clause-fault c =
     let g = c.args.problem.now in
     let f = c.args.forest.now in
-    subst (λ r. IfErr c.start.result (ShowsLarge f.wide (IsLargeStart g f (ready_by g f c.args.wait.now) r c.args.inputs.now c.args.guard.now))) c.release.ensures c.start.ensures.fault
+    subst (λ r. IfErr c.start.result
+    (ShowsLarge f.wide (IsLargeStart g f (ready_by g f c.args.wait.now) r c.args.inputs.now c.args.guard.now)))
+    c.release.ensures c.start.ensures.fault

@@ -23,18 +23,23 @@ returns-in_ok-few-in-Test-clause-wait c =
       wide =
           c.forest.inside.wide;
     } in
-    let same : c.index.result.now ≡ ready_at g f node = ready_read g f c.requires.forest inside c.forest.view_is c.index.result.now node node c.index.ensures refl c.requires.node in
-    wait_valued g f node c.args.guard.now heard wait c.in_ok-heard-in-Test.ensures.heard (subst (λ (r : Ready). IsLatest g.faults (ready_by g f r) heard wait) same c.in_ok-wait-in-Test.ensures.both)
+    let same : c.index.result.now ≡ ready_at g f node = ready_read g f c.requires.forest inside c.forest.view_is
+    c.index.result.now node node c.index.ensures refl c.requires.node in
+    wait_valued g f node c.args.guard.now heard wait c.in_ok-heard-in-Test.ensures.heard
+    (subst (λ (r : Ready). IsLatest g.faults (ready_by g f r) heard wait) same c.in_ok-wait-in-Test.ensures.both)
 
 pub returns-in_err-few_ready-clause-fault : goal.returns-in_err-few_ready-clause-fault
 returns-in_err-few_ready-clause-fault c =
-    handed_as (IsLarge (ready_of c.args.problem.now c.args.forest.now c.args.node)) (IsLargeWait c.args.problem.now c.args.forest.now c.args.node c.args.guard.now) c.args.forest.now.wide
-    c.from_residual.result c.in_err-few_ready.field-0.0 c.from_residual.ensures.1 (λ x. inl x) c.in_err-few_ready.ensures
+    handed_as (IsLarge (ready_of c.args.problem.now c.args.forest.now c.args.node))
+    (IsLargeWait c.args.problem.now c.args.forest.now c.args.node c.args.guard.now) c.args.forest.now.wide
+    c.from_residual.result c.in_err-few_ready.field-0.0 c.from_residual.ensures.1
+    (λ x. inl x) c.in_err-few_ready.ensures
 
 pub returns-in_err-heard-in-Test-clause-fault : goal.returns-in_err-heard-in-Test-clause-fault
 returns-in_err-heard-in-Test-clause-fault c =
     handed_as (IsLargeHeard c.args.problem.now c.args.forest.now c.args.node c.args.guard.now)
-    (IsLargeWait c.args.problem.now c.args.forest.now c.args.node c.args.guard.now) c.args.forest.now.wide c.from_residual-in_err-heard-in-Test.result c.in_err-heard-in-Test.field-0.0
+    (IsLargeWait c.args.problem.now c.args.forest.now c.args.node c.args.guard.now) c.args.forest.now.wide
+    c.from_residual-in_err-heard-in-Test.result c.in_err-heard-in-Test.field-0.0
     c.from_residual-in_err-heard-in-Test.ensures.1 (λ x. inr (inl x)) c.in_err-heard-in-Test.ensures.fault
 
 pub returns-in_err-few-in-Test-clause-fault : goal.returns-in_err-few-in-Test-clause-fault
@@ -52,9 +57,12 @@ returns-in_err-few-in-Test-clause-fault c =
       wide =
           c.forest.inside.wide;
     } in
-    let same : c.index.result.now ≡ ready_at g f node = ready_read g f c.requires.forest inside c.forest.view_is c.index.result.now node node c.index.ensures refl c.requires.node in
+    let same : c.index.result.now ≡ ready_at g f node = ready_read g f c.requires.forest inside c.forest.view_is
+    c.index.result.now node node c.index.ensures refl c.requires.node in
     let valued = wait_valued g f node c.args.guard.now heard wait c.in_ok-heard-in-Test.ensures.heard
     (subst (λ (r : Ready). IsLatest g.faults (ready_by g f r) heard wait) same c.in_ok-wait-in-Test.ensures.both) in
-    handed_as (IsLarge wait) (IsLargeWait g f node c.args.guard.now) f.wide c.from_residual-in_err-few-in-Test.result c.in_err-few-in-Test.field-0.0 c.from_residual-in_err-few-in-Test.ensures.1
-    (λ x. inr (inr (wait, valued, x))) (named_as (IsLarge wait) c.forest.inside.wide f.wide c.in_err-few-in-Test.field-0.0
+    handed_as (IsLarge wait) (IsLargeWait g f node c.args.guard.now) f.wide c.from_residual-in_err-few-in-Test.result
+    c.in_err-few-in-Test.field-0.0 c.from_residual-in_err-few-in-Test.ensures.1
+    (λ x. inr (inr (wait, valued, x)))
+    (named_as (IsLarge wait) c.forest.inside.wide f.wide c.in_err-few-in-Test.field-0.0
     (ap (λ (x : ForestState). x.wide) c.forest.view_is) c.in_err-few-in-Test.ensures)

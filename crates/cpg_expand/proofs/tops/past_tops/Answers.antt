@@ -5,6 +5,7 @@ use Rattle.cpg_expand.specs.Values.{time_past}
 use Rattle.cpg_expand.proofs.tops.past_tops.Goals as goal
 
 pub loop-process-preserved : goal.loop-process-preserved
-loop-process-preserved c = map_below_push (λ q. time_past (due c.args.problem.now q) (get_or c.args.tops.now q None)) c.loop-process.past.items c.push.new.self.items c.time_past.result
+loop-process-preserved c = map_below_push (λ q. time_past (due c.args.problem.now q) (get_or c.args.tops.now q None))
+    c.loop-process.past.items c.push.new.self.items c.time_past.result
     c.loop-process.process c.loop-process.invariant
     (search rules) c.in_ok-push.ensures.items

@@ -5,4 +5,5 @@ use Rattle.cpg_expand.specs.Values.{time_past}
 use Rattle.cpg_expand.proofs.tops.past_tops.Given as goal
 
 abbrev pub invariant-loop-process : goal.invariant-loop-process
-invariant-loop-process l = l.past.items ≡ map (λ q. time_past (due l.problem q) (get_or l.tops q None)) (numbers_below l.process)
+invariant-loop-process l =
+    l.past.items ≡ map (λ q. time_past (due l.problem q) (get_or l.tops q None)) (numbers_below l.process)

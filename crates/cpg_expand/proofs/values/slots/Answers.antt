@@ -7,11 +7,14 @@ use Rattle.cpg_expand.proofs.values.slots.Goals as goal
 
 pub returns-clause-is : goal.returns-clause-is
 returns-clause-is c =
-    of_answer c.asked.result (IsJoin (λ x y z. z ≡ slot_if y x) c.args.end.now c.in_ok-slots.slots) (IsJoin (λ x y z. z ≡ slot_from c.args.share y x) c.args.end.now c.args.free.now) c.asked.ensures.is
-    (λ r third. slots_joined c.args.share c.args.end.now c.args.free.now c.in_ok-next.next c.in_ok-slots.slots c.in_ok-next.ensures.each c.in_ok-slots.ensures.each r c.in_ok-next.ensures.is
+    of_answer c.asked.result (IsJoin (λ x y z. z ≡ slot_if y x) c.args.end.now c.in_ok-slots.slots)
+    (IsJoin (λ x y z. z ≡ slot_from c.args.share y x) c.args.end.now c.args.free.now) c.asked.ensures.is
+    (λ r third. slots_joined c.args.share c.args.end.now c.args.free.now c.in_ok-next.next c.in_ok-slots.slots
+    c.in_ok-next.ensures.each c.in_ok-slots.ensures.each r c.in_ok-next.ensures.is
     c.in_ok-slots.ensures.is third)
 
 pub returns-clause-pass : goal.returns-clause-pass
 returns-clause-pass c =
     of_answer c.asked.result _ _ c.asked.ensures.pass
-    (λ r pass test first second. pass test first (c.in_ok-slots.ensures.pass test (c.in_ok-next.ensures.pass test first) second))
+    (λ r pass test first second.
+    pass test first (c.in_ok-slots.ensures.pass test (c.in_ok-next.ensures.pass test first) second))

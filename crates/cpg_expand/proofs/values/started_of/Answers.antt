@@ -6,5 +6,11 @@ use Rattle.cpg_expand.proofs.values.started_of.Goals as goal
 
 pub returns-clause-is : goal.returns-clause-is
 returns-clause-is c =
-    of_answer c.greater.result _ (IsJoin (λ x y z. z ≡ Some (max (max (time_later c.args.delay x) (time_later 0 y)) c.args.release)) c.args.tree.now c.args.other.now) c.greater.ensures.is
-    (λ r made. record { faults = made.faults; value = λ s x y z few on_x on_y on_z. let h = made.value s x y z few on_x on_y on_z in search rules; ranges = made.ranges })
+    of_answer c.greater.result _
+    (IsJoin (λ x y z. z ≡ Some (max (max (time_later c.args.delay x) (time_later 0 y)) c.args.release))
+    c.args.tree.now c.args.other.now) c.greater.ensures.is
+    (λ r made. record {
+      faults = made.faults;
+      value = λ s x y z few on_x on_y on_z. let h = made.value s x y z few on_x on_y on_z in search rules;
+      ranges = made.ranges;
+    })

@@ -6,11 +6,14 @@ use Rattle.cpg_expand.proofs.values.started_of_where.Goals as goal
 
 pub returns-clause-is : goal.returns-clause-is
 returns-clause-is c =
-    of_answer c.greater_where.result _ (IsJoinWhere (λ x y z. z ≡ Some (max (max (time_later c.args.delay x) (time_later 0 y)) c.args.release)) None c.args.active.now c.args.tree.now
+    of_answer c.greater_where.result _
+    (IsJoinWhere (λ x y z. z ≡ Some (max (max (time_later c.args.delay x) (time_later 0 y)) c.args.release)) None
+    c.args.active.now c.args.tree.now
     c.args.other.now) c.greater_where.ensures.is
     (λ r made. record {
       faults = made.faults;
-      on = λ s b x y z few on_b is_on on_x on_y on_z. let h = made.on s b x y z few on_b is_on on_x on_y on_z in search rules;
+      on = λ s b x y z few on_b is_on on_x on_y on_z. let h = made.on s b x y z few on_b is_on on_x on_y on_z in
+          search rules;
       on_ranges = made.on_ranges;
       off = made.off;
       off_ranges = made.off_ranges;

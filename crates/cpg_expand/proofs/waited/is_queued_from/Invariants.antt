@@ -4,4 +4,5 @@ use Rattle.cpg_base.specs.Order.{place}
 use Rattle.cpg_expand.proofs.waited.is_queued_from.Given as goal
 
 abbrev pub invariant-loop-other : goal.invariant-loop-other
-invariant-loop-other l = (y : ℕ) → y < l.other → is_sent l.problem y ≡ true → home l.problem y ≡ l.node → l.at ≤ place l.order (producer l.problem y) → is_frozen l.problem y ≡ false → ⊥
+invariant-loop-other l = (y : ℕ) → y < l.other → is_sent l.problem y ≡ true → home l.problem y ≡ l.node →
+    l.at ≤ place l.order (producer l.problem y) → is_frozen l.problem y ≡ false → ⊥

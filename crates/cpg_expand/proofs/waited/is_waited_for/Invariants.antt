@@ -4,4 +4,5 @@ use Rattle.cpg_base.specs.Order.{place}
 use Rattle.cpg_expand.proofs.waited.is_waited_for.Given as goal
 
 abbrev pub invariant-loop-other : goal.invariant-loop-other
-invariant-loop-other l = (q : ℕ) → q < l.other → node_of l.problem q ≡ l.node → l.at < place l.order q → is_frozen l.problem q ≡ false → ⊥
+invariant-loop-other l =
+    (q : ℕ) → q < l.other → node_of l.problem q ≡ l.node → l.at < place l.order q → is_frozen l.problem q ≡ false → ⊥

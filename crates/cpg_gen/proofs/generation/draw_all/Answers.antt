@@ -4,7 +4,8 @@ use Rattle.cpg_base.specs.Numbers.{numbers_below}
 use Rattle.cpg_base.proofs.Lists.{map_below_push}
 use Rattle.cpg_base.specs.Draws.{next_number}
 use Rattle.cpg_gen.specs.Draws.{number_after}
-use Rattle.cpg_gen.specs.Generated.{generated_process, generated_edges, has_predecessor, number_before, process_from, edges_by}
+use Rattle.cpg_gen.specs.Generated.{generated_process, generated_edges, has_predecessor, number_before, process_from}
+use Rattle.cpg_gen.specs.Generated.{edges_by}
 use Rattle.cpg_gen.proofs.Advancing.{number_after-zero, number_after-suc}
 use Rattle.cpg_gen.proofs.Steps.{number_before_after, flat_map_below_push}
 use Rattle.cpg_gen.proofs.generation.draw_all.Goals as goal
@@ -21,14 +22,19 @@ loop-process_number-preserved c =
     let i : ℕ = c.loop-process_number.process_number in
     let x : ℕ = number_before c.args.number i in
     let at : c.loop-process_number.draws.number ≡ x = c.loop-process_number.invariant.draws in
-    let made : c.in_ok-process.field-0 ≡ generated_process c.args.number i = c.in_ok-process.ensures.process ∙ ap (λ y. process_from y i) at in
-    let after : c.process.new.draws.number ≡ number_after x 5 = c.process.ensures.number ∙ ap (λ y. number_after y 5) at in
+    let made : c.in_ok-process.field-0 ≡ generated_process c.args.number i =
+    c.in_ok-process.ensures.process ∙ ap (λ y. process_from y i) at in
+    let after : c.process.new.draws.number ≡ number_after x 5 =
+    c.process.ensures.number ∙ ap (λ y. number_after y 5) at in
     record {
-      draws = c.in_ok-push_edges.ensures.number ∙ ap (λ y. cond (has_predecessor i) (next_number y) y) after ∙ number_before_after c.args.number i;
-      processes = map_below_push (generated_process c.args.number) c.loop-process_number.processes.items c.push.new.self.items c.in_ok-process.field-0 i c.loop-process_number.invariant.processes made
+      draws = c.in_ok-push_edges.ensures.number ∙ ap (λ y. cond (has_predecessor i) (next_number y) y) after
+          ∙ number_before_after c.args.number i;
+      processes = map_below_push (generated_process c.args.number) c.loop-process_number.processes.items
+          c.push.new.self.items c.in_ok-process.field-0 i c.loop-process_number.invariant.processes made
           c.in_ok-push.ensures.items;
       edges = c.in_ok-push_edges.ensures.edges
-          ∙ ap₂ ◌++◌ c.loop-process_number.invariant.edges (ap (λ y. edges_by (next_number y) i) after ∙ ap (λ y. edges_by y i) (sym (number_after-suc x 5)))
+          ∙ ap₂ ◌++◌ c.loop-process_number.invariant.edges
+          (ap (λ y. edges_by (next_number y) i) after ∙ ap (λ y. edges_by y i) (sym (number_after-suc x 5)))
           ∙ flat_map_below_push (generated_edges c.args.number) i;
     }
 

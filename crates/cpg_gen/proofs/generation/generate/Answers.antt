@@ -2,5 +2,6 @@ use Rattle.cpg_gen.proofs.Limits.{parts_within}
 use Rattle.cpg_gen.proofs.generation.generate.Goals as goal
 
 pub of-requires : goal.of-requires
-of-requires c = parts_within c.args.number c.in_ok-nodes.nodes.items c.in_ok-slots.slots.items c.in_ok-drawn.drawn.processes.items c.in_ok-drawn.drawn.edges.items
+of-requires c = parts_within c.args.number c.in_ok-nodes.nodes.items c.in_ok-slots.slots.items
+    c.in_ok-drawn.drawn.processes.items c.in_ok-drawn.drawn.edges.items
     c.in_ok-nodes.ensures c.in_ok-slots.ensures c.in_ok-drawn.ensures.processes c.in_ok-drawn.ensures.edges

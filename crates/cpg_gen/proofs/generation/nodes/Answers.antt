@@ -8,5 +8,6 @@ pub numbered-requires : goal.numbered-requires
 numbered-requires c = node_name_is c.loop-node.node (search rules)
 
 pub loop-node-preserved : goal.loop-node-preserved
-loop-node-preserved c = map_below_push node_name c.loop-node.nodes.items c.push.new.self.items c.in_ok-numbered.field-0 c.loop-node.node c.loop-node.invariant c.in_ok-numbered.ensures
+loop-node-preserved c = map_below_push node_name c.loop-node.nodes.items c.push.new.self.items c.in_ok-numbered.field-0
+    c.loop-node.node c.loop-node.invariant c.in_ok-numbered.ensures
     c.in_ok-push.ensures.items

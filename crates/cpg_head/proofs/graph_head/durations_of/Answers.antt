@@ -4,5 +4,6 @@ use Rattle.cpg_head.proofs.graph_head.durations_of.Goals as goal
 
 pub loop-faults-preserved : goal.loop-faults-preserved
 loop-faults-preserved c =
-    map_below_push (duration c.args.problem.now c.args.process) c.loop-faults.times.items c.push.new.self.items c.duration.result c.loop-faults.faults
+    map_below_push (duration c.args.problem.now c.args.process) c.loop-faults.times.items c.push.new.self.items
+    c.duration.result c.loop-faults.faults
     c.loop-faults.invariant c.duration.ensures.duration c.in_ok-push.ensures.items

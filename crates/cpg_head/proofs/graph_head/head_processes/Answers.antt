@@ -4,5 +4,6 @@ use Rattle.cpg_head.proofs.graph_head.head_processes.Goals as goal
 
 pub loop-process-preserved : goal.loop-process-preserved
 loop-process-preserved c =
-    map_below_push (head_process c.args.problem.now) c.loop-process.processes.items c.push.new.self.items c.in_ok-head_process.field-0 c.loop-process.process
+    map_below_push (head_process c.args.problem.now) c.loop-process.processes.items c.push.new.self.items
+    c.in_ok-head_process.field-0 c.loop-process.process
     c.loop-process.invariant c.in_ok-head_process.ensures c.in_ok-push.ensures.items

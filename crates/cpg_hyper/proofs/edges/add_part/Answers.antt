@@ -5,11 +5,14 @@ use Rattle.cpg_hyper.proofs.edges.add_part.Goals as goal
 
 pub returns-then-size-eq0 : goal.returns-then-size-eq0
 returns-then-size-eq0 c =
-    let none : size_of c.args.part.now ≡ 0 = omega (arith, ap length c.processes.ensures.processes, c.if-size-eq0.true) in
+    let none : size_of c.args.part.now ≡ 0 =
+    omega (arith, ap length c.processes.ensures.processes, c.if-size-eq0.true) in
     nothing_added c.args.out.now.items c.args.whole c.args.first c.args.part.now c.processes.ensures.within none
 
 pub loop-instance-preserved : goal.loop-instance-preserved
 loop-instance-preserved c =
     let count : length c.processes.result.now ≡ size_of c.args.part.now = ap length c.processes.ensures.processes in
-    next_instance (edges_in c.args.first c.args.part.now) c.loop-instance.instance c.args.out.now.items c.loop-instance.out.items c.add_instance.new.out.items c.loop-instance.invariant
-    (c.in_ok-add_instance.ensures ∙ ap (λ n. c.loop-instance.out.items ++ map (copied_edge (c.args.first + c.loop-instance.instance * n)) c.args.part.now.problem.edges) count)
+    next_instance (edges_in c.args.first c.args.part.now) c.loop-instance.instance c.args.out.now.items
+    c.loop-instance.out.items c.add_instance.new.out.items c.loop-instance.invariant
+    (c.in_ok-add_instance.ensures ∙ ap (λ n. c.loop-instance.out.items
+    ++ map (copied_edge (c.args.first + c.loop-instance.instance * n)) c.args.part.now.problem.edges) count)

@@ -5,4 +5,5 @@ use Rattle.cpg_hyper.specs.Unrolled.{edges_in}
 use Rattle.cpg_hyper.proofs.edges.add_part.Given as goal
 
 abbrev pub invariant-loop-instance : goal.invariant-loop-instance
-invariant-loop-instance l = l.out.items ≡ l.fn.out.items ++ flat_map (edges_in l.first l.part) (numbers_below l.instance)
+invariant-loop-instance l =
+    l.out.items ≡ l.fn.out.items ++ flat_map (edges_in l.first l.part) (numbers_below l.instance)

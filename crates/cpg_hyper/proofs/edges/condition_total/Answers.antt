@@ -7,12 +7,14 @@ use Rattle.cpg_hyper.proofs.edges.condition_total.Goals.{then-is_conditional, el
 pub loop-process-preserved : goal.loop-process-preserved
 loop-process-preserved c = elim c.if-is_conditional.branch [
   | then-is_conditional w ↦ record {
-    total = counted (has_conditional_output c.args.edges.now) c.loop-process.process c.loop-process.total c.if-is_conditional.total c.loop-process.invariant.total
+    total = counted (has_conditional_output c.args.edges.now) c.loop-process.process c.loop-process.total
+        c.if-is_conditional.total c.loop-process.invariant.total
         (sym c.is_conditional.ensures ∙ w.if-is_conditional.true) w.total-is;
     short = omega (arith, w.total-is, c.loop-process.invariant.short);
   }
   | else-is_conditional w ↦ record {
-    total = passed (has_conditional_output c.args.edges.now) c.loop-process.process c.loop-process.total c.if-is_conditional.total c.loop-process.invariant.total
+    total = passed (has_conditional_output c.args.edges.now) c.loop-process.process c.loop-process.total
+        c.if-is_conditional.total c.loop-process.invariant.total
         (sym c.is_conditional.ensures ∙ w.if-is_conditional.false) w.total-is;
     short = omega (arith, w.total-is, c.loop-process.invariant.short);
   }

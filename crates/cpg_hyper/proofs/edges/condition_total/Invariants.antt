@@ -4,4 +4,7 @@ use Rattle.cpg_base.specs.Conditions.{has_conditional_output}
 use Rattle.cpg_hyper.proofs.edges.condition_total.Given as goal
 
 abbrev pub invariant-loop-process : goal.invariant-loop-process
-invariant-loop-process l = record { total : l.total ≡ length (filter (has_conditional_output l.edges) (numbers_below l.process)); short : l.total ≤ l.process }
+invariant-loop-process l = record {
+  total : l.total ≡ length (filter (has_conditional_output l.edges) (numbers_below l.process));
+  short : l.total ≤ l.process;
+}

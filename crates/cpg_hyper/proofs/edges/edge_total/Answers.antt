@@ -4,9 +4,12 @@ use Rattle.cpg_hyper.proofs.edges.edge_total.Goals as goal
 
 pub loop-part-preserved : goal.loop-part-preserved
 loop-part-preserved c =
-    let count : length c.part-item.result.problem.edges ≡ length c.edges.result.now = ap length (sym c.edges.ensures.edges) in
-    let most = part_le c.args.whole c.part-item.result.period (length c.part-item.result.problem.edges) 256 c.requires.short c.edges.ensures.within.few_edges in
+    let count : length c.part-item.result.problem.edges ≡ length c.edges.result.now =
+    ap length (sym c.edges.ensures.edges) in
+    let most = part_le c.args.whole c.part-item.result.period
+    (length c.part-item.result.problem.edges) 256 c.requires.short c.edges.ensures.within.few_edges in
     rw (← count) (record {
-      total = more_edges c.args.parts.now c.loop-part.part-index c.part-item.result c.loop-part-test.true c.part-item.is c.args.whole _ c.loop-part.total c.loop-part.invariant.total;
+      total = more_edges c.args.parts.now c.loop-part.part-index c.part-item.result c.loop-part-test.true c.part-item.is
+          c.args.whole _ c.loop-part.total c.loop-part.invariant.total;
       short = omega (arith, most, c.loop-part.invariant.short);
     })

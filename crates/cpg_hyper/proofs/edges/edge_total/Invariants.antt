@@ -3,4 +3,7 @@ use Rattle.cpg_hyper.specs.Unrolled.{edges_from}
 use Rattle.cpg_hyper.proofs.edges.edge_total.Given as goal
 
 abbrev pub invariant-loop-part : goal.invariant-loop-part
-invariant-loop-part l = record { total : length (edges_from l.whole 0 l.parts) ≡ l.total + length (edges_from l.whole 0 (drop l.part-index l.parts)); short : l.total ≤ l.part-index * 256000000000 }
+invariant-loop-part l = record {
+  total : length (edges_from l.whole 0 l.parts) ≡ l.total + length (edges_from l.whole 0 (drop l.part-index l.parts));
+  short : l.total ≤ l.part-index * 256000000000;
+}

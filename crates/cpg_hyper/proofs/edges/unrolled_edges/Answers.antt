@@ -8,35 +8,43 @@ add_part-requires-clause-few c =
     omega (
       arith,
       c.requires.few,
-      more_processes c.args.parts.now c.loop-part.part-index c.part-item.result c.loop-part-test.true c.part-item.is c.args.whole _ c.loop-part.first
+      more_processes c.args.parts.now c.loop-part.part-index c.part-item.result c.loop-part-test.true c.part-item.is
+          c.args.whole _ c.loop-part.first
           c.loop-part.invariant.first,
     )
 
 pub overflow_mul-first : goal.overflow_mul-first
 overflow_mul-first c =
-    let count : size_of c.part-item.result ≡ length c.processes.result.now = ap length (sym c.processes.ensures.processes) in
+    let count : size_of c.part-item.result ≡ length c.processes.result.now =
+    ap length (sym c.processes.ensures.processes) in
     rw (← count) (omega (
       arith,
       c.requires.few,
-      more_processes c.args.parts.now c.loop-part.part-index c.part-item.result c.loop-part-test.true c.part-item.is c.args.whole _ c.loop-part.first
+      more_processes c.args.parts.now c.loop-part.part-index c.part-item.result c.loop-part-test.true c.part-item.is
+          c.args.whole _ c.loop-part.first
           c.loop-part.invariant.first,
     ))
 
 pub overflow_add-first : goal.overflow_add-first
 overflow_add-first c =
-    let count : size_of c.part-item.result ≡ length c.processes.result.now = ap length (sym c.processes.ensures.processes) in
+    let count : size_of c.part-item.result ≡ length c.processes.result.now =
+    ap length (sym c.processes.ensures.processes) in
     rw (← count) (omega (
       arith,
       c.requires.few,
-      more_processes c.args.parts.now c.loop-part.part-index c.part-item.result c.loop-part-test.true c.part-item.is c.args.whole _ c.loop-part.first
+      more_processes c.args.parts.now c.loop-part.part-index c.part-item.result c.loop-part-test.true c.part-item.is
+          c.args.whole _ c.loop-part.first
           c.loop-part.invariant.first,
     ))
 
 pub loop-part-preserved : goal.loop-part-preserved
 loop-part-preserved c =
-    let count : size_of c.part-item.result ≡ length c.processes.result.now = ap length (sym c.processes.ensures.processes) in
+    let count : size_of c.part-item.result ≡ length c.processes.result.now =
+    ap length (sym c.processes.ensures.processes) in
     rw (← count) (record {
-      edges = next_edges c.args.parts.now c.loop-part.part-index c.part-item.result c.loop-part-test.true c.part-item.is c.args.whole _ c.loop-part.edges.items c.add_part.new.out.items
+      edges = next_edges c.args.parts.now c.loop-part.part-index c.part-item.result c.loop-part-test.true c.part-item.is
+          c.args.whole _ c.loop-part.edges.items c.add_part.new.out.items
           c.loop-part.first c.loop-part.invariant.edges c.in_ok-add_part.ensures;
-      first = more_processes c.args.parts.now c.loop-part.part-index c.part-item.result c.loop-part-test.true c.part-item.is c.args.whole _ c.loop-part.first c.loop-part.invariant.first;
+      first = more_processes c.args.parts.now c.loop-part.part-index c.part-item.result c.loop-part-test.true
+          c.part-item.is c.args.whole _ c.loop-part.first c.loop-part.invariant.first;
     })

@@ -3,4 +3,7 @@ use Rattle.cpg_hyper.specs.Refusals.{HoldsBefore, FitsPeriod}
 use Rattle.cpg_hyper.proofs.fitting.first_over.Given as goal
 
 abbrev pub invariant-loop-place : goal.invariant-loop-place
-invariant-loop-place l = record { fits : HoldsBefore (λ p part. FitsPeriod part) l.parts l.place; within : HoldsBefore (λ p part. IsWithinLimits part.problem) l.parts l.place }
+invariant-loop-place l = record {
+  fits : HoldsBefore (λ p part. FitsPeriod part) l.parts l.place;
+  within : HoldsBefore (λ p part. IsWithinLimits part.problem) l.parts l.place;
+}

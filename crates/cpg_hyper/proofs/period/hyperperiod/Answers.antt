@@ -8,7 +8,8 @@ loop-part-init c = record { some = omega arith; short = omega arith; whole = non
 
 pub returns-then-whole-gt-LONGEST-clause-long : goal.returns-then-whole-gt-LONGEST-clause-long
 returns-then-whole-gt-LONGEST-clause-long c whole h =
-    let next = more_so_far c.args.parts.now c.loop-part.part-index c.part-item.result c.loop-part.whole c.least_common-whole.result c.loop-part-test.true c.part-item.is c.loop-part.invariant.whole
+    let next = more_so_far c.args.parts.now c.loop-part.part-index c.part-item.result c.loop-part.whole
+    c.least_common-whole.result c.loop-part-test.true c.part-item.is c.loop-part.invariant.whole
     c.least_common-whole.ensures.least in
     omega (arith, least_below c.args.parts.now _ whole c.least_common-whole.result next h, c.if-whole-gt-LONGEST.true)
 
@@ -16,12 +17,14 @@ pub loop-part-preserved : goal.loop-part-preserved
 loop-part-preserved c = record {
   some = c.least_common-whole.ensures.some;
   short = omega (arith, c.if-whole-gt-LONGEST.false);
-  whole = more_so_far c.args.parts.now c.loop-part.part-index c.part-item.result c.loop-part.whole c.least_common-whole.result c.loop-part-test.true c.part-item.is c.loop-part.invariant.whole
+  whole = more_so_far c.args.parts.now c.loop-part.part-index c.part-item.result c.loop-part.whole
+      c.least_common-whole.result c.loop-part-test.true c.part-item.is c.loop-part.invariant.whole
       c.least_common-whole.ensures.least;
 }
 
 pub returns-clause-whole : goal.returns-clause-whole
 returns-clause-whole c =
     let end : length c.args.parts.now ≤ c.loop-part.part-index = omega (arith, c.loop-part-test.false) in
-    let all = subst (λ ps. IsSoFar ps c.loop-part.whole) (take_all c.loop-part.part-index c.args.parts.now end) c.loop-part.invariant.whole in
+    let all = subst (λ ps. IsSoFar ps c.loop-part.whole)
+    (take_all c.loop-part.part-index c.args.parts.now end) c.loop-part.invariant.whole in
     record { some = omega (arith, c.loop-part.invariant.some); common = all.common; least = all.least }

@@ -3,4 +3,5 @@ use Rattle.cpg_hyper.proofs.Multiples.{IsSoFar}
 use Rattle.cpg_hyper.proofs.period.hyperperiod.Given as goal
 
 abbrev pub invariant-loop-part : goal.invariant-loop-part
-invariant-loop-part l = record { some : 1 ≤ l.whole; short : l.whole ≤ 1000000000; whole : IsSoFar (take l.part-index l.parts) l.whole }
+invariant-loop-part l =
+    record { some : 1 ≤ l.whole; short : l.whole ≤ 1000000000; whole : IsSoFar (take l.part-index l.parts) l.whole }

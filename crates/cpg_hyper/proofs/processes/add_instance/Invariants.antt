@@ -5,6 +5,7 @@ use Rattle.cpg_hyper.proofs.processes.add_instance.Given as goal
 
 abbrev pub invariant-loop-process : goal.invariant-loop-process
 invariant-loop-process l = record {
-  added : l.out.items ≡ l.fn.out.items ++ map (copied_process l.number l.instance l.part) (take l.process-index l.process-items);
+  added : l.out.items ≡ l.fn.out.items
+      ++ map (copied_process l.number l.instance l.part) (take l.process-index l.process-items);
   short : All (λ q. length (name_in l.number l.instance q.name) ≤ 32) (take l.process-index l.process-items);
 }

@@ -8,14 +8,19 @@ use Rattle.cpg_hyper.proofs.processes.add_part.Goals as goal
 pub returns-then-is_empty : goal.returns-then-is_empty
 returns-then-is_empty c =
     let none : length c.processes.result.now ≡ 0 = search rules in
-    nothing_added c.args.out.now.items c.args.whole c.args.number c.args.part.now (ap length (sym c.processes.ensures.processes) ∙ none)
+    nothing_added c.args.out.now.items c.args.whole c.args.number c.args.part.now
+    (ap length (sym c.processes.ensures.processes) ∙ none)
 
 pub loop-instance-preserved : goal.loop-instance-preserved
 loop-instance-preserved c =
-    let here = added_true _ c.loop-instance.out.items c.add_instance.new.out.items (processes_in c.args.number c.args.part.now c.loop-instance.instance)
-    (AreShort c.args.number c.args.part.now c.loop-instance.instance) c.if-not-branch.false c.in_ok-add_instance.ensures in
+    let here = added_true _ c.loop-instance.out.items c.add_instance.new.out.items
+    (processes_in c.args.number c.args.part.now c.loop-instance.instance)
+    (AreShort c.args.number c.args.part.now c.loop-instance.instance) c.if-not-branch.false
+    c.in_ok-add_instance.ensures in
     record {
-      added = next_instance (processes_in c.args.number c.args.part.now) c.loop-instance.instance c.args.out.now.items c.loop-instance.out.items c.add_instance.new.out.items
+      added = next_instance (processes_in c.args.number c.args.part.now) c.loop-instance.instance c.args.out.now.items
+          c.loop-instance.out.items c.add_instance.new.out.items
           c.loop-instance.invariant.added here.0;
-      short = below_more (AreShort c.args.number c.args.part.now) c.loop-instance.instance c.loop-instance.invariant.short here.1;
+      short = below_more (AreShort c.args.number c.args.part.now) c.loop-instance.instance
+          c.loop-instance.invariant.short here.1;
     }

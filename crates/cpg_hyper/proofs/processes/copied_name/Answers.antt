@@ -5,5 +5,7 @@ use Rattle.cpg_hyper.proofs.processes.copied_name.Goals as goal
 
 pub returns-clause-long : goal.returns-clause-long
 returns-clause-long c =
-    long_if c.new.result c.as_str.result.now (name_in c.args.number c.args.instance c.args.name.now) c.new.ensures.refused (c.as_str.ensures.value ∙ c.in_ok-text.ensures.text)
-    (long_name c.args.number c.args.instance c.args.name.now (omega (arith, c.requires)) c.ranges.instance.fits c.in_ok-text.ensures.name)
+    long_if c.new.result c.as_str.result.now (name_in c.args.number c.args.instance c.args.name.now)
+    c.new.ensures.refused (c.as_str.ensures.value ∙ c.in_ok-text.ensures.text)
+    (long_name c.args.number c.args.instance c.args.name.now
+    (omega (arith, c.requires)) c.ranges.instance.fits c.in_ok-text.ensures.name)

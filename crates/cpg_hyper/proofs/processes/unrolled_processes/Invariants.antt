@@ -5,6 +5,7 @@ use Rattle.cpg_hyper.proofs.processes.unrolled_processes.Given as goal
 
 abbrev pub invariant-loop-place : goal.invariant-loop-place
 invariant-loop-place l = record {
-  processes : processes_from l.whole 0 l.parts ≡ l.processes.items ++ processes_from l.whole l.place (drop l.place l.parts);
+  processes : processes_from l.whole 0 l.parts ≡ l.processes.items
+      ++ processes_from l.whole l.place (drop l.place l.parts);
   short : HoldsBefore (HasShortNames l.whole) l.parts l.place;
 }

@@ -8,6 +8,8 @@ of-requires c =
     let first = (get_or c.args.parts.now 0 c.index-parts-0.result).problem in
     let nodes : c.in_ok-nodes.nodes.items ≡ first.nodes = search rules in
     let slots : c.in_ok-slots.slots.items ≡ first.slots = search rules in
-    made_within c.args.whole c.args.parts.now c.requires.some c.requires.few c.requires.over c.requires.within c.requires.counts first c.faults.result c.in_ok-nodes.nodes.items
+    made_within c.args.whole c.args.parts.now c.requires.some c.requires.few c.requires.over c.requires.within
+    c.requires.counts first c.faults.result c.in_ok-nodes.nodes.items
     c.in_ok-slots.slots.items c.args.processes.items c.args.edges.items
-    (first_there c.args.parts.now c.index-parts-0.result c.requires.some) c.faults.ensures.faults nodes slots c.requires.processes c.requires.edges
+    (first_there c.args.parts.now c.index-parts-0.result c.requires.some) c.faults.ensures.faults nodes slots
+    c.requires.processes c.requires.edges

@@ -9,17 +9,26 @@ use Rattle.cpg_hyper.proofs.unrolling.over.Goals as goal
 pub returns-then-condition_total-gt-MOST_CONDITIONS : goal.returns-then-condition_total-gt-MOST_CONDITIONS
 returns-then-condition_total-gt-MOST_CONDITIONS c =
     let g = unrolled c.args.whole c.args.parts.now in
-    let count : c.condition_total.result ≡ condition_count g = count_is g c.as_slice.result.now c.process_total-process_count.result c.condition_total.result
-    (c.as_slice.ensures.value ∙ c.in_ok-edges.ensures) c.process_total-process_count.ensures c.condition_total.ensures in
-    let processes : process_count g ≤ MOST_PROCESSES = omega (arith, c.process_total-process_count.ensures, c.if-process_count-gt-MOST_PROCESSES.false) in
-    let edges : edge_count g ≤ MOST_EDGES = omega (arith, c.edge_total.ensures, c.if-edge_total-gt-MOST_EDGES.false) in
-    (c.args.whole, c.requires.over, (processes, edges, omega (arith, count, c.if-condition_total-gt-MOST_CONDITIONS.true)))
+    let count : c.condition_total.result ≡ condition_count g =
+    count_is g c.as_slice.result.now c.process_total-process_count.result c.condition_total.result
+    (c.as_slice.ensures.value ∙ c.in_ok-edges.ensures) c.process_total-process_count.ensures
+    c.condition_total.ensures in
+    let processes : process_count g ≤ MOST_PROCESSES =
+    omega (arith, c.process_total-process_count.ensures, c.if-process_count-gt-MOST_PROCESSES.false) in
+    let edges : edge_count g ≤ MOST_EDGES =
+    omega (arith, c.edge_total.ensures, c.if-edge_total-gt-MOST_EDGES.false) in (
+      c.args.whole,
+      c.requires.over,
+      (processes, edges, omega (arith, count, c.if-condition_total-gt-MOST_CONDITIONS.true)),
+    )
 
 pub returns-in-Err : goal.returns-in-Err
 returns-in-Err c =
     let g = unrolled c.args.whole c.args.parts.now in
-    let count : c.condition_total.result ≡ condition_count g = count_is g c.as_slice.result.now c.process_total-process_count.result c.condition_total.result
-    (c.as_slice.ensures.value ∙ c.in_ok-edges.ensures) c.process_total-process_count.ensures c.condition_total.ensures in
+    let count : c.condition_total.result ≡ condition_count g =
+    count_is g c.as_slice.result.now c.process_total-process_count.result c.condition_total.result
+    (c.as_slice.ensures.value ∙ c.in_ok-edges.ensures) c.process_total-process_count.ensures
+    c.condition_total.ensures in
     let few : HasFewEnough g = record {
       processes = omega (arith, c.process_total-process_count.ensures, c.if-process_count-gt-MOST_PROCESSES.false);
       edges = omega (arith, c.edge_total.ensures, c.if-edge_total-gt-MOST_EDGES.false);
@@ -30,8 +39,10 @@ returns-in-Err c =
 pub returns-in-Some : goal.returns-in-Some
 returns-in-Some c =
     let g = unrolled c.args.whole c.args.parts.now in
-    let count : c.condition_total.result ≡ condition_count g = count_is g c.as_slice.result.now c.process_total-process_count.result c.condition_total.result
-    (c.as_slice.ensures.value ∙ c.in_ok-edges.ensures) c.process_total-process_count.ensures c.condition_total.ensures in
+    let count : c.condition_total.result ≡ condition_count g =
+    count_is g c.as_slice.result.now c.process_total-process_count.result c.condition_total.result
+    (c.as_slice.ensures.value ∙ c.in_ok-edges.ensures) c.process_total-process_count.ensures
+    c.condition_total.ensures in
     let few : HasFewEnough g = record {
       processes = omega (arith, c.process_total-process_count.ensures, c.if-process_count-gt-MOST_PROCESSES.false);
       edges = omega (arith, c.edge_total.ensures, c.if-edge_total-gt-MOST_EDGES.false);
@@ -42,8 +53,10 @@ returns-in-Some c =
 pub built-requires-clause-counts : goal.built-requires-clause-counts
 built-requires-clause-counts c =
     let g = unrolled c.args.whole c.args.parts.now in
-    let count : c.condition_total.result ≡ condition_count g = count_is g c.as_slice.result.now c.process_total-process_count.result c.condition_total.result
-    (c.as_slice.ensures.value ∙ c.in_ok-edges.ensures) c.process_total-process_count.ensures c.condition_total.ensures in
+    let count : c.condition_total.result ≡ condition_count g =
+    count_is g c.as_slice.result.now c.process_total-process_count.result c.condition_total.result
+    (c.as_slice.ensures.value ∙ c.in_ok-edges.ensures) c.process_total-process_count.ensures
+    c.condition_total.ensures in
     record {
       processes = omega (arith, c.process_total-process_count.ensures, c.if-process_count-gt-MOST_PROCESSES.false);
       edges = omega (arith, c.edge_total.ensures, c.if-edge_total-gt-MOST_EDGES.false);

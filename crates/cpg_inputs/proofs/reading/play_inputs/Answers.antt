@@ -27,17 +27,21 @@ returns-in_err-played-clause-inputs g c =
     let now : List Fetch = (S.state c.read_played.new.shelf).history in
     let halt = c.in_err-played.field-0.0 in
     let last = file ScenarioFile c.args.scenario.now in
-    let stops = stops_one (Some a.graph) last [] mid now halt (rw c.problem.ensures.problem at c.in_err-played.ensures.halt) in
+    let stops =
+    stops_one (Some a.graph) last [] mid now halt (rw c.problem.ensures.problem at c.in_err-played.ensures.halt) in
     let p = err_from_is_err_and c.from_residual-in_err-played.result c.from_residual-in_err-played.ensures.1 in
-    rw (p.1, p.2) (stops_after None (file GraphFile c.args.graph.now ∷ file PackFile c.args.pack.now ∷ []) (last ∷ []) past mid now
+    rw (p.1, p.2) (stops_after None (file GraphFile c.args.graph.now ∷ file PackFile c.args.pack.now ∷ [])
+    (last ∷ []) past mid now
     (graph_value a ∷ tables_value t ∷ []) halt c.in_ok-judged.ensures.read stops)
 
 pub returns-in_err-played-clause-keeps : goal.returns-in_err-played-clause-keeps
 returns-in_err-played-clause-keeps g c =
     let S = g.S.Shelf in
-    keeps_on (S.state c.args.shelf.now) (S.state c.read_judged.new.shelf) (S.state c.read_played.new.shelf) c.in_ok-judged.ensures.keeps c.in_err-played.ensures.keeps
+    keeps_on (S.state c.args.shelf.now) (S.state c.read_judged.new.shelf)
+    (S.state c.read_played.new.shelf) c.in_ok-judged.ensures.keeps c.in_err-played.ensures.keeps
 
 pub returns-clause-keeps : goal.returns-clause-keeps
 returns-clause-keeps g c =
     let S = g.S.Shelf in
-    keeps_on (S.state c.args.shelf.now) (S.state c.read_judged.new.shelf) (S.state c.read_played.new.shelf) c.in_ok-judged.ensures.keeps c.in_ok-played.ensures.keeps
+    keeps_on (S.state c.args.shelf.now) (S.state c.read_judged.new.shelf)
+    (S.state c.read_played.new.shelf) c.in_ok-judged.ensures.keeps c.in_ok-played.ensures.keeps

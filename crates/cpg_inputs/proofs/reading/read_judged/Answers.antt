@@ -33,15 +33,18 @@ returns-clause-read g c =
     let now : List Fetch = (S.state c.read_tables.new.shelf).history in
     let graph = file GraphFile c.args.graph.now in
     let pack = file PackFile c.args.pack.now in
-    reads_more None (graph ∷ []) (pack ∷ []) past mid now (graph_value a ∷ []) (tables_value t ∷ []) (reads_one None graph past mid (graph_value a) c.in_ok-graph.ensures.graph)
+    reads_more None (graph ∷ []) (pack ∷ []) past mid now (graph_value a ∷ []) (tables_value t ∷ [])
+    (reads_one None graph past mid (graph_value a) c.in_ok-graph.ensures.graph)
     (reads_one (Some a.graph) pack mid now (tables_value t) (c.in_ok-tables.ensures.tables (Some a.graph)))
 
 pub returns-in_err-tables-clause-keeps : goal.returns-in_err-tables-clause-keeps
 returns-in_err-tables-clause-keeps g c =
     let S = g.S.Shelf in
-    keeps_on (S.state c.args.shelf.now) (S.state c.read_graph.new.shelf) (S.state c.read_tables.new.shelf) c.in_ok-graph.ensures.keeps c.in_err-tables.ensures.keeps
+    keeps_on (S.state c.args.shelf.now) (S.state c.read_graph.new.shelf)
+    (S.state c.read_tables.new.shelf) c.in_ok-graph.ensures.keeps c.in_err-tables.ensures.keeps
 
 pub returns-clause-keeps : goal.returns-clause-keeps
 returns-clause-keeps g c =
     let S = g.S.Shelf in
-    keeps_on (S.state c.args.shelf.now) (S.state c.read_graph.new.shelf) (S.state c.read_tables.new.shelf) c.in_ok-graph.ensures.keeps c.in_ok-tables.ensures.keeps
+    keeps_on (S.state c.args.shelf.now) (S.state c.read_graph.new.shelf)
+    (S.state c.read_tables.new.shelf) c.in_ok-graph.ensures.keeps c.in_ok-tables.ensures.keeps

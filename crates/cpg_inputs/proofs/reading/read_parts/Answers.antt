@@ -9,7 +9,8 @@ pub read_part-requires : goal.read_part-requires
 read_part-requires g c =
     subst (g.S.Shelf.may_fetch c.loop-pair.shelf) (sym c.as_str.ensures)
     ((c.loop-pair.invariant.access c.pair-item.result.graph).0
-    (may_at (g.S.Shelf.may_fetch c.args.shelf.now) c.args.pairs.now c.loop-pair.pair-index c.pair-item.result c.loop-pair-test.true c.pair-item.is c.requires))
+    (may_at (g.S.Shelf.may_fetch c.args.shelf.now) c.args.pairs.now c.loop-pair.pair-index c.pair-item.result
+    c.loop-pair-test.true c.pair-item.is c.requires))
 
 pub returns-in_err-problem-clause-halt : goal.returns-in_err-problem-clause-halt
 returns-in_err-problem-clause-halt g c =
@@ -18,7 +19,8 @@ returns-in_err-problem-clause-halt g c =
     let mid : List Fetch = (S.state c.loop-pair.shelf).history in
     let now : List Fetch = (S.state c.read_part.new.shelf).history in
     let p = err_from_is_err_and c.from_residual.result c.from_residual.ensures.1 in
-    rw (p.1, p.2) (stops_next c.args.pairs.now c.loop-pair.pair-index c.pair-item.result c.loop-pair-test.true c.pair-item.is c.loop-pair.parts.items past mid now c.loop-pair.invariant.read
+    rw (p.1, p.2) (stops_next c.args.pairs.now c.loop-pair.pair-index c.pair-item.result c.loop-pair-test.true
+    c.pair-item.is c.loop-pair.parts.items past mid now c.loop-pair.invariant.read
     c.in_err-problem.field-0.0 (rw c.as_str.ensures at c.in_err-problem.ensures.halt))
 
 pub loop-pair-preserved : goal.loop-pair-preserved
@@ -30,11 +32,15 @@ loop-pair-preserved g c =
     let now : List Fetch = (S.state c.read_part.new.shelf).history in
     let pair = c.pair-item.result in
     record {
-      keeps = keeps_on (S.state c.args.shelf.now) (S.state c.loop-pair.shelf) (S.state c.read_part.new.shelf) before.keeps c.in_ok-problem.ensures.keeps;
-      access = access_on (S.may_fetch c.args.shelf.now) (S.may_fetch c.loop-pair.shelf) (S.may_fetch c.read_part.new.shelf) before.access c.in_ok-problem.ensures.access;
-      read = read_next c.args.pairs.now c.loop-pair.pair-index pair c.loop-pair-test.true c.pair-item.is c.loop-pair.parts.items past mid now before.read c.in_ok-problem.problem c.add.new.parts.items
+      keeps = keeps_on (S.state c.args.shelf.now) (S.state c.loop-pair.shelf)
+          (S.state c.read_part.new.shelf) before.keeps c.in_ok-problem.ensures.keeps;
+      access = access_on (S.may_fetch c.args.shelf.now) (S.may_fetch c.loop-pair.shelf)
+          (S.may_fetch c.read_part.new.shelf) before.access c.in_ok-problem.ensures.access;
+      read = read_next c.args.pairs.now c.loop-pair.pair-index pair c.loop-pair-test.true c.pair-item.is
+          c.loop-pair.parts.items past mid now before.read c.in_ok-problem.problem c.add.new.parts.items
           (rw c.as_str.ensures at c.in_ok-problem.ensures.graph) c.in_ok-add.ensures.added;
-      periods = periods_next c.args.pairs.now c.loop-pair.pair-index pair c.loop-pair-test.true c.pair-item.is c.loop-pair.parts.items past mid now before.read c.in_ok-problem.problem
+      periods = periods_next c.args.pairs.now c.loop-pair.pair-index pair c.loop-pair-test.true c.pair-item.is
+          c.loop-pair.parts.items past mid now before.read c.in_ok-problem.problem
           c.add.new.parts.items before.periods c.in_ok-add.ensures.added;
     }
 
@@ -45,18 +51,27 @@ returns-in_err-add-clause-halt g c =
     let mid : List Fetch = (S.state c.loop-pair.shelf).history in
     let now : List Fetch = (S.state c.read_part.new.shelf).history in
     let p = err_from_is_err_and c.from_residual-in_err-add.result c.from_residual-in_err-add.ensures.1 in
-    rw (p.1, p.2) (wants_next c.args.pairs.now c.loop-pair.pair-index c.pair-item.result c.loop-pair-test.true c.pair-item.is c.loop-pair.parts.items past mid now c.loop-pair.invariant.read
-    c.in_ok-problem.problem c.in_err-add.field-0.0 (rw c.as_str.ensures at c.in_ok-problem.ensures.graph) c.in_err-add.ensures.halt)
+    rw (p.1, p.2) (wants_next c.args.pairs.now c.loop-pair.pair-index c.pair-item.result c.loop-pair-test.true
+    c.pair-item.is c.loop-pair.parts.items past mid now c.loop-pair.invariant.read
+    c.in_ok-problem.problem c.in_err-add.field-0.0
+    (rw c.as_str.ensures at c.in_ok-problem.ensures.graph) c.in_err-add.ensures.halt)
 
 pub returns-in_err-problem-clause-keeps : goal.returns-in_err-problem-clause-keeps
 returns-in_err-problem-clause-keeps g c =
     let S = g.S.Shelf in
-    keeps_on (S.state c.args.shelf.now) (S.state c.loop-pair.shelf) (S.state c.read_part.new.shelf) c.loop-pair.invariant.keeps c.in_err-problem.ensures.keeps
+    keeps_on (S.state c.args.shelf.now) (S.state c.loop-pair.shelf)
+    (S.state c.read_part.new.shelf) c.loop-pair.invariant.keeps c.in_err-problem.ensures.keeps
 
 pub returns-in_err-add-clause-keeps : goal.returns-in_err-add-clause-keeps
 returns-in_err-add-clause-keeps g c =
     let S = g.S.Shelf in
-    keeps_on (S.state c.args.shelf.now) (S.state c.loop-pair.shelf) (S.state c.read_part.new.shelf) c.loop-pair.invariant.keeps c.in_ok-problem.ensures.keeps
+    keeps_on (S.state c.args.shelf.now) (S.state c.loop-pair.shelf)
+    (S.state c.read_part.new.shelf) c.loop-pair.invariant.keeps c.in_ok-problem.ensures.keeps
 
 pub loop-pair-init : goal.loop-pair-init
-loop-pair-init g c = record { keeps = keeps_same (g.S.Shelf.state c.args.shelf.now); access = λ name. (λ may. may, λ may. may); read = search rules; periods = search rules }
+loop-pair-init g c = record {
+  keeps = keeps_same (g.S.Shelf.state c.args.shelf.now);
+  access = λ name. (λ may. may, λ may. may);
+  read = search rules;
+  periods = search rules;
+}

@@ -9,6 +9,7 @@ abbrev pub invariant-loop-pair : goal.invariant-loop-pair
 invariant-loop-pair g l = record {
   keeps : KeepsShelf (g.S.Shelf.state l.fn.shelf) (g.S.Shelf.state l.shelf);
   access : SameAccess (g.S.Shelf.may_fetch l.fn.shelf) (g.S.Shelf.may_fetch l.shelf);
-  read : Reads None (part_files (take l.pair-index l.pairs)) (g.S.Shelf.state l.fn.shelf).history (g.S.Shelf.state l.shelf).history (part_values l.parts.items);
+  read : Reads None (part_files (take l.pair-index l.pairs)) (g.S.Shelf.state l.fn.shelf).history
+      (g.S.Shelf.state l.shelf).history (part_values l.parts.items);
   periods : HavePeriods (take l.pair-index l.pairs) l.parts.items;
 }

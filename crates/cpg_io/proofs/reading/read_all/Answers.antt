@@ -5,7 +5,8 @@ use Rattle.cpg_io.proofs.PiecesRead.{one_fetch}
 use Rattle.cpg_io.proofs.reading.read_all.Goals as goal
 
 pub returns-in_err-fetch-clause-fetched : goal.returns-in_err-fetch-clause-fetched
-returns-in_err-fetch-clause-fetched g c = fetched_none (g.S.Shelf.state c.args.shelf.now) (g.S.Shelf.state c.fetch.new.self) c.args.name.now c.in_err-fetch.ensures.history
+returns-in_err-fetch-clause-fetched g c = fetched_none (g.S.Shelf.state c.args.shelf.now)
+    (g.S.Shelf.state c.fetch.new.self) c.args.name.now c.in_err-fetch.ensures.history
 
 pub returns-in_err-read_piece-clause-fetched : goal.returns-in_err-read_piece-clause-fetched
 returns-in_err-read_piece-clause-fetched g c =
@@ -13,7 +14,8 @@ returns-in_err-read_piece-clause-fetched g c =
     let new = g.S.Shelf.state c.read_piece.new.shelf in
     let before = c.loop-bytes.invariant in
     let names : SameNames old new = λ name. c.read_piece.ensures.names name ∙ before.names name in
-    let one = one_fetch c.args.limit old.history new.history _ _ before.history c.loop-bytes.bytes.items c.read_piece.new.bytes.items c.read_piece.result c.read_piece.ensures.history in
+    let one = one_fetch c.args.limit old.history new.history _ _ before.history c.loop-bytes.bytes.items
+    c.read_piece.new.bytes.items c.read_piece.result c.read_piece.ensures.history in
     fetched_one old new names one.0 one.1 (c.read_piece.ensures.rest before.rest)
 
 pub returns-clause-fetched : goal.returns-clause-fetched
@@ -22,5 +24,6 @@ returns-clause-fetched g c =
     let new = g.S.Shelf.state c.read_piece.new.shelf in
     let before = c.loop-bytes.invariant in
     let names : SameNames old new = λ name. c.read_piece.ensures.names name ∙ before.names name in
-    let one = one_fetch c.args.limit old.history new.history _ _ before.history c.loop-bytes.bytes.items c.read_piece.new.bytes.items c.read_piece.result c.read_piece.ensures.history in
+    let one = one_fetch c.args.limit old.history new.history _ _ before.history c.loop-bytes.bytes.items
+    c.read_piece.new.bytes.items c.read_piece.result c.read_piece.ensures.history in
     fetched_one old new names one.0 one.1 (c.read_piece.ensures.rest before.rest)

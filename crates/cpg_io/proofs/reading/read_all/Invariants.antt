@@ -9,8 +9,14 @@ invariant-loop-bytes g l = record {
   names : SameNames (g.S.Shelf.state l.fn.shelf) (g.S.Shelf.state l.shelf);
   access : SameAccess (g.S.Shelf.may_fetch l.fn.shelf) (g.S.Shelf.may_fetch l.shelf);
   rest : LeavesRest (g.S.Shelf.state l.shelf);
-  came : IfSome ((g.S.Shelf.state l.fn.shelf).stands l.fn.name) (λ whole. Consumes (Some whole) (g.S.Shelf.state l.shelf).left l.bytes.items);
-  history : (g.S.Shelf.state l.shelf).history ≡ record { name = l.fn.name; given = l.bytes.items; ended = false; failed = false } ∷ (g.S.Shelf.state l.fn.shelf).history;
+  came : IfSome ((g.S.Shelf.state l.fn.shelf).stands l.fn.name)
+      (λ whole. Consumes (Some whole) (g.S.Shelf.state l.shelf).left l.bytes.items);
+  history : (g.S.Shelf.state l.shelf).history ≡ record {
+    name = l.fn.name;
+    given = l.bytes.items;
+    ended = false;
+    failed = false;
+  } ∷ (g.S.Shelf.state l.fn.shelf).history;
   within : vec_len l.bytes ≤ l.limit;
   later : (g.S.Shelf.state l.fn.shelf).faults ≤ (g.S.Shelf.state l.shelf).faults;
 }

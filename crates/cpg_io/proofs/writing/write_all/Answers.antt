@@ -10,4 +10,5 @@ loop-at-preserved g c = record {
 }
 
 pub returns-in_err-at-clause-part : goal.returns-in_err-at-clause-part
-returns-in_err-at-clause-part g c = Took-part c.from_residual.result _ _ _ _ c.loop-at.at (search rules) c.loop-at.invariant.taken c.in_err-at.ensures.bytes
+returns-in_err-at-clause-part g c = Took-part c.from_residual.result _ _ _ _ c.loop-at.at
+    (search rules) c.loop-at.invariant.taken c.in_err-at.ensures.bytes

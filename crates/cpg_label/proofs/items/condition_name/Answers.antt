@@ -6,4 +6,5 @@ use Rattle.cpg_label.proofs.items.condition_name.Goals as goal
 pub returns : goal.returns
 returns c =
     let g = c.args.problem.now in
-    c.name_of.ensures.name ∙ ap (λ p. (process_at g p).name) c.process_of.ensures.process ∙ sym (condition_called g c.args.condition c.requires)
+    c.name_of.ensures.name ∙ ap (λ p. (process_at g p).name) c.process_of.ensures.process
+    ∙ sym (condition_called g c.args.condition c.requires)

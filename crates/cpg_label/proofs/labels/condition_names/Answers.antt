@@ -10,7 +10,8 @@ pub bounds-processes-process : goal.bounds-processes-process
 bounds-processes-process c =
     omega (
       arith,
-      process_of_below c.args.problem.now c.loop-condition.condition (omega (arith, c.conditions-condition-end.ensures.count)),
+      process_of_below c.args.problem.now c.loop-condition.condition
+          (omega (arith, c.conditions-condition-end.ensures.count)),
       c.process_of-process.ensures.process,
       ap length c.processes.ensures.processes,
     )
@@ -18,8 +19,10 @@ bounds-processes-process c =
 pub loop-condition-preserved : goal.loop-condition-preserved
 loop-condition-preserved c =
     let g = c.args.problem.now in
-    next_mapped (λ n. n.now) (λ p. (process_at g p).name) c.loop-condition.names.items c.push.new.self.items _ (disjunctions g) c.loop-condition.condition 0
+    next_mapped (λ n. n.now) (λ p. (process_at g p).name) c.loop-condition.names.items c.push.new.self.items _
+    (disjunctions g) c.loop-condition.condition 0
     (omega (arith, c.conditions-condition-end.ensures.count)) c.loop-condition.invariant c.in_ok-push.ensures.items
-    (ap (λ (p : Process). p.name) (ap₂ (λ ps i. get_or ps i c.index-processes-process.result) c.processes.ensures.processes c.process_of-process.ensures.process
+    (ap (λ (p : Process). p.name) (ap₂ (λ ps i. get_or ps i c.index-processes-process.result)
+    c.processes.ensures.processes c.process_of-process.ensures.process
     ∙ get_or_default g.processes (process_of g c.loop-condition.condition) c.index-processes-process.result _
     (process_of_below g c.loop-condition.condition (omega (arith, c.conditions-condition-end.ensures.count)))))

@@ -3,4 +3,5 @@ use Rattle.cpg_base.specs.Graph.{process_at, disjunctions}
 use Rattle.cpg_label.proofs.labels.condition_names.Given as goal
 
 abbrev pub invariant-loop-condition : goal.invariant-loop-condition
-invariant-loop-condition l = map (λ n. n.now) l.names.items ≡ map (λ p. (process_at l.problem p).name) (take l.condition (disjunctions l.problem))
+invariant-loop-condition l = map (λ n. n.now) l.names.items
+    ≡ map (λ p. (process_at l.problem p).name) (take l.condition (disjunctions l.problem))

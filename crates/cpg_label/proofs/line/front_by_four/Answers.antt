@@ -5,5 +5,7 @@ pub returns-then-are_same : goal.returns-then-are_same
 returns-then-are_same c =
     let one = c.in-Some.ensures.cases in
     let two = c.in-Some-split_first_chunk.ensures.cases in
-    block_more c.args.first.now c.args.second.now _ _ c.in-Some.block.now c.in-Some.field-0-1.now c.in-Some-split_first_chunk.other.now c.in-Some-split_first_chunk.field-0-1.now c.args.place 4
-    c.requires (rest_of c.args.place c.args.first.now) (rest_of c.args.place c.args.second.now) one.0 one.2 two.0 two.2 c.if-are_same.ensures
+    block_more c.args.first.now c.args.second.now _ _ c.in-Some.block.now c.in-Some.field-0-1.now
+    c.in-Some-split_first_chunk.other.now c.in-Some-split_first_chunk.field-0-1.now c.args.place 4
+    c.requires (rest_of c.args.place c.args.first.now)
+    (rest_of c.args.place c.args.second.now) one.0 one.2 two.0 two.2 c.if-are_same.ensures

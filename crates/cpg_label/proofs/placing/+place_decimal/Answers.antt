@@ -6,10 +6,12 @@ pub place_byte-requires : goal.place_byte-requires
 place_byte-requires t c = omega (arith, c.requires, one_long c.args.number c.if-number-lt10.true)
 
 pub returns-then-number-lt10-clause-bytes : goal.returns-then-number-lt10-clause-bytes
-returns-then-number-lt10-clause-bytes t c = one_written c.args.number _ _ _ c.if-number-lt10.true c.place_byte.ensures.bytes (omega arith)
+returns-then-number-lt10-clause-bytes t c =
+    one_written c.args.number _ _ _ c.if-number-lt10.true c.place_byte.ensures.bytes (omega arith)
 
 pub returns-then-number-lt10-clause-end : goal.returns-then-number-lt10-clause-end
-returns-then-number-lt10-clause-end t c = omega (arith, c.place_byte.ensures.end, one_long c.args.number c.if-number-lt10.true)
+returns-then-number-lt10-clause-end t c =
+    omega (arith, c.place_byte.ensures.end, one_long c.args.number c.if-number-lt10.true)
 
 pub place_decimal-end-requires : goal.place_decimal-end-requires
 place_decimal-end-requires t c = (
@@ -27,7 +29,13 @@ place_byte-requires-2 t c = omega (
 )
 
 pub returns-clause-bytes : goal.returns-clause-bytes
-returns-clause-bytes t c = more_written c.args.number _ _ _ _ c.if-number-lt10.false (omega (arith, c.ranges.number.fits)) c.place_decimal-end.ensures.bytes c.place_byte-2.ensures.bytes (omega arith)
+returns-clause-bytes t c = more_written c.args.number _ _ _ _ c.if-number-lt10.false
+    (omega (arith, c.ranges.number.fits)) c.place_decimal-end.ensures.bytes c.place_byte-2.ensures.bytes (omega arith)
 
 pub returns-clause-end : goal.returns-clause-end
-returns-clause-end t c = omega (arith, c.place_decimal-end.ensures.end, c.place_byte-2.ensures.end, more_long c.args.number c.if-number-lt10.false (omega (arith, c.ranges.number.fits)))
+returns-clause-end t c = omega (
+  arith,
+  c.place_decimal-end.ensures.end,
+  c.place_byte-2.ensures.end,
+  more_long c.args.number c.if-number-lt10.false (omega (arith, c.ranges.number.fits)),
+)

@@ -6,11 +6,13 @@ pub push_reserved-requires : goal.push_reserved-requires
 push_reserved-requires t c = omega (arith, c.requires, one_long c.args.number c.if-number-lt10.true)
 
 pub returns-then-number-lt10-clause-bytes : goal.returns-then-number-lt10-clause-bytes
-returns-then-number-lt10-clause-bytes t c = one_written c.args.number _ c.args.out.now.items c.push_reserved.new.self.items c.if-number-lt10.true c.push_reserved.ensures.items
+returns-then-number-lt10-clause-bytes t c = one_written c.args.number _ c.args.out.now.items
+    c.push_reserved.new.self.items c.if-number-lt10.true c.push_reserved.ensures.items
     (omega (arith, c.if-number-lt10.true))
 
 pub returns-then-number-lt10-clause-len : goal.returns-then-number-lt10-clause-len
-returns-then-number-lt10-clause-len t c = omega (arith, c.push_reserved.ensures.len, one_long c.args.number c.if-number-lt10.true)
+returns-then-number-lt10-clause-len t c =
+    omega (arith, c.push_reserved.ensures.len, one_long c.args.number c.if-number-lt10.true)
 
 pub append_decimal-requires : goal.append_decimal-requires
 append_decimal-requires t c = (
@@ -19,11 +21,23 @@ append_decimal-requires t c = (
 )
 
 pub push_reserved-requires-2 : goal.push_reserved-requires-2
-push_reserved-requires-2 t c = omega (arith, c.requires, c.append_decimal.ensures.len, c.append_decimal.ensures.room, more_long c.args.number c.if-number-lt10.false c.ranges.number.fits)
+push_reserved-requires-2 t c = omega (
+  arith,
+  c.requires,
+  c.append_decimal.ensures.len,
+  c.append_decimal.ensures.room,
+  more_long c.args.number c.if-number-lt10.false c.ranges.number.fits,
+)
 
 pub returns-clause-bytes : goal.returns-clause-bytes
-returns-clause-bytes t c = more_written c.args.number _ c.args.out.now.items c.append_decimal.new.out.items c.push_reserved-2.new.self.items c.if-number-lt10.false c.ranges.number.fits
+returns-clause-bytes t c = more_written c.args.number _ c.args.out.now.items c.append_decimal.new.out.items
+    c.push_reserved-2.new.self.items c.if-number-lt10.false c.ranges.number.fits
     c.append_decimal.ensures.bytes c.push_reserved-2.ensures.items (omega arith)
 
 pub returns-clause-len : goal.returns-clause-len
-returns-clause-len t c = omega (arith, c.append_decimal.ensures.len, c.push_reserved-2.ensures.len, more_long c.args.number c.if-number-lt10.false c.ranges.number.fits)
+returns-clause-len t c = omega (
+  arith,
+  c.append_decimal.ensures.len,
+  c.push_reserved-2.ensures.len,
+  more_long c.args.number c.if-number-lt10.false c.ranges.number.fits,
+)

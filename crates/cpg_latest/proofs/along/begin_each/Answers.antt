@@ -10,23 +10,29 @@ use Rattle.cpg_latest.proofs.LaneSteps.{LaneHas, lanes_start, lanes_end}
 use Rattle.cpg_latest.proofs.along.begin_each.Goals as goal
 
 pub loop-i-init : goal.loop-i-init
-loop-i-init c = lanes_start c.args.setting.now.problem.now (CanBegin c.args.setting.now c.args.frozen.now c.args.process) (HasSentTo c.args.setting.now c.args.frozen.now c.args.process 0 0)
+loop-i-init c =
+    lanes_start c.args.setting.now.problem.now (CanBegin c.args.setting.now c.args.frozen.now c.args.process)
+    (HasSentTo c.args.setting.now c.args.frozen.now c.args.process 0 0)
     (outcomes_asked c.args.asked.now) (length c.args.asked.now)
     (length-map c.args.asked.now (λ (a : Asked). a.scenario.now.values)) c.args.lanes.now.items c.requires.lanes
 
 pub begin-requires-clause-asked : goal.begin-requires-clause-asked
 begin-requires-clause-asked c =
-    subst (IsAsked c.args.setting.now.problem.now c.args.setting.now.guards.now c.args.process) (sym c.index-asked-i.is) (c.requires.asked c.loop-i.i c.index-asked-i.result c.loop-i-test.true)
+    subst (IsAsked c.args.setting.now.problem.now c.args.setting.now.guards.now c.args.process) (sym c.index-asked-i.is)
+    (c.requires.asked c.loop-i.i c.index-asked-i.result c.loop-i-test.true)
 
 pub begin-requires-clause-lane : goal.begin-requires-clause-lane
 begin-requires-clause-lane c =
     let g = c.args.setting.now.problem.now in
     let asked = c.args.asked.now in
     let a = c.index-asked-i.result in
-    let values : track_at (outcomes_asked asked) c.loop-i.i ≡ a.scenario.now.values = outcome_asked asked c.loop-i.i a c.loop-i-test.true ∙
+    let values : track_at (outcomes_asked asked) c.loop-i.i ≡ a.scenario.now.values =
+    outcome_asked asked c.loop-i.i a c.loop-i-test.true ∙
     ap (λ (b : Asked). b.scenario.now.values) (sym c.index-asked-i.is) in
-    subst (IsLane g ((CanBegin c.args.setting.now c.args.frozen.now c.args.process) a.scenario.now.values)) (sym c.index_mut.ensures.value)
-    (subst (λ (v : List Bool). IsLane g ((CanBegin c.args.setting.now c.args.frozen.now c.args.process) v) (get_or c.loop-i.lanes.items c.loop-i.i c.index_mut.result.now)) values
+    subst (IsLane g ((CanBegin c.args.setting.now c.args.frozen.now c.args.process) a.scenario.now.values))
+    (sym c.index_mut.ensures.value)
+    (subst (λ (v : List Bool). IsLane g ((CanBegin c.args.setting.now c.args.frozen.now c.args.process) v)
+    (get_or c.loop-i.lanes.items c.loop-i.i c.index_mut.result.now)) values
     (c.loop-i.invariant.left c.loop-i.i c.index_mut.result.now (omega arith) c.loop-i-test.true))
 
 pub index_mut-requires : goal.index_mut-requires
@@ -37,14 +43,18 @@ loop-i-preserved c =
     let g = c.args.setting.now.problem.now in
     let asked = c.args.asked.now in
     let a = c.index-asked-i.result in
-    let values : track_at (outcomes_asked asked) c.loop-i.i ≡ a.scenario.now.values = outcome_asked asked c.loop-i.i a c.loop-i-test.true ∙
+    let values : track_at (outcomes_asked asked) c.loop-i.i ≡ a.scenario.now.values =
+    outcome_asked asked c.loop-i.i a c.loop-i-test.true ∙
     ap (λ (b : Asked). b.scenario.now.values) (sym c.index-asked-i.is) in
     half_more (LaneHas g (CanBegin c.args.setting.now c.args.frozen.now c.args.process) (outcomes_asked asked))
     (LaneHas g (HasSentTo c.args.setting.now c.args.frozen.now c.args.process 0 0) (outcomes_asked asked))
     (length asked) c.loop-i.i c.loop-i.lanes.items _ c.begin.new.self c.loop-i.invariant c.loop-i-test.true
-    (subst (λ (v : List Bool). IsLane g ((HasSentTo c.args.setting.now c.args.frozen.now c.args.process 0 0) v) c.begin.new.self) (sym values) c.begin.ensures) refl
+    (subst (λ (v : List Bool). IsLane g ((HasSentTo c.args.setting.now c.args.frozen.now c.args.process 0 0) v)
+    c.begin.new.self) (sym values) c.begin.ensures) refl
 
 pub returns : goal.returns
-returns c = lanes_end c.args.setting.now.problem.now (CanBegin c.args.setting.now c.args.frozen.now c.args.process) (HasSentTo c.args.setting.now c.args.frozen.now c.args.process 0 0)
+returns c = lanes_end c.args.setting.now.problem.now (CanBegin c.args.setting.now c.args.frozen.now c.args.process)
+    (HasSentTo c.args.setting.now c.args.frozen.now c.args.process 0 0)
     (outcomes_asked c.args.asked.now) (length c.args.asked.now)
-    (length-map c.args.asked.now (λ (a : Asked). a.scenario.now.values)) c.loop-i.i c.loop-i.lanes.items c.loop-i.invariant (omega (arith, c.loop-i-test.false, c.loop-i.auto.i-end))
+    (length-map c.args.asked.now (λ (a : Asked). a.scenario.now.values)) c.loop-i.i c.loop-i.lanes.items
+    c.loop-i.invariant (omega (arith, c.loop-i-test.false, c.loop-i.auto.i-end))

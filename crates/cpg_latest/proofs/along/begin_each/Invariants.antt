@@ -5,5 +5,7 @@ use Rattle.cpg_latest.proofs.LaneSteps.{LaneHas}
 use Rattle.cpg_latest.proofs.along.begin_each.Given as goal
 
 abbrev pub invariant-loop-i : goal.invariant-loop-i
-invariant-loop-i l = AreHalf (LaneHas l.setting.problem.now (CanBegin l.setting l.frozen l.process) (outcomes_asked l.asked))
-    (LaneHas l.setting.problem.now (HasSentTo l.setting l.frozen l.process 0 0) (outcomes_asked l.asked)) l.i (length l.asked) l.lanes.items
+invariant-loop-i l =
+    AreHalf (LaneHas l.setting.problem.now (CanBegin l.setting l.frozen l.process) (outcomes_asked l.asked))
+    (LaneHas l.setting.problem.now (HasSentTo l.setting l.frozen l.process 0 0) (outcomes_asked l.asked)) l.i
+    (length l.asked) l.lanes.items

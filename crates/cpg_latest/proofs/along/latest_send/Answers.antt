@@ -14,37 +14,57 @@ use Rattle.cpg_latest.proofs.OverAll.{over_more, over_none}
 use Rattle.cpg_latest.proofs.along.latest_send.Goals as goal
 
 pub loop-i-init : goal.loop-i-init
-loop-i-init c = over_none (λ i. AreSent c.args.setting.now.problem.now (track_at (outcomes_asked c.args.asked.now) i) c.args.process c.args.item)
-    (λ i time. time ≡ unfrozen_send c.args.setting.now.problem.now c.args.process (last_course c.args.setting.now.problem.now (lane_at c.args.lanes.now i)))
+loop-i-init c = over_none (λ i.
+    AreSent c.args.setting.now.problem.now (track_at (outcomes_asked c.args.asked.now) i) c.args.process c.args.item)
+    (λ i time. time ≡ unfrozen_send c.args.setting.now.problem.now c.args.process
+    (last_course c.args.setting.now.problem.now (lane_at c.args.lanes.now i)))
 
 pub bounds-asked-i : goal.bounds-asked-i
-bounds-asked-i c = omega (arith, c.loop-i-test.true, c.requires.lanes.count, length-map c.args.asked.now (λ (a : Asked). a.scenario.now.values))
+bounds-asked-i c = omega (
+  arith,
+  c.loop-i-test.true,
+  c.requires.lanes.count,
+  length-map c.args.asked.now (λ (a : Asked). a.scenario.now.values),
+)
 
 pub send_time-time-requires-clause-asked : goal.send_time-time-requires-clause-asked
 send_time-time-requires-clause-asked c =
     subst (IsAsked c.args.setting.now.problem.now c.args.setting.now.guards.now c.args.process) (sym c.index-asked-i.is)
-    (c.requires.asked c.loop-i.i c.index-asked-i.result (omega (arith, c.loop-i-test.true, c.requires.lanes.count, length-map c.args.asked.now (λ (a : Asked). a.scenario.now.values))))
+    (c.requires.asked c.loop-i.i c.index-asked-i.result (omega (
+      arith,
+      c.loop-i-test.true,
+      c.requires.lanes.count,
+      length-map c.args.asked.now (λ (a : Asked). a.scenario.now.values),
+    )))
 
 pub send_time-time-requires-clause-count : goal.send_time-time-requires-clause-count
 send_time-time-requires-clause-count c =
-    let t = subst (TellsSend c.args.setting.now.problem.now (track_at (outcomes_asked c.args.asked.now) c.loop-i.i) c.args.process) (sym c.index-lanes-i.is)
-    (c.requires.lanes.each c.loop-i.i c.index-lanes-i.result (omega (arith, c.loop-i-test.true, c.requires.lanes.count))) in
+    let t = subst (TellsSend c.args.setting.now.problem.now
+    (track_at (outcomes_asked c.args.asked.now) c.loop-i.i) c.args.process) (sym c.index-lanes-i.is)
+    (c.requires.lanes.each c.loop-i.i c.index-lanes-i.result
+    (omega (arith, c.loop-i-test.true, c.requires.lanes.count))) in
     t.count
 
 pub send_time-time-requires-clause-free : goal.send_time-time-requires-clause-free
 send_time-time-requires-clause-free c =
-    let t = subst (TellsSend c.args.setting.now.problem.now (track_at (outcomes_asked c.args.asked.now) c.loop-i.i) c.args.process) (sym c.index-lanes-i.is)
-    (c.requires.lanes.each c.loop-i.i c.index-lanes-i.result (omega (arith, c.loop-i-test.true, c.requires.lanes.count))) in
+    let t = subst (TellsSend c.args.setting.now.problem.now
+    (track_at (outcomes_asked c.args.asked.now) c.loop-i.i) c.args.process) (sym c.index-lanes-i.is)
+    (c.requires.lanes.each c.loop-i.i c.index-lanes-i.result
+    (omega (arith, c.loop-i-test.true, c.requires.lanes.count))) in
     t.free
 
 pub send_time-time-requires-clause-early : goal.send_time-time-requires-clause-early
 send_time-time-requires-clause-early c on =
     let asked = c.args.asked.now in
     let a = c.index-asked-i.result in
-    let there : c.loop-i.i < length asked = omega (arith, c.loop-i-test.true, c.requires.lanes.count, length-map asked (λ (a : Asked). a.scenario.now.values)) in
-    let values : track_at (outcomes_asked asked) c.loop-i.i ≡ a.scenario.now.values = outcome_asked asked c.loop-i.i a there ∙ ap (λ (b : Asked). b.scenario.now.values) (sym c.index-asked-i.is) in
-    let t = subst (TellsSend c.args.setting.now.problem.now (track_at (outcomes_asked asked) c.loop-i.i) c.args.process) (sym c.index-lanes-i.is)
-    (c.requires.lanes.each c.loop-i.i c.index-lanes-i.result (omega (arith, c.loop-i-test.true, c.requires.lanes.count))) in
+    let there : c.loop-i.i < length asked = omega
+    (arith, c.loop-i-test.true, c.requires.lanes.count, length-map asked (λ (a : Asked). a.scenario.now.values)) in
+    let values : track_at (outcomes_asked asked) c.loop-i.i ≡ a.scenario.now.values =
+    outcome_asked asked c.loop-i.i a there ∙ ap (λ (b : Asked). b.scenario.now.values) (sym c.index-asked-i.is) in
+    let t = subst (TellsSend c.args.setting.now.problem.now (track_at (outcomes_asked asked) c.loop-i.i) c.args.process)
+    (sym c.index-lanes-i.is)
+    (c.requires.lanes.each c.loop-i.i c.index-lanes-i.result
+    (omega (arith, c.loop-i-test.true, c.requires.lanes.count))) in
     t.early (ap (λ v. active c.args.setting.now.problem.now v c.args.process) values ∙ on)
 
 pub loop-i-preserved : goal.loop-i-preserved
@@ -52,9 +72,12 @@ loop-i-preserved c =
     let g = c.args.setting.now.problem.now in
     let asked = c.args.asked.now in
     let a = c.index-asked-i.result in
-    let there : c.loop-i.i < length asked = omega (arith, c.loop-i-test.true, c.requires.lanes.count, length-map asked (λ (a : Asked). a.scenario.now.values)) in
-    let values : track_at (outcomes_asked asked) c.loop-i.i ≡ a.scenario.now.values = outcome_asked asked c.loop-i.i a there ∙ ap (λ (b : Asked). b.scenario.now.values) (sym c.index-asked-i.is) in
-    let lane : c.index-lanes-i.result ≡ lane_at c.args.lanes.now c.loop-i.i = c.index-lanes-i.is ∙ get_or_default c.args.lanes.now c.loop-i.i c.index-lanes-i.result [] c.loop-i-test.true in
+    let there : c.loop-i.i < length asked = omega
+    (arith, c.loop-i-test.true, c.requires.lanes.count, length-map asked (λ (a : Asked). a.scenario.now.values)) in
+    let values : track_at (outcomes_asked asked) c.loop-i.i ≡ a.scenario.now.values =
+    outcome_asked asked c.loop-i.i a there ∙ ap (λ (b : Asked). b.scenario.now.values) (sym c.index-asked-i.is) in
+    let lane : c.index-lanes-i.result ≡ lane_at c.args.lanes.now c.loop-i.i =
+    c.index-lanes-i.is ∙ get_or_default c.args.lanes.now c.loop-i.i c.index-lanes-i.result [] c.loop-i-test.true in
     let acts_same = ap (λ v. active g v c.args.process) values in
     let sent_same = ap (λ v. item_active g v (item_at g c.args.item)) values in
     over_more (λ i. AreSent g (track_at (outcomes_asked asked) i) c.args.process c.args.item)
@@ -68,11 +91,16 @@ loop-i-preserved c =
           record { acts = acts_same ∙ on; sent = sent_same ∙ sent },
           ap (λ (ls : List ProgressState). unfrozen_send g c.args.process (last_course g ls)) lane,
         )
-        | inr unsent ↦ inr (λ are. true≢false (sym are.sent ∙ sent_same ∙ unsent), c.send_time-time.ensures.idle (λ act. unsent))
+        | inr unsent ↦
+            inr (λ are. true≢false (sym are.sent ∙ sent_same ∙ unsent), c.send_time-time.ensures.idle (λ act. unsent))
       ]
-      | inr off ↦ inr (λ are. true≢false (sym are.acts ∙ acts_same ∙ off), c.send_time-time.ensures.idle (λ on. absurd (true≢false (sym on ∙ off))))
+      | inr off ↦ inr (
+        λ are. true≢false (sym are.acts ∙ acts_same ∙ off),
+        c.send_time-time.ensures.idle (λ on. absurd (true≢false (sym on ∙ off))),
+      )
     ])
 
 pub returns : goal.returns
-returns c = subst (λ n. IsLatestSend c.args.setting.now.problem.now (outcomes_asked c.args.asked.now) c.args.process c.args.item c.args.lanes.now n c.loop-i.latest)
+returns c = subst (λ n. IsLatestSend c.args.setting.now.problem.now
+    (outcomes_asked c.args.asked.now) c.args.process c.args.item c.args.lanes.now n c.loop-i.latest)
     (omega (arith, c.loop-i-test.false, c.loop-i.auto.i-end)) c.loop-i.invariant

@@ -13,42 +13,64 @@ use Rattle.cpg_latest.proofs.OverAll.{over_more, over_none}
 use Rattle.cpg_latest.proofs.along.latest_start.Goals as goal
 
 pub loop-i-init : goal.loop-i-init
-loop-i-init c = over_none (λ i. active c.args.setting.now.problem.now (track_at (outcomes_asked c.args.asked.now) i) c.args.process ≡ true)
-    (λ i time. IsUnfrozenStart c.args.setting.now.problem.now (track_at (outcomes_asked c.args.asked.now) i) c.args.process
+loop-i-init c = over_none
+    (λ i. active c.args.setting.now.problem.now (track_at (outcomes_asked c.args.asked.now) i) c.args.process ≡ true)
+    (λ i time.
+    IsUnfrozenStart c.args.setting.now.problem.now (track_at (outcomes_asked c.args.asked.now) i) c.args.process
     (last_course c.args.setting.now.problem.now (lane_at c.args.lanes.now i)) time)
 
 pub bounds-asked-i : goal.bounds-asked-i
-bounds-asked-i c = omega (arith, c.loop-i-test.true, c.requires.lanes.count, length-map c.args.asked.now (λ (a : Asked). a.scenario.now.values))
+bounds-asked-i c = omega (
+  arith,
+  c.loop-i-test.true,
+  c.requires.lanes.count,
+  length-map c.args.asked.now (λ (a : Asked). a.scenario.now.values),
+)
 
 pub start-requires-clause-asked : goal.start-requires-clause-asked
 start-requires-clause-asked c =
     subst (IsAsked c.args.setting.now.problem.now c.args.setting.now.guards.now c.args.process) (sym c.index-asked-i.is)
-    (c.requires.asked c.loop-i.i c.index-asked-i.result (omega (arith, c.loop-i-test.true, c.requires.lanes.count, length-map c.args.asked.now (λ (a : Asked). a.scenario.now.values))))
+    (c.requires.asked c.loop-i.i c.index-asked-i.result (omega (
+      arith,
+      c.loop-i-test.true,
+      c.requires.lanes.count,
+      length-map c.args.asked.now (λ (a : Asked). a.scenario.now.values),
+    )))
 
 pub start-requires-clause-count : goal.start-requires-clause-count
 start-requires-clause-count c = let t = subst (TellsStart c.args.setting.now.problem.now) (sym c.index-lanes-i.is)
-    (c.requires.lanes.each c.loop-i.i c.index-lanes-i.result (omega (arith, c.loop-i-test.true, c.requires.lanes.count))) in t.count
+    (c.requires.lanes.each c.loop-i.i c.index-lanes-i.result
+    (omega (arith, c.loop-i-test.true, c.requires.lanes.count))) in
+    t.count
 
 pub start-requires-clause-ready : goal.start-requires-clause-ready
 start-requires-clause-ready c = let t = subst (TellsStart c.args.setting.now.problem.now) (sym c.index-lanes-i.is)
-    (c.requires.lanes.each c.loop-i.i c.index-lanes-i.result (omega (arith, c.loop-i-test.true, c.requires.lanes.count))) in t.ready
+    (c.requires.lanes.each c.loop-i.i c.index-lanes-i.result
+    (omega (arith, c.loop-i-test.true, c.requires.lanes.count))) in
+    t.ready
 
 pub start-requires-clause-small : goal.start-requires-clause-small
 start-requires-clause-small c = let t = subst (TellsStart c.args.setting.now.problem.now) (sym c.index-lanes-i.is)
-    (c.requires.lanes.each c.loop-i.i c.index-lanes-i.result (omega (arith, c.loop-i-test.true, c.requires.lanes.count))) in t.small
+    (c.requires.lanes.each c.loop-i.i c.index-lanes-i.result
+    (omega (arith, c.loop-i-test.true, c.requires.lanes.count))) in
+    t.small
 
 pub loop-i-preserved : goal.loop-i-preserved
 loop-i-preserved c =
     let g = c.args.setting.now.problem.now in
     let asked = c.args.asked.now in
     let a = c.index-asked-i.result in
-    let there : c.loop-i.i < length asked = omega (arith, c.loop-i-test.true, c.requires.lanes.count, length-map asked (λ (a : Asked). a.scenario.now.values)) in
+    let there : c.loop-i.i < length asked = omega
+    (arith, c.loop-i-test.true, c.requires.lanes.count, length-map asked (λ (a : Asked). a.scenario.now.values)) in
     let is = c.requires.asked c.loop-i.i a there in
     let one = subst (IsAsked g c.args.setting.now.guards.now c.args.process) (sym c.index-asked-i.is) is in
-    let values : track_at (outcomes_asked asked) c.loop-i.i ≡ a.scenario.now.values = outcome_asked asked c.loop-i.i a there ∙ ap (λ (b : Asked). b.scenario.now.values) (sym c.index-asked-i.is) in
-    let lane : c.index-lanes-i.result ≡ lane_at c.args.lanes.now c.loop-i.i = c.index-lanes-i.is ∙ get_or_default c.args.lanes.now c.loop-i.i c.index-lanes-i.result [] c.loop-i-test.true in
+    let values : track_at (outcomes_asked asked) c.loop-i.i ≡ a.scenario.now.values =
+    outcome_asked asked c.loop-i.i a there ∙ ap (λ (b : Asked). b.scenario.now.values) (sym c.index-asked-i.is) in
+    let lane : c.index-lanes-i.result ≡ lane_at c.args.lanes.now c.loop-i.i =
+    c.index-lanes-i.is ∙ get_or_default c.args.lanes.now c.loop-i.i c.index-lanes-i.result [] c.loop-i-test.true in
     over_more (λ i. active g (track_at (outcomes_asked asked) i) c.args.process ≡ true)
-    (λ i time. IsUnfrozenStart g (track_at (outcomes_asked asked) i) c.args.process (last_course g (lane_at c.args.lanes.now i)) time)
+    (λ i time. IsUnfrozenStart g (track_at (outcomes_asked asked) i) c.args.process
+    (last_course g (lane_at c.args.lanes.now i)) time)
     c.loop-i.i c.loop-i.latest c.start.result c.later-latest.result c.loop-i.invariant c.later-latest.ensures
     (elim (cases_Bool a.acts) [
       | inl on ↦
@@ -57,12 +79,18 @@ loop-i-preserved c =
             t.0,
             t.1,
             ap (λ v. active g v c.args.process) values ∙ sym one.acts ∙ on,
-            subst (λ (ls : List ProgressState). IsUnfrozenStart g (track_at (outcomes_asked asked) c.loop-i.i) c.args.process (last_course g ls) t.0) lane
-                (subst (λ (v : List Bool). IsUnfrozenStart g v c.args.process (last_course g c.index-lanes-i.result) t.0) (sym values) t.2),
+            subst (λ (ls : List ProgressState). IsUnfrozenStart g
+                (track_at (outcomes_asked asked) c.loop-i.i) c.args.process (last_course g ls) t.0) lane
+                (subst (λ (v : List Bool).
+                IsUnfrozenStart g v c.args.process (last_course g c.index-lanes-i.result) t.0) (sym values) t.2),
           )
-      | inr off ↦ inr (λ on. true≢false (sym on ∙ ap (λ v. active g v c.args.process) values ∙ sym one.acts ∙ off), c.start.ensures.idle off)
+      | inr off ↦ inr (
+        λ on. true≢false (sym on ∙ ap (λ v. active g v c.args.process) values ∙ sym one.acts ∙ off),
+        c.start.ensures.idle off,
+      )
     ])
 
 pub returns : goal.returns
-returns c = subst (λ n. IsLatestStart c.args.setting.now.problem.now (outcomes_asked c.args.asked.now) c.args.process c.args.lanes.now n c.loop-i.latest)
+returns c = subst (λ n. IsLatestStart c.args.setting.now.problem.now
+    (outcomes_asked c.args.asked.now) c.args.process c.args.lanes.now n c.loop-i.latest)
     (omega (arith, c.loop-i-test.false, c.loop-i.auto.i-end)) c.loop-i.invariant

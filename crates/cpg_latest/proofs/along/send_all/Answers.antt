@@ -10,7 +10,8 @@ settle_send-requires-clause-at c = omega (arith, c.loop-at-test.true, ap length 
 
 pub settle_send-requires-clause-sending : goal.settle_send-requires-clause-sending
 settle_send-requires-clause-sending c =
-    subst (AreSending c.args.setting.now (outcomes_asked c.args.asked.now) c.args.process c.loop-at.at c.loop-at.frozen) (sym c.as_slice.ensures.value) c.loop-at.invariant
+    subst (AreSending c.args.setting.now (outcomes_asked c.args.asked.now) c.args.process c.loop-at.at c.loop-at.frozen)
+    (sym c.as_slice.ensures.value) c.loop-at.invariant
 
 pub send_each-requires-clause-frozen : goal.send_each-requires-clause-frozen
 send_each-requires-clause-frozen c = c.settle_send.ensures.settled.count
@@ -19,21 +20,25 @@ pub send_each-requires-clause-early : goal.send_each-requires-clause-early
 send_each-requires-clause-early c =
     let g = c.args.setting.now.problem.now in
     let order = c.args.setting.now.order.now in
-    early_of g order c.requires.setting.topological c.requires.setting.admitted.1.limits (IsDone g order c.args.process (c.loop-at.at + 1)) c.settle_send.new.frozen c.settle_send.ensures.settled
+    early_of g order c.requires.setting.topological c.requires.setting.admitted.1.limits
+    (IsDone g order c.args.process (c.loop-at.at + 1)) c.settle_send.new.frozen c.settle_send.ensures.settled
 
 pub send_each-requires-clause-at : goal.send_each-requires-clause-at
 send_each-requires-clause-at c = omega (arith, c.loop-at-test.true, ap length c.queue-at-end.ensures)
 
 pub send_each-requires-clause-lanes : goal.send_each-requires-clause-lanes
 send_each-requires-clause-lanes c =
-    can_send c.args.setting.now c.requires.setting.topological c.args.process c.requires.process (outcomes_asked c.args.asked.now) c.loop-at.at
+    can_send c.args.setting.now c.requires.setting.topological c.args.process c.requires.process
+    (outcomes_asked c.args.asked.now) c.loop-at.at
     (omega (arith, c.loop-at-test.true, ap length c.queue-at-end.ensures))
-    c.loop-at.frozen c.settle_send.new.frozen c.loop-at.lanes.items c.settle_send.ensures.others c.loop-at.invariant.known
+    c.loop-at.frozen c.settle_send.new.frozen c.loop-at.lanes.items c.settle_send.ensures.others
+    c.loop-at.invariant.known
 
 pub loop-at-preserved : goal.loop-at-preserved
 loop-at-preserved c = record { settled = c.settle_send.ensures.settled; known = c.send_each.ensures }
 
 pub returns : goal.returns
 returns c =
-    subst (λ n. AreSending c.args.setting.now (outcomes_asked c.args.asked.now) c.args.process n c.loop-at.frozen c.loop-at.lanes.items)
+    subst (λ n. AreSending c.args.setting.now
+    (outcomes_asked c.args.asked.now) c.args.process n c.loop-at.frozen c.loop-at.lanes.items)
     (omega (arith, c.loop-at-test.false, c.loop-at.auto.at-end, ap length c.queue-at-end.ensures)) c.loop-at.invariant

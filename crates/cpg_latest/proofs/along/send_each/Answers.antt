@@ -10,23 +10,29 @@ use Rattle.cpg_latest.proofs.LaneSteps.{LaneHas, lanes_start, lanes_end}
 use Rattle.cpg_latest.proofs.along.send_each.Goals as goal
 
 pub loop-i-init : goal.loop-i-init
-loop-i-init c = lanes_start c.args.setting.now.problem.now (HasSentTo c.args.setting.now c.args.frozen.now c.args.process (c.args.at + 1) c.args.at)
-    (HasSentTo c.args.setting.now c.args.frozen.now c.args.process (c.args.at + 1) (c.args.at + 1)) (outcomes_asked c.args.asked.now) (length c.args.asked.now)
+loop-i-init c = lanes_start c.args.setting.now.problem.now
+    (HasSentTo c.args.setting.now c.args.frozen.now c.args.process (c.args.at + 1) c.args.at)
+    (HasSentTo c.args.setting.now c.args.frozen.now c.args.process (c.args.at + 1) (c.args.at + 1))
+    (outcomes_asked c.args.asked.now) (length c.args.asked.now)
     (length-map c.args.asked.now (λ (a : Asked). a.scenario.now.values)) c.args.lanes.now.items c.requires.lanes
 
 pub send-requires-clause-asked : goal.send-requires-clause-asked
 send-requires-clause-asked c =
-    subst (IsAsked c.args.setting.now.problem.now c.args.setting.now.guards.now c.args.process) (sym c.index-asked-i.is) (c.requires.asked c.loop-i.i c.index-asked-i.result c.loop-i-test.true)
+    subst (IsAsked c.args.setting.now.problem.now c.args.setting.now.guards.now c.args.process) (sym c.index-asked-i.is)
+    (c.requires.asked c.loop-i.i c.index-asked-i.result c.loop-i-test.true)
 
 pub send-requires-clause-lane : goal.send-requires-clause-lane
 send-requires-clause-lane c =
     let g = c.args.setting.now.problem.now in
     let asked = c.args.asked.now in
     let a = c.index-asked-i.result in
-    let values : track_at (outcomes_asked asked) c.loop-i.i ≡ a.scenario.now.values = outcome_asked asked c.loop-i.i a c.loop-i-test.true ∙
+    let values : track_at (outcomes_asked asked) c.loop-i.i ≡ a.scenario.now.values =
+    outcome_asked asked c.loop-i.i a c.loop-i-test.true ∙
     ap (λ (b : Asked). b.scenario.now.values) (sym c.index-asked-i.is) in
-    subst (IsLane g ((HasSentTo c.args.setting.now c.args.frozen.now c.args.process (c.args.at + 1) c.args.at) a.scenario.now.values)) (sym c.index_mut.ensures.value)
-    (subst (λ (v : List Bool). IsLane g ((HasSentTo c.args.setting.now c.args.frozen.now c.args.process (c.args.at + 1) c.args.at) v) (get_or c.loop-i.lanes.items c.loop-i.i c.index_mut.result.now))
+    subst (IsLane g ((HasSentTo c.args.setting.now c.args.frozen.now c.args.process (c.args.at + 1) c.args.at)
+    a.scenario.now.values)) (sym c.index_mut.ensures.value)
+    (subst (λ (v : List Bool). IsLane g ((HasSentTo c.args.setting.now c.args.frozen.now c.args.process
+    (c.args.at + 1) c.args.at) v) (get_or c.loop-i.lanes.items c.loop-i.i c.index_mut.result.now))
     values (c.loop-i.invariant.left c.loop-i.i c.index_mut.result.now (omega arith) c.loop-i-test.true))
 
 pub index_mut-requires : goal.index_mut-requires
@@ -37,14 +43,21 @@ loop-i-preserved c =
     let g = c.args.setting.now.problem.now in
     let asked = c.args.asked.now in
     let a = c.index-asked-i.result in
-    let values : track_at (outcomes_asked asked) c.loop-i.i ≡ a.scenario.now.values = outcome_asked asked c.loop-i.i a c.loop-i-test.true ∙
+    let values : track_at (outcomes_asked asked) c.loop-i.i ≡ a.scenario.now.values =
+    outcome_asked asked c.loop-i.i a c.loop-i-test.true ∙
     ap (λ (b : Asked). b.scenario.now.values) (sym c.index-asked-i.is) in
-    half_more (LaneHas g (HasSentTo c.args.setting.now c.args.frozen.now c.args.process (c.args.at + 1) c.args.at) (outcomes_asked asked))
-    (LaneHas g (HasSentTo c.args.setting.now c.args.frozen.now c.args.process (c.args.at + 1) (c.args.at + 1)) (outcomes_asked asked))
+    half_more (LaneHas g (HasSentTo c.args.setting.now c.args.frozen.now c.args.process (c.args.at + 1) c.args.at)
+    (outcomes_asked asked))
+    (LaneHas g (HasSentTo c.args.setting.now c.args.frozen.now c.args.process (c.args.at + 1) (c.args.at + 1))
+    (outcomes_asked asked))
     (length asked) c.loop-i.i c.loop-i.lanes.items _ c.send.new.self c.loop-i.invariant c.loop-i-test.true
-    (subst (λ (v : List Bool). IsLane g ((HasSentTo c.args.setting.now c.args.frozen.now c.args.process (c.args.at + 1) (c.args.at + 1)) v) c.send.new.self) (sym values) c.send.ensures) refl
+    (subst (λ (v : List Bool). IsLane g ((HasSentTo c.args.setting.now c.args.frozen.now c.args.process (c.args.at + 1)
+    (c.args.at + 1)) v) c.send.new.self) (sym values) c.send.ensures) refl
 
 pub returns : goal.returns
-returns c = lanes_end c.args.setting.now.problem.now (HasSentTo c.args.setting.now c.args.frozen.now c.args.process (c.args.at + 1) c.args.at)
-    (HasSentTo c.args.setting.now c.args.frozen.now c.args.process (c.args.at + 1) (c.args.at + 1)) (outcomes_asked c.args.asked.now) (length c.args.asked.now)
-    (length-map c.args.asked.now (λ (a : Asked). a.scenario.now.values)) c.loop-i.i c.loop-i.lanes.items c.loop-i.invariant (omega (arith, c.loop-i-test.false, c.loop-i.auto.i-end))
+returns c = lanes_end c.args.setting.now.problem.now
+    (HasSentTo c.args.setting.now c.args.frozen.now c.args.process (c.args.at + 1) c.args.at)
+    (HasSentTo c.args.setting.now c.args.frozen.now c.args.process (c.args.at + 1) (c.args.at + 1))
+    (outcomes_asked c.args.asked.now) (length c.args.asked.now)
+    (length-map c.args.asked.now (λ (a : Asked). a.scenario.now.values)) c.loop-i.i c.loop-i.lanes.items
+    c.loop-i.invariant (omega (arith, c.loop-i-test.false, c.loop-i.auto.i-end))

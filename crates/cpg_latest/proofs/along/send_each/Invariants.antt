@@ -5,5 +5,7 @@ use Rattle.cpg_latest.proofs.LaneSteps.{LaneHas}
 use Rattle.cpg_latest.proofs.along.send_each.Given as goal
 
 abbrev pub invariant-loop-i : goal.invariant-loop-i
-invariant-loop-i l = AreHalf (LaneHas l.setting.problem.now (HasSentTo l.setting l.frozen l.process (l.at + 1) l.at) (outcomes_asked l.asked))
-    (LaneHas l.setting.problem.now (HasSentTo l.setting l.frozen l.process (l.at + 1) (l.at + 1)) (outcomes_asked l.asked)) l.i (length l.asked) l.lanes.items
+invariant-loop-i l = AreHalf
+    (LaneHas l.setting.problem.now (HasSentTo l.setting l.frozen l.process (l.at + 1) l.at) (outcomes_asked l.asked))
+    (LaneHas l.setting.problem.now (HasSentTo l.setting l.frozen l.process (l.at + 1) (l.at + 1))
+    (outcomes_asked l.asked)) l.i (length l.asked) l.lanes.items

@@ -8,7 +8,8 @@ use Rattle.cpg_latest.specs.Lanes.{IsSettledBy, queued}
 use Rattle.cpg_latest.specs.Over.{IsLatestSend}
 use Rattle.cpg_latest.proofs.Found.{on_graph}
 use Rattle.cpg_latest.proofs.OverAll.{send_over, tell_sends}
-use Rattle.cpg_latest.proofs.Settling.{early_of, here_within, not_yet, send_grows, send_later, send_one, send_only, settled_idle, settled_more}
+use Rattle.cpg_latest.proofs.Settling.{early_of, here_within, not_yet, send_grows, send_later, send_one, send_only}
+use Rattle.cpg_latest.proofs.Settling.{settled_idle, settled_more}
 use Rattle.cpg_latest.proofs.along.settle_send.Goals as goal
 
 pub is_frozen-requires : goal.is_frozen-requires
@@ -35,9 +36,13 @@ returns-then-not-is_frozen-clause-settled c =
     let k = c.args.at in
     let x = queued g p k in
     let here : get_or c.queue.result.now k 0 ≡ x = ap (λ xs. get_or xs k 0) c.queue.ensures in
-    settled_idle g order top limits (IsDone g order p k) (IsDone g order p (k + 1)) frozen c.requires.sending.settled x (here_within g order top p c.requires.process k c.requires.at)
-    (send_later g order top p c.requires.process k c.requires.at) (send_grows g order top p c.requires.process k c.requires.at) (send_one g order top p c.requires.process k c.requires.at)
-    (send_only g order top p c.requires.process k c.requires.at) (ap (is_frozen g) (sym here) ∙ sym c.is_frozen.ensures ∙ c.if-not-is_frozen.true)
+    settled_idle g order top limits (IsDone g order p k) (IsDone g order p (k + 1)) frozen c.requires.sending.settled x
+    (here_within g order top p c.requires.process k c.requires.at)
+    (send_later g order top p c.requires.process k c.requires.at)
+    (send_grows g order top p c.requires.process k c.requires.at)
+    (send_one g order top p c.requires.process k c.requires.at)
+    (send_only g order top p c.requires.process k c.requires.at)
+    (ap (is_frozen g) (sym here) ∙ sym c.is_frozen.ensures ∙ c.if-not-is_frozen.true)
 
 pub returns-then-not-is_frozen-clause-others : goal.returns-then-not-is_frozen-clause-others
 returns-then-not-is_frozen-clause-others c = record { others = λ y other. refl; count = refl }
@@ -66,10 +71,15 @@ latest_send-latest-requires-clause-lanes c =
     let k = c.args.at in
     let x = queued g p k in
     let here : get_or c.queue.result.now k 0 ≡ x = ap (λ xs. get_or xs k 0) c.queue.ensures in
-    tell_sends g c.requires.setting.admitted.0 order frozen (outcomes_asked c.args.asked.now) c.requires.setting.admitted.1.urgency c.requires.setting.admitted.1.topological top c.requires.tracks
-    p c.requires.process (on_graph g limits p c.requires.process) k c.requires.at limits (early_of g order top limits (IsDone g order p k) frozen c.requires.sending.settled)
-    (not_yet g order top limits (IsDone g order p k) (IsDone g order p (k + 1)) frozen c.requires.sending.settled x (here_within g order top p c.requires.process k c.requires.at)
-    (send_later g order top p c.requires.process k c.requires.at) (send_grows g order top p c.requires.process k c.requires.at) (send_one g order top p c.requires.process k c.requires.at)
+    tell_sends g c.requires.setting.admitted.0 order frozen (outcomes_asked c.args.asked.now)
+    c.requires.setting.admitted.1.urgency c.requires.setting.admitted.1.topological top c.requires.tracks
+    p c.requires.process (on_graph g limits p c.requires.process) k c.requires.at limits
+    (early_of g order top limits (IsDone g order p k) frozen c.requires.sending.settled)
+    (not_yet g order top limits (IsDone g order p k) (IsDone g order p (k + 1)) frozen c.requires.sending.settled x
+    (here_within g order top p c.requires.process k c.requires.at)
+    (send_later g order top p c.requires.process k c.requires.at)
+    (send_grows g order top p c.requires.process k c.requires.at)
+    (send_one g order top p c.requires.process k c.requires.at)
     (send_only g order top p c.requires.process k c.requires.at))
     c.args.lanes.now c.requires.sending.known
 
@@ -98,8 +108,11 @@ settle-requires-clause-unset c =
     let x = queued g p k in
     let here : get_or c.queue.result.now k 0 ≡ x = ap (λ xs. get_or xs k 0) c.queue.ensures in
     subst (λ y. get_or frozen y None ≡ None) (sym here)
-    (not_yet g order top limits (IsDone g order p k) (IsDone g order p (k + 1)) frozen c.requires.sending.settled x (here_within g order top p c.requires.process k c.requires.at)
-    (send_later g order top p c.requires.process k c.requires.at) (send_grows g order top p c.requires.process k c.requires.at) (send_one g order top p c.requires.process k c.requires.at)
+    (not_yet g order top limits (IsDone g order p k) (IsDone g order p (k + 1)) frozen c.requires.sending.settled x
+    (here_within g order top p c.requires.process k c.requires.at)
+    (send_later g order top p c.requires.process k c.requires.at)
+    (send_grows g order top p c.requires.process k c.requires.at)
+    (send_one g order top p c.requires.process k c.requires.at)
     (send_only g order top p c.requires.process k c.requires.at))
 
 pub returns-clause-settled : goal.returns-clause-settled
@@ -114,17 +127,28 @@ returns-clause-settled c =
     let x = queued g p k in
     let here : get_or c.queue.result.now k 0 ≡ x = ap (λ xs. get_or xs k 0) c.queue.ensures in
     let by = subst (λ y. IsSettledBy y frozen c.settle.new.frozen) here c.settle.ensures.others in
-    settled_more g order top limits (IsDone g order p k) (IsDone g order p (k + 1)) frozen c.requires.sending.settled x (here_within g order top p c.requires.process k c.requires.at)
-    (send_later g order top p c.requires.process k c.requires.at) (send_grows g order top p c.requires.process k c.requires.at) (send_one g order top p c.requires.process k c.requires.at)
-    (send_only g order top p c.requires.process k c.requires.at) (ap (is_frozen g) (sym here) ∙ sym c.is_frozen.ensures ∙ c.if-not-is_frozen.false) c.settle.new.frozen
-    (subst (IsUnfrozenTime g order frozen x) (sym (ap (λ y. get_or c.settle.new.frozen y None) (sym here) ∙ c.settle.ensures.time))
-    (send_over g c.requires.setting.admitted.0 order frozen (outcomes_asked c.args.asked.now) c.requires.setting.admitted.1.urgency c.requires.setting.admitted.1.topological top c.requires.tracks
-    p c.requires.process (on_graph g limits p c.requires.process) k c.requires.at limits (early_of g order top limits (IsDone g order p k) frozen c.requires.sending.settled)
-    (not_yet g order top limits (IsDone g order p k) (IsDone g order p (k + 1)) frozen c.requires.sending.settled x (here_within g order top p c.requires.process k c.requires.at)
-    (send_later g order top p c.requires.process k c.requires.at) (send_grows g order top p c.requires.process k c.requires.at) (send_one g order top p c.requires.process k c.requires.at)
+    settled_more g order top limits (IsDone g order p k) (IsDone g order p (k + 1)) frozen c.requires.sending.settled x
+    (here_within g order top p c.requires.process k c.requires.at)
+    (send_later g order top p c.requires.process k c.requires.at)
+    (send_grows g order top p c.requires.process k c.requires.at)
+    (send_one g order top p c.requires.process k c.requires.at)
+    (send_only g order top p c.requires.process k c.requires.at)
+    (ap (is_frozen g) (sym here) ∙ sym c.is_frozen.ensures ∙ c.if-not-is_frozen.false) c.settle.new.frozen
+    (subst (IsUnfrozenTime g order frozen x)
+    (sym (ap (λ y. get_or c.settle.new.frozen y None) (sym here) ∙ c.settle.ensures.time))
+    (send_over g c.requires.setting.admitted.0 order frozen (outcomes_asked c.args.asked.now)
+    c.requires.setting.admitted.1.urgency c.requires.setting.admitted.1.topological top c.requires.tracks
+    p c.requires.process (on_graph g limits p c.requires.process) k c.requires.at limits
+    (early_of g order top limits (IsDone g order p k) frozen c.requires.sending.settled)
+    (not_yet g order top limits (IsDone g order p k) (IsDone g order p (k + 1)) frozen c.requires.sending.settled x
+    (here_within g order top p c.requires.process k c.requires.at)
+    (send_later g order top p c.requires.process k c.requires.at)
+    (send_grows g order top p c.requires.process k c.requires.at)
+    (send_one g order top p c.requires.process k c.requires.at)
     (send_only g order top p c.requires.process k c.requires.at))
     c.args.lanes.now c.requires.sending.known c.latest_send-latest.result
-    (subst (λ y. IsLatestSend g (outcomes_asked c.args.asked.now) p y c.args.lanes.now (length c.args.lanes.now) c.latest_send-latest.result) here c.latest_send-latest.ensures)))
+    (subst (λ y. IsLatestSend g (outcomes_asked c.args.asked.now) p y c.args.lanes.now
+    (length c.args.lanes.now) c.latest_send-latest.result) here c.latest_send-latest.ensures)))
     by.others by.count
 
 pub returns-clause-others : goal.returns-clause-others

@@ -4,7 +4,8 @@ use Rattle.cpg_run.specs.Latest.{IsUnfrozenTime}
 use Rattle.cpg_latest.specs.Course.{IsDone, IsEarlier, outcomes_asked}
 use Rattle.cpg_latest.proofs.Found.{on_graph}
 use Rattle.cpg_latest.proofs.OverAll.{start_over, tell_starts}
-use Rattle.cpg_latest.proofs.Settling.{early_of, not_yet, settled_idle, settled_more, start_grows, start_later, start_one, start_only}
+use Rattle.cpg_latest.proofs.Settling.{early_of, not_yet, settled_idle, settled_more, start_grows, start_later}
+use Rattle.cpg_latest.proofs.Settling.{start_one, start_only}
 use Rattle.cpg_latest.proofs.along.settle_start.Goals as goal
 
 pub returns-then-not-is_frozen-clause-settled : goal.returns-then-not-is_frozen-clause-settled
@@ -15,8 +16,10 @@ returns-then-not-is_frozen-clause-settled c =
     let frozen = c.args.frozen.now in
     let top = c.requires.setting.topological in
     let limits = c.requires.setting.admitted.1.limits in
-    settled_idle g order top limits (IsEarlier g order (place order p)) (IsDone g order p 0) frozen c.requires.known.settled p (omega (arith, c.requires.process))
-    (start_later g order top p c.requires.process) (start_grows g order top p c.requires.process) (start_one g order top p c.requires.process) (start_only g order top p c.requires.process)
+    settled_idle g order top limits (IsEarlier g order (place order p))
+    (IsDone g order p 0) frozen c.requires.known.settled p (omega (arith, c.requires.process))
+    (start_later g order top p c.requires.process) (start_grows g order top p c.requires.process)
+    (start_one g order top p c.requires.process) (start_only g order top p c.requires.process)
     (sym c.is_frozen.ensures ∙ c.if-not-is_frozen.true)
 
 pub returns-then-not-is_frozen-clause-others : goal.returns-then-not-is_frozen-clause-others
@@ -30,10 +33,14 @@ latest_start-latest-requires-clause-lanes c =
     let frozen = c.args.frozen.now in
     let top = c.requires.setting.topological in
     let limits = c.requires.setting.admitted.1.limits in
-    tell_starts g c.requires.setting.admitted.0 order frozen (outcomes_asked c.args.asked.now) c.requires.setting.admitted.1.urgency c.requires.setting.admitted.1.topological top c.requires.tracks
-    p c.requires.process (on_graph g limits p c.requires.process) limits (early_of g order top limits (IsEarlier g order (place order p)) frozen c.requires.known.settled)
-    (not_yet g order top limits (IsEarlier g order (place order p)) (IsDone g order p 0) frozen c.requires.known.settled p (omega (arith, c.requires.process))
-    (start_later g order top p c.requires.process) (start_grows g order top p c.requires.process) (start_one g order top p c.requires.process) (start_only g order top p c.requires.process))
+    tell_starts g c.requires.setting.admitted.0 order frozen (outcomes_asked c.args.asked.now)
+    c.requires.setting.admitted.1.urgency c.requires.setting.admitted.1.topological top c.requires.tracks
+    p c.requires.process (on_graph g limits p c.requires.process) limits
+    (early_of g order top limits (IsEarlier g order (place order p)) frozen c.requires.known.settled)
+    (not_yet g order top limits (IsEarlier g order (place order p))
+    (IsDone g order p 0) frozen c.requires.known.settled p (omega (arith, c.requires.process))
+    (start_later g order top p c.requires.process) (start_grows g order top p c.requires.process)
+    (start_one g order top p c.requires.process) (start_only g order top p c.requires.process))
     c.args.lanes.now c.requires.known.known
 
 pub settle-requires-clause-item : goal.settle-requires-clause-item
@@ -47,8 +54,10 @@ settle-requires-clause-unset c =
     let frozen = c.args.frozen.now in
     let top = c.requires.setting.topological in
     let limits = c.requires.setting.admitted.1.limits in
-    not_yet g order top limits (IsEarlier g order (place order p)) (IsDone g order p 0) frozen c.requires.known.settled p (omega (arith, c.requires.process))
-    (start_later g order top p c.requires.process) (start_grows g order top p c.requires.process) (start_one g order top p c.requires.process) (start_only g order top p c.requires.process)
+    not_yet g order top limits (IsEarlier g order (place order p))
+    (IsDone g order p 0) frozen c.requires.known.settled p (omega (arith, c.requires.process))
+    (start_later g order top p c.requires.process) (start_grows g order top p c.requires.process)
+    (start_one g order top p c.requires.process) (start_only g order top p c.requires.process)
 
 pub returns-clause-settled : goal.returns-clause-settled
 returns-clause-settled c =
@@ -58,14 +67,20 @@ returns-clause-settled c =
     let frozen = c.args.frozen.now in
     let top = c.requires.setting.topological in
     let limits = c.requires.setting.admitted.1.limits in
-    settled_more g order top limits (IsEarlier g order (place order p)) (IsDone g order p 0) frozen c.requires.known.settled p (omega (arith, c.requires.process))
-    (start_later g order top p c.requires.process) (start_grows g order top p c.requires.process) (start_one g order top p c.requires.process) (start_only g order top p c.requires.process)
+    settled_more g order top limits (IsEarlier g order (place order p))
+    (IsDone g order p 0) frozen c.requires.known.settled p (omega (arith, c.requires.process))
+    (start_later g order top p c.requires.process) (start_grows g order top p c.requires.process)
+    (start_one g order top p c.requires.process) (start_only g order top p c.requires.process)
     (sym c.is_frozen.ensures ∙ c.if-not-is_frozen.false) c.settle.new.frozen
     (subst (IsUnfrozenTime g order frozen p) (sym c.settle.ensures.time)
-    (start_over g c.requires.setting.admitted.0 order frozen (outcomes_asked c.args.asked.now) c.requires.setting.admitted.1.urgency c.requires.setting.admitted.1.topological top c.requires.tracks
-    p c.requires.process (on_graph g limits p c.requires.process) limits (early_of g order top limits (IsEarlier g order (place order p)) frozen c.requires.known.settled)
-    (not_yet g order top limits (IsEarlier g order (place order p)) (IsDone g order p 0) frozen c.requires.known.settled p (omega (arith, c.requires.process))
-    (start_later g order top p c.requires.process) (start_grows g order top p c.requires.process) (start_one g order top p c.requires.process) (start_only g order top p c.requires.process))
+    (start_over g c.requires.setting.admitted.0 order frozen (outcomes_asked c.args.asked.now)
+    c.requires.setting.admitted.1.urgency c.requires.setting.admitted.1.topological top c.requires.tracks
+    p c.requires.process (on_graph g limits p c.requires.process) limits
+    (early_of g order top limits (IsEarlier g order (place order p)) frozen c.requires.known.settled)
+    (not_yet g order top limits (IsEarlier g order (place order p))
+    (IsDone g order p 0) frozen c.requires.known.settled p (omega (arith, c.requires.process))
+    (start_later g order top p c.requires.process) (start_grows g order top p c.requires.process)
+    (start_one g order top p c.requires.process) (start_only g order top p c.requires.process))
     c.args.lanes.now c.requires.known.known c.latest_start-latest.result c.latest_start-latest.ensures))
     c.settle.ensures.others.others c.settle.ensures.others.count
 

@@ -3,4 +3,5 @@ use Rattle.cpg_base.specs.Activity.{live}
 use Rattle.cpg_latest.proofs.asking.live_inputs.Given as goal
 
 abbrev pub invariant-loop-edge : goal.invariant-loop-edge
-invariant-loop-edge l = l.edges.items ≡ filter (live l.setting.problem.now l.scenario.values) (take l.edge-index l.edge-items)
+invariant-loop-edge l =
+    l.edges.items ≡ filter (live l.setting.problem.now l.scenario.values) (take l.edge-index l.edge-items)

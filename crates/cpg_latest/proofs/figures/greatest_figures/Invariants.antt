@@ -5,6 +5,8 @@ use Rattle.cpg_latest.proofs.figures.greatest_figures.Given as goal
 
 abbrev pub invariant-loop-lane : goal.invariant-loop-lane
 invariant-loop-lane l = record {
-  excess : l.figures.excess ≡ greatest (map (λ c. excess_of_course l.problem (last_course l.problem c)) (take l.lane-index l.lanes));
-  worst : l.figures.worst ≡ greatest (map (λ c. finish_of l.problem (last_course l.problem c)) (take l.lane-index l.lanes));
+  excess : l.figures.excess
+      ≡ greatest (map (λ c. excess_of_course l.problem (last_course l.problem c)) (take l.lane-index l.lanes));
+  worst : l.figures.worst
+      ≡ greatest (map (λ c. finish_of l.problem (last_course l.problem c)) (take l.lane-index l.lanes));
 }

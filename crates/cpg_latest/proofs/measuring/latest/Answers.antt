@@ -20,11 +20,15 @@ pub loop-place-init : goal.loop-place-init
 loop-place-init c =
     let g = c.of-setting.result.problem.now in
     let order = c.of-setting.result.order.now in
-    let same : c.problem-problem.result.now ≡ g = c.problem-problem.ensures.problem ∙ sym c.of-setting.ensures.problem in
+    let same : c.problem-problem.result.now ≡ g =
+    c.problem-problem.ensures.problem ∙ sym c.of-setting.ensures.problem in
     record {
-      settled = subst (AreSettledOf g order (IsEarlier g order 0)) (sym (c.in_ok-frozen.ensures ∙ ap nothing_frozen same)) (settled_none g order);
-      known = lanes_first g order (IsEarlier g order 0) c.in_ok-frozen.frozen (outcomes_of c.args.tracks.now) c.in_ok-lanes.lanes.items (length c.args.tracks.now)
-          (sym (length-map c.args.tracks.now (λ (s : Scenario). s.values))) (c.in_ok-lanes.ensures ∙ ap (λ (h : Graph). replicate (length c.args.tracks.now) (no_lane h)) same);
+      settled = subst (AreSettledOf g order (IsEarlier g order 0))
+          (sym (c.in_ok-frozen.ensures ∙ ap nothing_frozen same)) (settled_none g order);
+      known = lanes_first g order (IsEarlier g order 0) c.in_ok-frozen.frozen
+          (outcomes_of c.args.tracks.now) c.in_ok-lanes.lanes.items (length c.args.tracks.now)
+          (sym (length-map c.args.tracks.now (λ (s : Scenario). s.values)))
+          (c.in_ok-lanes.ensures ∙ ap (λ (h : Graph). replicate (length c.args.tracks.now) (no_lane h)) same);
     }
 
 pub at-requires : goal.at-requires
@@ -50,7 +54,8 @@ step-requires-clause-values c i d l =
     let a = c.problem-problem.ensures.admitted in
     let none : List (Option ℕ) = [] in
     ap length (sym (outcome_at tracks i d l))
-    ∙ long_track c.args.admitted.now.graph c.args.admitted.now.order c.args.order.now none (outcomes_of tracks) a.urgency a.topological c.requires.topological c.requires.tracks i
+    ∙ long_track c.args.admitted.now.graph c.args.admitted.now.order c.args.order.now none
+    (outcomes_of tracks) a.urgency a.topological c.requires.topological c.requires.tracks i
     (omega (arith, l, length-map tracks (λ (s : Scenario). s.values)))
     ∙ ap condition_count (sym c.of-setting.ensures.problem)
 
@@ -64,18 +69,33 @@ returns c =
     let here : c.args.admitted.now.graph ≡ g = sym c.of-setting.ensures.problem in
     let same : c.problem-problem.result.now ≡ g = c.problem-problem.ensures.problem ∙ here in
     let ordered : c.args.order.now ≡ order = sym c.of-setting.ensures.order in
-    let last : c.loop-place.place ≡ process_count g = omega (arith, ap length c.processes.ensures.processes, ap process_count same, c.loop-place-test.false, c.loop-place.auto.place-end) in
-    let known = subst (λ n. AreKnown setting (outcomes_of c.args.tracks.now) n c.loop-place.frozen lanes) last c.loop-place.invariant in
-    let topological = subst (IsTopological g) ordered (subst (λ (h : Graph). IsTopological h c.args.order.now) here c.requires.topological) in
-    let excess = subst (λ (h : Graph). c.greatest_figures.result.excess ≡ greatest (map (λ l. excess_of_course h (last_course h l)) lanes)) same
-    (c.greatest_figures.ensures.excess ∙ ap (λ (ls : List (List ProgressState)). greatest (map (λ l. excess_of_course c.problem-problem.result.now (last_course c.problem-problem.result.now l)) ls))
+    let last : c.loop-place.place ≡ process_count g = omega (
+      arith,
+      ap length c.processes.ensures.processes,
+      ap process_count same,
+      c.loop-place-test.false,
+      c.loop-place.auto.place-end,
+    ) in
+    let known = subst (λ n. AreKnown setting (outcomes_of c.args.tracks.now) n c.loop-place.frozen lanes) last
+    c.loop-place.invariant in
+    let topological = subst (IsTopological g) ordered
+    (subst (λ (h : Graph). IsTopological h c.args.order.now) here c.requires.topological) in
+    let excess = subst (λ (h : Graph).
+    c.greatest_figures.result.excess ≡ greatest (map (λ l. excess_of_course h (last_course h l)) lanes)) same
+    (c.greatest_figures.ensures.excess ∙ ap (λ (ls : List (List ProgressState)). greatest
+    (map (λ l. excess_of_course c.problem-problem.result.now (last_course c.problem-problem.result.now l)) ls))
     c.as_slice.ensures.value) in
-    let worst = subst (λ (h : Graph). c.greatest_figures.result.worst ≡ greatest (map (λ l. finish_of h (last_course h l)) lanes)) same
-    (c.greatest_figures.ensures.worst ∙ ap (λ (ls : List (List ProgressState)). greatest (map (λ l. finish_of c.problem-problem.result.now (last_course c.problem-problem.result.now l)) ls))
+    let worst = subst (λ (h : Graph).
+    c.greatest_figures.result.worst ≡ greatest (map (λ l. finish_of h (last_course h l)) lanes)) same
+    (c.greatest_figures.ensures.worst ∙ ap (λ (ls : List (List ProgressState)).
+    greatest (map (λ l. finish_of c.problem-problem.result.now (last_course c.problem-problem.result.now l)) ls))
     c.as_slice.ensures.value) in
     let found = figures_found g c.args.admitted.now.order order c.loop-place.frozen (outcomes_of c.args.tracks.now)
-    (subst (λ (h : Graph). IsUrgencyOrder h c.args.admitted.now.order) here a.urgency) (subst (λ (h : Graph). IsTopological h c.args.admitted.now.order) here a.topological) topological
-    (subst (λ (h : Graph). AreTracks h (outcomes_of c.args.tracks.now)) here c.requires.tracks) lanes known.settled known.known
+    (subst (λ (h : Graph). IsUrgencyOrder h c.args.admitted.now.order) here a.urgency)
+    (subst (λ (h : Graph). IsTopological h c.args.admitted.now.order) here a.topological) topological
+    (subst (λ (h : Graph). AreTracks h (outcomes_of c.args.tracks.now)) here c.requires.tracks) lanes
+    known.settled known.known
     c.greatest_figures.result.excess c.greatest_figures.result.worst excess worst in
-    subst (λ (h : Graph). HasFigures h c.args.order.now c.greatest_figures.result.excess c.greatest_figures.result.worst) (sym here)
+    subst (λ (h : Graph).
+    HasFigures h c.args.order.now c.greatest_figures.result.excess c.greatest_figures.result.worst) (sym here)
     (subst (λ o. HasFigures g o c.greatest_figures.result.excess c.greatest_figures.result.worst) (sym ordered) found)

@@ -12,7 +12,8 @@ pub ready-ready-requires-clause-small : goal.ready-ready-requires-clause-small
 ready-ready-requires-clause-small c =
     let g = c.args.setting.now.problem.now in
     let order = c.args.setting.now.order.now in
-    course_small g order c.requires.setting.topological (IsDone g order c.args.process 0) c.args.frozen.now c.args.asked.now.scenario.now.values c.requires.setting.admitted.1.limits
+    course_small g order c.requires.setting.topological (IsDone g order c.args.process 0) c.args.frozen.now
+    c.args.asked.now.scenario.now.values c.requires.setting.admitted.1.limits
     c.requires.asked.long c.requires.early
     c.args.faults c.requires.faults (place order c.args.process) c.args.course.now c.requires.course
 
@@ -20,7 +21,8 @@ pub start-unfrozen-requires-clause-small : goal.start-unfrozen-requires-clause-s
 start-unfrozen-requires-clause-small c =
     let g = c.args.setting.now.problem.now in
     let order = c.args.setting.now.order.now in
-    course_small g order c.requires.setting.topological (IsDone g order c.args.process 0) c.args.frozen.now c.args.asked.now.scenario.now.values c.requires.setting.admitted.1.limits
+    course_small g order c.requires.setting.topological (IsDone g order c.args.process 0) c.args.frozen.now
+    c.args.asked.now.scenario.now.values c.requires.setting.admitted.1.limits
     c.requires.asked.long c.requires.early
     c.args.faults c.requires.faults (place order c.args.process) c.args.course.now c.requires.course
 
@@ -34,7 +36,8 @@ returns-then-not-asked-clause-sends c =
     let idle : active g values p ≡ false = sym c.requires.asked.acts ∙ c.if-not-asked.true in
     subst (IsSending g order (IsDone g order p 0) c.args.frozen.now values p 0 c.args.faults)
     (sym (c.wait.ensures ∙ ap (λ m. waited c.args.course.now m c.ready-ready.result) c.node_of-node.ensures.node))
-    (passed g order c.requires.setting.topological (IsDone g order p 0) c.args.frozen.now values p c.requires.process on c.args.faults c.requires.faults c.args.course.now c.requires.course
+    (passed g order c.requires.setting.topological (IsDone g order p 0) c.args.frozen.now values p c.requires.process on
+    c.args.faults c.requires.faults c.args.course.now c.requires.course
     c.ready-ready.result c.ready-ready.ensures idle)
 
 pub latest_end-end-requires-clause-start : goal.latest_end-end-requires-clause-start
@@ -46,11 +49,15 @@ latest_end-end-requires-clause-start c =
     let on : node_of g p < length g.nodes = omega (arith, c.node_of-node.ensures.node, c.node_of-node.ensures.within) in
     let acts = sym c.requires.asked.acts ∙ c.if-not-asked.false in
     let is_start = c.max-start.ensures ∙ ap₂ max c.start-unfrozen.ensures c.frozen_time.ensures in
-    let is = start_is_latest g order c.requires.setting.topological (IsDone g order p 0) c.args.frozen.now values p c.requires.process on c.args.faults c.requires.faults c.args.course.now
+    let is = start_is_latest g order c.requires.setting.topological (IsDone g order p 0) c.args.frozen.now values p
+    c.requires.process on c.args.faults c.requires.faults c.args.course.now
     c.requires.course
-    c.ready-ready.result c.ready-ready.ensures (inr (inl refl)) acts c.max-start.result is_start c.args.frozen.now (λ x l d. refl)
-    (the_latest g order c.args.frozen.now values c.requires.setting.topological) (latest_exist g order c.args.frozen.now values c.requires.setting.topological) in
-    let small = latest_small g order c.requires.setting.topological (IsDone g order p 0) c.args.frozen.now values c.requires.setting.admitted.1.limits c.requires.asked.long c.requires.early
+    c.ready-ready.result c.ready-ready.ensures
+    (inr (inl refl)) acts c.max-start.result is_start c.args.frozen.now (λ x l d. refl)
+    (the_latest g order c.args.frozen.now values c.requires.setting.topological)
+    (latest_exist g order c.args.frozen.now values c.requires.setting.topological) in
+    let small = latest_small g order c.requires.setting.topological (IsDone g order p 0) c.args.frozen.now values
+    c.requires.setting.admitted.1.limits c.requires.asked.long c.requires.early
     c.args.faults c.requires.faults in
     omega (arith, is, small.times p)
 
@@ -62,8 +69,10 @@ latest_end-end-requires-clause-last c =
     let values = c.args.asked.now.scenario.now.values in
     let acts = sym c.requires.asked.acts ∙ c.if-not-asked.false in
     let is = c.requires.last c.if-not-asked.false c.args.frozen.now (λ x l d. refl)
-    (the_latest g order c.args.frozen.now values c.requires.setting.topological) (latest_exist g order c.args.frozen.now values c.requires.setting.topological) in
-    let small = last_small g order c.requires.setting.topological (IsDone g order p 0) c.args.frozen.now values c.requires.setting.admitted.1.limits c.requires.asked.long c.requires.early p
+    (the_latest g order c.args.frozen.now values c.requires.setting.topological)
+    (latest_exist g order c.args.frozen.now values c.requires.setting.topological) in
+    let small = last_small g order c.requires.setting.topological (IsDone g order p 0) c.args.frozen.now values
+    c.requires.setting.admitted.1.limits c.requires.asked.long c.requires.early p
     c.requires.process acts
     c.args.faults c.requires.faults in
     omega (arith, is, small)
@@ -78,9 +87,12 @@ returns-clause-sends c =
     let acts = sym c.requires.asked.acts ∙ c.if-not-asked.false in
     let is_start = c.max-start.ensures ∙ ap₂ max c.start-unfrozen.ensures c.frozen_time.ensures in
     subst (IsSending g order (IsDone g order p 0) c.args.frozen.now values p 0 c.args.faults)
-    (sym (c.begin.ensures ∙ ap (λ m. begun c.args.course.now p m c.max-start.result c.latest_end-end.result) c.node_of-node.ensures.node))
-    (begins g order c.requires.setting.topological (IsDone g order p 0) c.args.frozen.now values p c.requires.process on c.args.faults c.requires.faults c.args.course.now c.requires.course
-    c.ready-ready.result c.ready-ready.ensures (inr (inl refl)) acts c.max-start.result is_start c.latest_end-end.result c.args.last c.latest_end-end.ensures (c.requires.last c.if-not-asked.false))
+    (sym (c.begin.ensures
+    ∙ ap (λ m. begun c.args.course.now p m c.max-start.result c.latest_end-end.result) c.node_of-node.ensures.node))
+    (begins g order c.requires.setting.topological (IsDone g order p 0) c.args.frozen.now values p c.requires.process on
+    c.args.faults c.requires.faults c.args.course.now c.requires.course
+    c.ready-ready.result c.ready-ready.ensures (inr (inl refl)) acts c.max-start.result is_start c.latest_end-end.result
+    c.args.last c.latest_end-end.ensures (c.requires.last c.if-not-asked.false))
 
 pub returns-clause-end : goal.returns-clause-end
 returns-clause-end c on_asked =
@@ -91,5 +103,7 @@ returns-clause-end c on_asked =
     let on : node_of g p < length g.nodes = omega (arith, c.node_of-node.ensures.node, c.node_of-node.ensures.within) in
     let acts = sym c.requires.asked.acts ∙ c.if-not-asked.false in
     let is_start = c.max-start.ensures ∙ ap₂ max c.start-unfrozen.ensures c.frozen_time.ensures in
-    end_is_latest g order c.requires.setting.topological (IsDone g order p 0) c.args.frozen.now values p c.requires.process on c.args.faults c.requires.faults c.args.course.now c.requires.course
-    c.ready-ready.result c.ready-ready.ensures (inr (inl refl)) acts c.max-start.result is_start c.latest_end-end.result c.args.last c.latest_end-end.ensures (c.requires.last c.if-not-asked.false)
+    end_is_latest g order c.requires.setting.topological (IsDone g order p 0) c.args.frozen.now values p
+    c.requires.process on c.args.faults c.requires.faults c.args.course.now c.requires.course
+    c.ready-ready.result c.ready-ready.ensures (inr (inl refl)) acts c.max-start.result is_start c.latest_end-end.result
+    c.args.last c.latest_end-end.ensures (c.requires.last c.if-not-asked.false)

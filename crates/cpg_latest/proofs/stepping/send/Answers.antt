@@ -6,5 +6,6 @@ use Rattle.cpg_latest.proofs.stepping.send.Goals as goal
 pub overflow_add-free : goal.overflow_add-free
 overflow_add-free c =
     let g = c.args.setting.now.problem.now in
-    let is : c.max-time.result ≡ send_at g c.args.frozen.now c.args.process c.args.item c.args.course.now = c.max-time.ensures ∙ ap₂ max c.unfrozen_send.ensures c.frozen_time.ensures in
+    let is : c.max-time.result ≡ send_at g c.args.frozen.now c.args.process c.args.item c.args.course.now =
+    c.max-time.ensures ∙ ap₂ max c.unfrozen_send.ensures c.frozen_time.ensures in
     omega (arith, is, c.requires.time, c.round.ensures, round-le g c.requires.setting.admitted.1.limits)

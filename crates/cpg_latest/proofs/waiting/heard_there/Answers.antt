@@ -6,12 +6,18 @@ use Rattle.cpg_run.proofs.Senders.{many_nodes, broadcast_slot}
 use Rattle.cpg_latest.proofs.waiting.heard_there.Goals as goal
 
 pub node_of-sender-requires : goal.node_of-sender-requires
-node_of-sender-requires c = omega (arith, c.process_of-process.ensures.process, process_of_below c.args.problem.now c.args.condition c.requires.condition)
+node_of-sender-requires c = omega (
+  arith,
+  c.process_of-process.ensures.process,
+  process_of_below c.args.problem.now c.args.condition c.requires.condition,
+)
 
 pub frame_there-requires-clause-slot : goal.frame_there-requires-clause-slot
 frame_there-requires-clause-slot c =
-    let is : c.node_of-sender.result ≡ node_of c.args.problem.now (process_of c.args.problem.now c.args.condition) = c.node_of-sender.ensures.node ∙
+    let is : c.node_of-sender.result ≡ node_of c.args.problem.now (process_of c.args.problem.now c.args.condition) =
+    c.node_of-sender.ensures.node ∙
     ap (node_of c.args.problem.now) c.process_of-process.ensures.process in
     subst (HasSlot c.args.problem.now) (sym is)
     (broadcast_slot c.args.problem.now c.requires.slots c.args.condition c.requires.condition
-    (many_nodes c.node_of-sender.result c.args.node (length c.args.problem.now.nodes) c.node_of-sender.ensures.within c.requires.node c.if-sender-node.false))
+    (many_nodes c.node_of-sender.result c.args.node
+    (length c.args.problem.now.nodes) c.node_of-sender.ensures.within c.requires.node c.if-sender-node.false))

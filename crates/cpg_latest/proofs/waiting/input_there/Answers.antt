@@ -6,5 +6,7 @@ use Rattle.cpg_latest.proofs.waiting.input_there.Goals as goal
 
 pub frame_there-requires-clause-slot : goal.frame_there-requires-clause-slot
 frame_there-requires-clause-slot c =
-    let is : c.node_of.result ≡ node_of c.args.problem.now (source c.args.problem.now c.args.edge) = c.node_of.ensures.node ∙ ap (node_of c.args.problem.now) c.source-sender.ensures.source in
-    subst (HasSlot c.args.problem.now) (sym is) (message_slot c.args.problem.now c.requires.slots c.args.edge c.requires.edge (sym c.is_message.ensures ∙ c.if-is_message.true))
+    let is : c.node_of.result ≡ node_of c.args.problem.now (source c.args.problem.now c.args.edge) =
+    c.node_of.ensures.node ∙ ap (node_of c.args.problem.now) c.source-sender.ensures.source in
+    subst (HasSlot c.args.problem.now) (sym is) (message_slot c.args.problem.now c.requires.slots c.args.edge
+    c.requires.edge (sym c.is_message.ensures ∙ c.if-is_message.true))

@@ -3,5 +3,6 @@ use Rattle.std.proofs.lemmas.List.Elements.{Contains-get_or}
 use Rattle.cpg_latest.proofs.waiting.latest_heard.Goals as goal
 
 pub heard_there-requires-clause-condition : goal.heard_there-requires-clause-condition
-heard_there-requires-clause-condition c = c.requires.conditions (get_or c.args.conditions.now c.loop-condition.condition-index 0)
+heard_there-requires-clause-condition c =
+    c.requires.conditions (get_or c.args.conditions.now c.loop-condition.condition-index 0)
     (Contains-get_or c.args.conditions.now c.loop-condition.condition-index 0 c.loop-condition-test.true)

@@ -3,4 +3,5 @@ use Rattle.std.proofs.lemmas.List.Elements.{Contains-get_or}
 use Rattle.cpg_latest.proofs.waiting.latest_there.Goals as goal
 
 pub input_there-requires-clause-edge : goal.input_there-requires-clause-edge
-input_there-requires-clause-edge c = c.requires.edges (get_or c.args.edges.now c.loop-edge.edge-index 0) (Contains-get_or c.args.edges.now c.loop-edge.edge-index 0 c.loop-edge-test.true)
+input_there-requires-clause-edge c = c.requires.edges (get_or c.args.edges.now c.loop-edge.edge-index 0)
+    (Contains-get_or c.args.edges.now c.loop-edge.edge-index 0 c.loop-edge-test.true)

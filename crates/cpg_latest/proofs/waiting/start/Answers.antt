@@ -9,4 +9,5 @@ pub latest_there-inputs-requires-clause-edges : goal.latest_there-inputs-require
 latest_there-inputs-requires-clause-edges c e k =
     let g = c.args.setting.now.problem.now in
     let is = c.as_slice.ensures ∙ c.requires.asked.inputs in
-    (inputs_parts g c.args.process e (Contains-filter_parts (live g c.args.asked.now.scenario.now.values) (inputs g c.args.process) e (subst (λ es. Contains es e) is k)).0).0
+    (inputs_parts g c.args.process e (Contains-filter_parts (live g c.args.asked.now.scenario.now.values)
+    (inputs g c.args.process) e (subst (λ es. Contains es e) is k)).0).0

@@ -6,5 +6,6 @@ use Rattle.cpg_list.proofs.cubes.narrow.Goals as goal
 
 pub push_met-requires-clause-both : goal.push_met-requires-clause-both
 push_met-requires-clause-both c =
-    subst IsRising (ap₂ (λ xs ys. xs ++ met ys c.args.literals.now) (sym c.whole-narrowed.ensures) (sym c.literals.ensures.literals))
+    subst IsRising (ap₂ (λ xs ys. xs ++ met ys c.args.literals.now) (sym c.whole-narrowed.ensures)
+    (sym c.literals.ensures.literals))
     (rising_met c.args.cube.now c.args.literals.now c.literals.ensures.rising)

@@ -4,5 +4,6 @@ use Rattle.cpg_list.proofs.CodeCubes.{cube_narrowed}
 use Rattle.cpg_list.proofs.cubes.narrow_by_cube.Goals as goal
 
 pub returns : goal.returns
-returns c k literals is = subst (IsNarrowed k literals c.args.cube.now) (sym (c.in_ok-narrow.ensures ∙ ap (met c.args.cube.now) c.literals.ensures.literals))
+returns c k literals is = subst (IsNarrowed k literals c.args.cube.now)
+    (sym (c.in_ok-narrow.ensures ∙ ap (met c.args.cube.now) c.literals.ensures.literals))
     (cube_narrowed k literals c.args.other.now c.args.cube.now is)

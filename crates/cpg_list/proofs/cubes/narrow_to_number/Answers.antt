@@ -12,7 +12,11 @@ pub returns : goal.returns
 returns c =
     let g = c.args.problem.now in
     let l : Literal = number_known c.args.scenario.now c.args.variable in
-    let made : c.as_slice.result.now ≡ l ∷ [] = c.as_slice.ensures ∙ ap (λ n. let x : Literal = record { variable = c.args.variable; low = n; high = n } in x ∷ []) c.number-number.ensures in
-    let high = number_at_most g c.processes-processes.ensures.within.few_processes c.args.scenario.now c.requires c.args.variable in
+    let made : c.as_slice.result.now ≡ l ∷ [] = c.as_slice.ensures
+    ∙ ap (λ n. let x : Literal = record { variable = c.args.variable; low = n; high = n } in x ∷ [])
+    c.number-number.ensures in
+    let high = number_at_most g c.processes-processes.ensures.within.few_processes c.args.scenario.now c.requires
+    c.args.variable in
     subst (IsNarrowed g.faults (l ∷ []) c.args.cube.now) (sym (c.in_ok-narrow.ensures ∙ ap (met c.args.cube.now) made))
-    (met_narrowed g.faults (l ∷ []) c.args.cube.now (λ m j. subst (λ (x : Literal). x.high ≤ top g.faults x.variable) (only_one l m j) high))
+    (met_narrowed g.faults (l ∷ []) c.args.cube.now
+    (λ m j. subst (λ (x : Literal). x.high ≤ top g.faults x.variable) (only_one l m j) high))

@@ -11,7 +11,10 @@ push-requires c =
     let i = c.loop-literal.literal-index in
     let ls = c.args.literals.now in
     let split : c.args.cube.now ++ ls ≡ c.loop-literal.cube ++ get_or ls i none ∷ drop (suc i) ls =
-    ap (λ xs. c.args.cube.now ++ xs) (sym (take-append-drop i ls) ∙ ap (λ xs. take i ls ++ xs) (drop-cons ls i none c.loop-literal-test.true))
+    ap (λ xs. c.args.cube.now ++ xs)
+    (sym (take-append-drop i ls) ∙ ap (λ xs. take i ls ++ xs) (drop-cons ls i none c.loop-literal-test.true))
     ∙ sym (append_assoc c.args.cube.now (take i ls) (get_or ls i none ∷ drop (suc i) ls))
     ∙ ap (λ xs. xs ++ get_or ls i none ∷ drop (suc i) ls) (sym c.loop-literal.invariant) in
-    record { last = all_lower c.loop-literal.cube (get_or ls i none) (drop (suc i) ls) (subst IsRising split c.requires) }
+    record {
+      last = all_lower c.loop-literal.cube (get_or ls i none) (drop (suc i) ls) (subst IsRising split c.requires);
+    }

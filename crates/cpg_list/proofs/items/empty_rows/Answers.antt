@@ -4,5 +4,7 @@ use Rattle.cpg_table.specs.Table.{Row}
 use Rattle.cpg_list.proofs.items.empty_rows.Goals as goal
 
 pub loop-item-preserved : goal.loop-item-preserved
-loop-item-preserved c = map_below_push (λ x. let r : Row = record { item = x; columns = [] } in r) c.loop-item.rows.items c.push.new.self.items c.in_ok-row.row c.loop-item.item c.loop-item.invariant
-    (c.in_ok-row.ensures ∙ ap (λ cs. let r : Row = record { item = c.loop-item.item; columns = cs } in r) c.new.ensures.items) c.in_ok-push.ensures.items
+loop-item-preserved c = map_below_push (λ x. let r : Row = record { item = x; columns = [] } in r)
+    c.loop-item.rows.items c.push.new.self.items c.in_ok-row.row c.loop-item.item c.loop-item.invariant
+    (c.in_ok-row.ensures ∙ ap (λ cs. let r : Row = record { item = c.loop-item.item; columns = cs } in r)
+    c.new.ensures.items) c.in_ok-push.ensures.items

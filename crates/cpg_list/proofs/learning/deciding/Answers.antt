@@ -18,12 +18,15 @@ returns c =
     let is = c.order-order.ensures.admitted in
     let test = decides g c.args.scenario.now.values c.args.process in
     let along : c.in_ok-conditions.conditions.items ≡ deciding_along g order c.args.scenario.now.values c.args.process =
-    c.in_ok-conditions.ensures.deciding g order is.urgency is.topological (subst (AreGuardsOf g order) (sym c.guards-guards.ensures.guards) is.guards) in
+    c.in_ok-conditions.ensures.deciding g order is.urgency is.topological
+    (subst (AreGuardsOf g order) (sym c.guards-guards.ensures.guards) is.guards) in
     subst (AreDeciding g c.args.scenario.now c.args.process) (sym along) (record {
       each = λ x j.
           let r = Contains-filter_parts test (conditions_along g order) x j in
-          Contains-filter test (numbers_below (condition_count g)) x r.1 (Contains-numbers (condition_count g) x (from_along g order x r.0).0);
+          Contains-filter test (numbers_below (condition_count g)) x r.1
+          (Contains-numbers (condition_count g) x (from_along g order x r.0).0);
       all = λ x j.
           let r = Contains-filter_parts test (numbers_below (condition_count g)) x j in
-          Contains-filter test (conditions_along g order) x r.1 (Contains-along g order is.topological x (numbers-Contains (condition_count g) x r.0));
+          Contains-filter test (conditions_along g order) x r.1
+          (Contains-along g order is.topological x (numbers-Contains (condition_count g) x r.0));
     })

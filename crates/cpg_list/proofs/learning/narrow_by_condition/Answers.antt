@@ -3,4 +3,8 @@ use Rattle.cpg_base.proofs.Items.{process_of_below}
 use Rattle.cpg_list.proofs.learning.narrow_by_condition.Goals as goal
 
 pub node_of-requires : goal.node_of-requires
-node_of-requires c = omega (arith, c.process_of.ensures.process, process_of_below c.args.frames.now.problem.now c.args.condition c.requires.condition)
+node_of-requires c = omega (
+  arith,
+  c.process_of.ensures.process,
+  process_of_below c.args.frames.now.problem.now c.args.condition c.requires.condition,
+)

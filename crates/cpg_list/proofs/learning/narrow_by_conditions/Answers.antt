@@ -12,18 +12,24 @@ pub loop-condition-init : goal.loop-condition-init
 loop-condition-init c = narrowed_none c.args.frames.now.problem.now.faults c.args.cube.now
 
 pub narrow_by_condition-requires-clause-condition : goal.narrow_by_condition-requires-clause-condition
-narrow_by_condition-requires-clause-condition c = c.requires.conditions (get_or c.args.conditions.now c.loop-condition.condition-index 0)
+narrow_by_condition-requires-clause-condition c =
+    c.requires.conditions (get_or c.args.conditions.now c.loop-condition.condition-index 0)
     (Contains-get_or c.args.conditions.now c.loop-condition.condition-index 0 c.loop-condition-test.true)
 
 pub narrow_by_condition-requires-clause-told : goal.narrow_by_condition-requires-clause-told
-narrow_by_condition-requires-clause-told c = c.requires.told (get_or c.args.conditions.now c.loop-condition.condition-index 0)
+narrow_by_condition-requires-clause-told c =
+    c.requires.told (get_or c.args.conditions.now c.loop-condition.condition-index 0)
     (Contains-get_or c.args.conditions.now c.loop-condition.condition-index 0 c.loop-condition-test.true)
 
 pub loop-condition-preserved : goal.loop-condition-preserved
-loop-condition-preserved c = narrowed_flat_map c.args.frames.now.problem.now.faults c.args.cube.now c.loop-condition.cube c.narrow_by_condition.new.cube
-    (heard_of c.args.frames.now.problem.now (columns_of_rows c.args.frames.now.rows.now) c.args.frames.now.scenario.now c.args.node) c.args.conditions.now c.loop-condition.condition-index 0
+loop-condition-preserved c = narrowed_flat_map c.args.frames.now.problem.now.faults c.args.cube.now
+    c.loop-condition.cube c.narrow_by_condition.new.cube
+    (heard_of c.args.frames.now.problem.now (columns_of_rows c.args.frames.now.rows.now) c.args.frames.now.scenario.now
+    c.args.node) c.args.conditions.now c.loop-condition.condition-index 0
     c.loop-condition-test.true c.loop-condition.invariant c.in_ok-narrow_by_condition.ensures
 
 pub returns : goal.returns
-returns c = subst (λ xs. IsNarrowedIn c.args.frames.now (flat_map (heard_in c.args.frames.now c.args.node) xs) c.args.cube.now c.loop-condition.cube)
-    (take_all c.loop-condition.condition-index c.args.conditions.now c.loop-condition-test.false) c.loop-condition.invariant
+returns c = subst (λ xs. IsNarrowedIn c.args.frames.now
+    (flat_map (heard_in c.args.frames.now c.args.node) xs) c.args.cube.now c.loop-condition.cube)
+    (take_all c.loop-condition.condition-index c.args.conditions.now c.loop-condition-test.false)
+    c.loop-condition.invariant

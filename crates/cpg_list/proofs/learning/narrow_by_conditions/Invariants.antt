@@ -6,4 +6,5 @@ use Rattle.cpg_list.proofs.learning.narrow_by_conditions.Given as goal
 
 abbrev pub invariant-loop-condition : goal.invariant-loop-condition
 invariant-loop-condition l = IsNarrowed l.frames.problem.now.faults
-    (flat_map (heard_of l.frames.problem.now (columns_of_rows l.frames.rows.now) l.frames.scenario.now l.node) (take l.condition-index l.conditions)) l.fn.cube l.cube
+    (flat_map (heard_of l.frames.problem.now (columns_of_rows l.frames.rows.now) l.frames.scenario.now l.node)
+    (take l.condition-index l.conditions)) l.fn.cube l.cube

@@ -12,7 +12,8 @@ use Rattle.cpg_list.proofs.learning.narrow_by_decided.Goals as goal
 pub narrow_by_values-requires-clause-conditions : goal.narrow_by_values-requires-clause-conditions
 narrow_by_values-requires-clause-conditions c d j =
     let g = c.args.problem.now in
-    numbers-Contains (condition_count g) d (Contains-filter_parts (decides g c.args.scenario.now.values c.args.process) (numbers_below (condition_count g)) d (c.requires.conditions.each d j)).0
+    numbers-Contains (condition_count g) d (Contains-filter_parts (decides g c.args.scenario.now.values c.args.process)
+    (numbers_below (condition_count g)) d (c.requires.conditions.each d j)).0
 
 pub returns : goal.returns
 returns c =
@@ -20,5 +21,7 @@ returns c =
     let s = c.args.scenario.now in
     let all = deciding g s.values c.args.process in
     let f : ℕ → Literal = λ d. number_known s (value_variable d) in
-    narrowed_same g.faults (map f c.args.conditions.now) (decided g s c.args.process) c.args.cube.now c.narrow_by_values.new.cube
-    (within_map c.args.conditions.now all c.requires.conditions.each f) (within_map all c.args.conditions.now c.requires.conditions.all f) c.in_ok-narrow_by_values.ensures
+    narrowed_same g.faults (map f c.args.conditions.now)
+    (decided g s c.args.process) c.args.cube.now c.narrow_by_values.new.cube
+    (within_map c.args.conditions.now all c.requires.conditions.each f)
+    (within_map all c.args.conditions.now c.requires.conditions.all f) c.in_ok-narrow_by_values.ensures

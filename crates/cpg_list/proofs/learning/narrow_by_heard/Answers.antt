@@ -13,7 +13,8 @@ use Rattle.cpg_list.proofs.learning.narrow_by_heard.Goals as goal
 pub narrow_by_conditions-requires-clause-conditions : goal.narrow_by_conditions-requires-clause-conditions
 narrow_by_conditions-requires-clause-conditions c d j =
     let g = c.args.frames.now.problem.now in
-    numbers-Contains (condition_count g) d (Contains-filter_parts (decides g c.args.frames.now.scenario.now.values c.args.process) (numbers_below (condition_count g)) d
+    numbers-Contains (condition_count g) d (Contains-filter_parts
+    (decides g c.args.frames.now.scenario.now.values c.args.process) (numbers_below (condition_count g)) d
     (c.requires.conditions.each d j)).0
 
 pub narrow_by_conditions-requires-clause-told : goal.narrow_by_conditions-requires-clause-told
@@ -27,6 +28,10 @@ returns c =
     let node = c.node_of-node.result in
     let all = deciding g s.values c.args.process in
     let f = heard_of g rows s node in
-    subst (λ n. IsNarrowed g.faults (flat_map (heard_of g rows s n) all) c.args.cube.now c.narrow_by_conditions.new.cube) c.node_of-node.ensures.node
-    (narrowed_same g.faults (flat_map f c.args.conditions.now) (flat_map f all) c.args.cube.now c.narrow_by_conditions.new.cube
-    (within_flat_map c.args.conditions.now all c.requires.conditions.each f) (within_flat_map all c.args.conditions.now c.requires.conditions.all f) c.in_ok-narrow_by_conditions.ensures)
+    subst
+    (λ n. IsNarrowed g.faults (flat_map (heard_of g rows s n) all) c.args.cube.now c.narrow_by_conditions.new.cube)
+    c.node_of-node.ensures.node
+    (narrowed_same g.faults (flat_map f c.args.conditions.now)
+    (flat_map f all) c.args.cube.now c.narrow_by_conditions.new.cube
+    (within_flat_map c.args.conditions.now all c.requires.conditions.each f)
+    (within_flat_map all c.args.conditions.now c.requires.conditions.all f) c.in_ok-narrow_by_conditions.ensures)

@@ -12,16 +12,21 @@ pub loop-edge-init : goal.loop-edge-init
 loop-edge-init c = narrowed_none c.args.frames.now.problem.now.faults c.args.cube.now
 
 pub narrow_by_input-requires-clause-edge : goal.narrow_by_input-requires-clause-edge
-narrow_by_input-requires-clause-edge c = c.requires.edges (get_or c.args.edges.now c.loop-edge.edge-index 0) (Contains-get_or c.args.edges.now c.loop-edge.edge-index 0 c.loop-edge-test.true)
+narrow_by_input-requires-clause-edge c = c.requires.edges (get_or c.args.edges.now c.loop-edge.edge-index 0)
+    (Contains-get_or c.args.edges.now c.loop-edge.edge-index 0 c.loop-edge-test.true)
 
 pub narrow_by_input-requires-clause-told : goal.narrow_by_input-requires-clause-told
-narrow_by_input-requires-clause-told c = c.requires.told (get_or c.args.edges.now c.loop-edge.edge-index 0) (Contains-get_or c.args.edges.now c.loop-edge.edge-index 0 c.loop-edge-test.true)
+narrow_by_input-requires-clause-told c = c.requires.told (get_or c.args.edges.now c.loop-edge.edge-index 0)
+    (Contains-get_or c.args.edges.now c.loop-edge.edge-index 0 c.loop-edge-test.true)
 
 pub loop-edge-preserved : goal.loop-edge-preserved
-loop-edge-preserved c = narrowed_flat_map c.args.frames.now.problem.now.faults c.args.cube.now c.loop-edge.cube c.narrow_by_input.new.cube
-    (received_by c.args.frames.now.problem.now (columns_of_rows c.args.frames.now.rows.now) c.args.frames.now.scenario.now) c.args.edges.now c.loop-edge.edge-index 0 c.loop-edge-test.true
+loop-edge-preserved c =
+    narrowed_flat_map c.args.frames.now.problem.now.faults c.args.cube.now c.loop-edge.cube c.narrow_by_input.new.cube
+    (received_by c.args.frames.now.problem.now (columns_of_rows c.args.frames.now.rows.now)
+    c.args.frames.now.scenario.now) c.args.edges.now c.loop-edge.edge-index 0 c.loop-edge-test.true
     c.loop-edge.invariant c.in_ok-narrow_by_input.ensures
 
 pub returns : goal.returns
-returns c = subst (λ xs. IsNarrowedIn c.args.frames.now (flat_map (received_in c.args.frames.now) xs) c.args.cube.now c.loop-edge.cube)
+returns c = subst (λ xs.
+    IsNarrowedIn c.args.frames.now (flat_map (received_in c.args.frames.now) xs) c.args.cube.now c.loop-edge.cube)
     (take_all c.loop-edge.edge-index c.args.edges.now c.loop-edge-test.false) c.loop-edge.invariant

@@ -8,11 +8,13 @@ use Rattle.cpg_list.proofs.CodeTold.{told_none, told_found, told_missing}
 use Rattle.cpg_list.proofs.learning.narrow_by_told.Goals as goal
 
 pub returns-in_default : goal.returns-in_default
-returns-in_default c = ap (met c.args.cube.now) (sym (told_none c.args.row.now.columns c.args.scenario.now (c.requires ∙ ap option_to_list c.in_default.is)))
+returns-in_default c = ap (met c.args.cube.now)
+    (sym (told_none c.args.row.now.columns c.args.scenario.now (c.requires ∙ ap option_to_list c.in_default.is)))
 
 pub returns-in_default-find : goal.returns-in_default-find
 returns-in_default-find c =
-    absurd (told_missing c.args.row.now.columns c.args.scenario.now c.in-Some.time (c.requires ∙ ap option_to_list c.in-Some.is)
+    absurd (told_missing c.args.row.now.columns c.args.scenario.now c.in-Some.time
+    (c.requires ∙ ap option_to_list c.in-Some.is)
     (subst (FindsHit c.args.row.now.columns c.in-Some.time c.args.scenario.now) c.in_default-find.is c.find.ensures))
 
 pub returns : goal.returns
@@ -21,7 +23,10 @@ returns c =
     let s = c.args.scenario.now in
     let found = c.in-Some-find.ensures in
     let column = c.index-columns-place.result in
-    let at : column ≡ get_or row c.in-Some-find.place column = c.index-columns-place.is ∙ ap (λ cs. get_or cs c.in-Some-find.place column) c.columns-columns.ensures in
-    c.in_ok-narrow.ensures ∙ ap (met c.args.cube.now) (c.literals.ensures.literals ∙ ap (λ (x : Column). x.cube) (sym c.index-columns-place.is)
-    ∙ sym (told_found row s c.in-Some.time (c.requires ∙ ap option_to_list c.in-Some.is) c.in-Some-find.place column found.0 at
+    let at : column ≡ get_or row c.in-Some-find.place column =
+    c.index-columns-place.is ∙ ap (λ cs. get_or cs c.in-Some-find.place column) c.columns-columns.ensures in
+    c.in_ok-narrow.ensures ∙ ap (met c.args.cube.now)
+    (c.literals.ensures.literals ∙ ap (λ (x : Column). x.cube) (sym c.index-columns-place.is)
+    ∙ sym (told_found row s c.in-Some.time
+    (c.requires ∙ ap option_to_list c.in-Some.is) c.in-Some-find.place column found.0 at
     (ap (λ (x : Column). matches x.cube s) at ∙ (found.1 column found.0).1)))

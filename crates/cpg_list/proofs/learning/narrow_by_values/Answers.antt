@@ -12,14 +12,19 @@ pub loop-condition-init : goal.loop-condition-init
 loop-condition-init c = narrowed_none c.args.problem.now.faults c.args.cube.now
 
 pub narrow_by_value-requires-clause-condition : goal.narrow_by_value-requires-clause-condition
-narrow_by_value-requires-clause-condition c = c.requires.conditions (get_or c.args.conditions.now c.loop-condition.condition-index 0)
+narrow_by_value-requires-clause-condition c =
+    c.requires.conditions (get_or c.args.conditions.now c.loop-condition.condition-index 0)
     (Contains-get_or c.args.conditions.now c.loop-condition.condition-index 0 c.loop-condition-test.true)
 
 pub loop-condition-preserved : goal.loop-condition-preserved
-loop-condition-preserved c = narrowed_map c.args.problem.now.faults c.args.cube.now c.loop-condition.cube c.narrow_by_value.new.cube
-    (λ d. number_known c.args.scenario.now (value_variable d)) c.args.conditions.now c.loop-condition.condition-index 0 c.loop-condition-test.true c.loop-condition.invariant
+loop-condition-preserved c =
+    narrowed_map c.args.problem.now.faults c.args.cube.now c.loop-condition.cube c.narrow_by_value.new.cube
+    (λ d. number_known c.args.scenario.now (value_variable d)) c.args.conditions.now c.loop-condition.condition-index 0
+    c.loop-condition-test.true c.loop-condition.invariant
     c.in_ok-narrow_by_value.ensures
 
 pub returns : goal.returns
-returns c = subst (λ cs. IsNarrowed c.args.problem.now.faults (map (λ d. number_known c.args.scenario.now (value_variable d)) cs) c.args.cube.now c.loop-condition.cube)
-    (take_all c.loop-condition.condition-index c.args.conditions.now c.loop-condition-test.false) c.loop-condition.invariant
+returns c = subst (λ cs. IsNarrowed c.args.problem.now.faults
+    (map (λ d. number_known c.args.scenario.now (value_variable d)) cs) c.args.cube.now c.loop-condition.cube)
+    (take_all c.loop-condition.condition-index c.args.conditions.now c.loop-condition-test.false)
+    c.loop-condition.invariant

@@ -5,4 +5,5 @@ use Rattle.cpg_list.specs.Narrowing.{IsNarrowed}
 use Rattle.cpg_list.proofs.learning.narrow_by_values.Given as goal
 
 abbrev pub invariant-loop-condition : goal.invariant-loop-condition
-invariant-loop-condition l = IsNarrowed l.problem.faults (map (λ c. number_known l.scenario (value_variable c)) (take l.condition-index l.conditions)) l.fn.cube l.cube
+invariant-loop-condition l = IsNarrowed l.problem.faults
+    (map (λ c. number_known l.scenario (value_variable c)) (take l.condition-index l.conditions)) l.fn.cube l.cube

@@ -12,7 +12,8 @@ returns-then-not-has_lows c =
       λ t. absurd (false≢true t),
       λ e. absurd (both_ways c.has_lows.result c.if-not-has_lows.true (c.has_lows.ensures.1 (λ v z h.
           ap (λ ls. number_of c.args.scenario.now v) c.literals-literals.ensures.literals
-          ∙ counts_are g c.processes.ensures.within.few_processes c.args.cube.now c.args.scenario.now e v z (omega (arith, h, ap length c.processes.ensures.processes))
+          ∙ counts_are g c.processes.ensures.within.few_processes c.args.cube.now c.args.scenario.now e v z
+          (omega (arith, h, ap length c.processes.ensures.processes))
           ∙ ap (λ ls. as_number v (low_in ls v)) (sym c.literals-literals.ensures.literals)))),
     )
 
@@ -21,9 +22,12 @@ returns c =
     let g = c.args.problem.now in
     let few = c.processes.ensures.within.few_processes in (
       λ t. lows_are g few c.args.cube.now c.args.scenario.now c.requires
-          (λ v z h. c.has_lows.ensures.0 c.if-not-has_lows.false v z (omega (arith, h, ap length c.processes.ensures.processes)) ∙
+          (λ v z h. c.has_lows.ensures.0 c.if-not-has_lows.false v z
+          (omega (arith, h, ap length c.processes.ensures.processes)) ∙
           ap (λ ls. as_number v (low_in ls v)) c.literals-literals.ensures.literals)
-          (λ v z h. c.has_lows-2.ensures.0 t v z (omega (arith, h, c.conditions.ensures.count)) ∙ ap (λ ls. as_number v (low_in ls v)) c.literals-literals.ensures.literals),
+          (λ v z h. c.has_lows-2.ensures.0 t v z (omega (arith, h, c.conditions.ensures.count))
+          ∙ ap (λ ls. as_number v (low_in ls v)) c.literals-literals.ensures.literals),
       λ e. c.has_lows-2.ensures.1 (λ v z h.
-          values_are g few c.args.cube.now c.args.scenario.now e v z (omega (arith, h, c.conditions.ensures.count)) ∙ ap (λ ls. as_number v (low_in ls v)) (sym c.literals-literals.ensures.literals)),
+          values_are g few c.args.cube.now c.args.scenario.now e v z (omega (arith, h, c.conditions.ensures.count))
+          ∙ ap (λ ls. as_number v (low_in ls v)) (sym c.literals-literals.ensures.literals)),
     )

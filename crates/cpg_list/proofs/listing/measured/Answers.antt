@@ -19,7 +19,8 @@ returns c =
       excess_by = c.in_ok-excess.excess.process;
     })
     c.problem-problem.ensures.admitted.limits
-    (timed_of g urgency order c.args.admitted.now.guards c.args.frozen c.problem-problem.ensures.admitted c.requires.topological c.requires.tables.found.frozen_times).admitted
+    (timed_of g urgency order c.args.admitted.now.guards c.args.frozen c.problem-problem.ensures.admitted
+    c.requires.topological c.requires.tables.found.frozen_times).admitted
     (record {
       found = c.requires.tables.found;
       written = c.requires.tables.written;

@@ -5,8 +5,10 @@ use Rattle.cpg_list.proofs.listing.swept.Goals as goal
 
 pub first_alike-requires : goal.first_alike-requires
 first_alike-requires c =
-    All-weaker (Contains c.args.scenarios.now) (IsScenario c.args.admitted.now.graph) c.requires.scenarios.lawful c.args.scenarios.now (All-contains_itself c.args.scenarios.now)
+    All-weaker (Contains c.args.scenarios.now) (IsScenario c.args.admitted.now.graph) c.requires.scenarios.lawful
+    c.args.scenarios.now (All-contains_itself c.args.scenarios.now)
 
 pub runs-requires-clause-scenarios : goal.runs-requires-clause-scenarios
 runs-requires-clause-scenarios c =
-    All-weaker (Contains c.args.scenarios.now) (IsScenario c.args.admitted.now.graph) c.requires.scenarios.lawful c.args.scenarios.now (All-contains_itself c.args.scenarios.now)
+    All-weaker (Contains c.args.scenarios.now) (IsScenario c.args.admitted.now.graph) c.requires.scenarios.lawful
+    c.args.scenarios.now (All-contains_itself c.args.scenarios.now)

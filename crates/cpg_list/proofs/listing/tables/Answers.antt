@@ -17,11 +17,14 @@ tables_of-requires-clause-rows c =
     let order = c.args.order.now in
     let frozen : List (Option ℕ) = c.args.frozen.now in
     let rows : List Row = c.in_ok-rows.rows.items in
-    let timed : IsTimed g urgency order frozen = timed_of g urgency order c.args.admitted.now.guards frozen c.problem-problem.ensures.admitted c.requires.topological c.requires.frozen in
-    let found : AreRowsFound g urgency order frozen rows = found_rows g urgency order frozen rows timed c.requires.early c.in_ok-rows.ensures.items c.in_ok-rows.ensures.rows in
+    let timed : IsTimed g urgency order frozen = timed_of g urgency order c.args.admitted.now.guards frozen
+    c.problem-problem.ensures.admitted c.requires.topological c.requires.frozen in
+    let found : AreRowsFound g urgency order frozen rows = found_rows g urgency order frozen rows timed c.requires.early
+    c.in_ok-rows.ensures.items c.in_ok-rows.ensures.rows in
     subst (λ (h : Graph). AreWritable h rows) (sym c.problem-problem.ensures.problem)
     (found_rows_are_writable g urgency order frozen rows c.problem-problem.ensures.admitted.limits timed.admitted found
-    (found_rows_fit g urgency order frozen rows c.problem-problem.ensures.admitted.limits timed.admitted found (none_too_wide g order c.requires.narrow)))
+    (found_rows_fit g urgency order frozen rows c.problem-problem.ensures.admitted.limits timed.admitted found
+    (none_too_wide g order c.requires.narrow)))
 
 pub returns : goal.returns
 returns c =
@@ -30,9 +33,12 @@ returns c =
     let order = c.args.order.now in
     let frozen : List (Option ℕ) = c.args.frozen.now in
     let rows : List Row = c.in_ok-rows.rows.items in
-    let timed : IsTimed g urgency order frozen = timed_of g urgency order c.args.admitted.now.guards frozen c.problem-problem.ensures.admitted c.requires.topological c.requires.frozen in
+    let timed : IsTimed g urgency order frozen = timed_of g urgency order c.args.admitted.now.guards frozen
+    c.problem-problem.ensures.admitted c.requires.topological c.requires.frozen in
     record {
       rows = rows;
-      found = found_rows g urgency order frozen rows timed c.requires.early c.in_ok-rows.ensures.items c.in_ok-rows.ensures.rows;
-      written = subst (λ (h : Graph). AreTablesWith h rows c.in_ok-tables.tables) c.problem-problem.ensures.problem c.in_ok-tables.ensures;
+      found = found_rows g urgency order frozen rows timed c.requires.early c.in_ok-rows.ensures.items
+          c.in_ok-rows.ensures.rows;
+      written = subst (λ (h : Graph). AreTablesWith h rows c.in_ok-tables.tables) c.problem-problem.ensures.problem
+          c.in_ok-tables.ensures;
     }

@@ -11,23 +11,38 @@ use Rattle.cpg_list.proofs.CodeSame.{passed_cubes, queued_cubes}
 use Rattle.cpg_list.proofs.making.make.Goals as goal
 
 pub at-process-requires : goal.at-process-requires
-at-process-requires c = omega (arith, c.requires.place, length_order (process_count c.args.listed.now.admitted.now.graph) c.args.listed.now.order.now c.requires.listed.topological.all)
+at-process-requires c = omega (
+  arith,
+  c.requires.place,
+  length_order (process_count c.args.listed.now.admitted.now.graph) c.args.listed.now.order.now
+      c.requires.listed.topological.all,
+)
 
 pub node_of-node-requires : goal.node_of-node-requires
 node_of-node-requires c = omega (
   arith,
   ap (λ (h : Graph). process_count h) c.problem.ensures.problem,
   c.at-process.ensures.within,
-  length_order (process_count c.args.listed.now.admitted.now.graph) c.args.listed.now.order.now c.requires.listed.topological.all,
+  length_order (process_count c.args.listed.now.admitted.now.graph) c.args.listed.now.order.now
+      c.requires.listed.topological.all,
 )
 
 pub make_start-requires-clause-process : goal.make_start-requires-clause-process
-make_start-requires-clause-process c = omega
-    (arith, c.at-process.ensures.within, length_order (process_count c.args.listed.now.admitted.now.graph) c.args.listed.now.order.now c.requires.listed.topological.all)
+make_start-requires-clause-process c = omega (
+  arith,
+  c.at-process.ensures.within,
+  length_order (process_count c.args.listed.now.admitted.now.graph) c.args.listed.now.order.now
+      c.requires.listed.topological.all,
+)
 
 pub make_sends_after-requires-clause-process : goal.make_sends_after-requires-clause-process
 make_sends_after-requires-clause-process c =
-    omega (arith, c.at-process.ensures.within, length_order (process_count c.args.listed.now.admitted.now.graph) c.args.listed.now.order.now c.requires.listed.topological.all)
+    omega (
+      arith,
+      c.at-process.ensures.within,
+      length_order (process_count c.args.listed.now.admitted.now.graph) c.args.listed.now.order.now
+          c.requires.listed.topological.all,
+    )
 
 pub make_start-requires-clause-known : goal.make_start-requires-clause-known
 make_start-requires-clause-known c =
@@ -35,13 +50,17 @@ make_start-requires-clause-known c =
     let order = c.args.listed.now.order.now in
     let p = c.at-process.result in
     let rows = columns_of_rows c.args.rows.now.items in
-    let node : c.node_of-node.result ≡ node_of g p = c.node_of-node.ensures.node ∙ ap (λ (h : Graph). node_of h p) c.problem.ensures.problem in
-    let on : node_of g p < length g.nodes = omega (arith, node, c.node_of-node.ensures.within, ap (λ (h : Graph). length h.nodes) c.problem.ensures.problem) in
+    let node : c.node_of-node.result ≡ node_of g p =
+    c.node_of-node.ensures.node ∙ ap (λ (h : Graph). node_of h p) c.problem.ensures.problem in
+    let on : node_of g p < length g.nodes = omega
+    (arith, node, c.node_of-node.ensures.within, ap (λ (h : Graph). length h.nodes) c.problem.ensures.problem) in
     let read : get_or c.args.known.now.items (node_of g p) [] ≡ c.index_mut.result.now =
     ap (λ n. get_or c.args.known.now.items n []) (sym node) ∙
-    sym (c.index_mut.ensures.value ∙ get_or_default c.args.known.now.items c.node_of-node.result c.index_mut.result.now [] (omega (arith, node, on, c.requires.carried.known_count))) in
+    sym (c.index_mut.ensures.value ∙ get_or_default c.args.known.now.items c.node_of-node.result c.index_mut.result.now
+    [] (omega (arith, node, on, c.requires.carried.known_count))) in
     subst (AreCubesOf g.faults c.args.listed.now.scenarios.now (passed_by g rows (before_on_node g order p))) read
-    (subst (λ i. AreCubesOf g.faults c.args.listed.now.scenarios.now (passed_by g rows (node_before g order (node_of g p) i)) (get_or c.args.known.now.items (node_of g p) []))
+    (subst (λ i. AreCubesOf g.faults c.args.listed.now.scenarios.now
+    (passed_by g rows (node_before g order (node_of g p) i)) (get_or c.args.known.now.items (node_of g p) []))
     (sym c.at-process.ensures.back) (c.requires.carried.carries (node_of g p) on))
 
 pub make_sends_after-requires-clause-sent : goal.make_sends_after-requires-clause-sent
@@ -49,19 +68,26 @@ make_sends_after-requires-clause-sent c =
     let g = c.args.listed.now.admitted.now.graph in
     let order = c.args.listed.now.order.now in
     let p = c.at-process.result in
-    let l : p < process_count g = omega (arith, c.at-process.ensures.within, length_order (process_count g) order c.requires.listed.topological.all) in
+    let l : p < process_count g = omega
+    (arith, c.at-process.ensures.within, length_order (process_count g) order c.requires.listed.topological.all) in
     let rows = columns_of_rows c.args.rows.now.items in
     let next = columns_of_rows c.make_start.new.rows.items in
-    let node : c.node_of-node.result ≡ node_of g p = c.node_of-node.ensures.node ∙ ap (λ (h : Graph). node_of h p) c.problem.ensures.problem in
-    let on : node_of g p < length g.nodes = omega (arith, node, c.node_of-node.ensures.within, ap (λ (h : Graph). length h.nodes) c.problem.ensures.problem) in
+    let node : c.node_of-node.result ≡ node_of g p =
+    c.node_of-node.ensures.node ∙ ap (λ (h : Graph). node_of h p) c.problem.ensures.problem in
+    let on : node_of g p < length g.nodes = omega
+    (arith, node, c.node_of-node.ensures.within, ap (λ (h : Graph). length h.nodes) c.problem.ensures.problem) in
     let read : get_or c.args.sent.now.items (node_of g p) [] ≡ c.index_mut-2.result.now =
     ap (λ n. get_or c.args.sent.now.items n []) (sym node) ∙
-    sym (c.index_mut-2.ensures.value ∙ get_or_default c.args.sent.now.items c.node_of-node.result c.index_mut-2.result.now [] (omega (arith, node, on, c.requires.carried.sent_count))) in
-    subst (AreCubesOf g.faults c.args.listed.now.scenarios.now (queued_by g order next (sent_before g order (node_of g p) (place order p)))) read
-    (queued_cubes g order c.requires.listed.topological rows next (place order p) c.in_ok-make_start.ensures.same g.faults c.args.listed.now.scenarios.now
+    sym (c.index_mut-2.ensures.value ∙ get_or_default c.args.sent.now.items c.node_of-node.result
+    c.index_mut-2.result.now [] (omega (arith, node, on, c.requires.carried.sent_count))) in
+    subst (AreCubesOf g.faults c.args.listed.now.scenarios.now
+    (queued_by g order next (sent_before g order (node_of g p) (place order p)))) read
+    (queued_cubes g order c.requires.listed.topological rows next
+    (place order p) c.in_ok-make_start.ensures.same g.faults c.args.listed.now.scenarios.now
     (get_or c.args.sent.now.items (node_of g p) []) (sent_before g order (node_of g p) (place order p))
     (sent_early g order c.requires.listed.topological p l (node_of g p))
-    (subst (λ i. AreCubesOf g.faults c.args.listed.now.scenarios.now (queued_by g order rows (sent_before g order (node_of g p) i)) (get_or c.args.sent.now.items (node_of g p) []))
+    (subst (λ i. AreCubesOf g.faults c.args.listed.now.scenarios.now
+    (queued_by g order rows (sent_before g order (node_of g p) i)) (get_or c.args.sent.now.items (node_of g p) []))
     (sym c.at-process.ensures.back) (c.requires.carried.queues (node_of g p) on)))
 
 pub returns-clause-carried : goal.returns-clause-carried
@@ -69,22 +95,31 @@ returns-clause-carried c =
     let g = c.args.listed.now.admitted.now.graph in
     let order = c.args.listed.now.order.now in
     let p = c.at-process.result in
-    let l : p < process_count g = omega (arith, c.at-process.ensures.within, length_order (process_count g) order c.requires.listed.topological.all) in
+    let l : p < process_count g = omega
+    (arith, c.at-process.ensures.within, length_order (process_count g) order c.requires.listed.topological.all) in
     let top = c.requires.listed.topological in
     let scenarios = c.args.listed.now.scenarios.now in
     let rows = columns_of_rows c.args.rows.now.items in
     let next = columns_of_rows c.make_start.new.rows.items in
     let last = columns_of_rows c.make_sends_after.new.rows.items in
     let back = c.at-process.ensures.back in
-    let node : c.node_of-node.result ≡ node_of g p = c.node_of-node.ensures.node ∙ ap (λ (h : Graph). node_of h p) c.problem.ensures.problem in
-    let on : node_of g p < length g.nodes = omega (arith, node, c.node_of-node.ensures.within, ap (λ (h : Graph). length h.nodes) c.problem.ensures.problem) in
+    let node : c.node_of-node.result ≡ node_of g p =
+    c.node_of-node.ensures.node ∙ ap (λ (h : Graph). node_of h p) c.problem.ensures.problem in
+    let on : node_of g p < length g.nodes = omega
+    (arith, node, c.node_of-node.ensures.within, ap (λ (h : Graph). length h.nodes) c.problem.ensures.problem) in
     let after = before_on_node g order p ++ p ∷ [] in
-    let same : SameRowsBefore g order (place order p) rows last = λ y e. c.in_ok-make_start.ensures.same y e ∙ c.in_ok-make_sends_after.ensures.same y e in
-    let own = passed_cubes g order top next last (place order p) c.in_ok-make_sends_after.ensures.same g.faults scenarios c.make_start.new.known after
+    let same : SameRowsBefore g order (place order p) rows last =
+    λ y e. c.in_ok-make_start.ensures.same y e ∙ c.in_ok-make_sends_after.ensures.same y e in
+    let own = passed_cubes g order top next last
+    (place order p) c.in_ok-make_sends_after.ensures.same g.faults scenarios c.make_start.new.known after
     (own_early g order top p l) c.in_ok-make_start.ensures.known in
-    let carried = subst (λ i. AreCarried g order rows scenarios i c.args.known.now.items c.args.sent.now.items) (sym back) c.requires.carried in
-    let all = carried_next g order top p l rows last same scenarios c.args.known.now.items c.args.sent.now.items carried on c.make_start.new.known c.make_sends_after.new.sent own
+    let carried = subst (λ i. AreCarried g order rows scenarios i c.args.known.now.items c.args.sent.now.items)
+    (sym back) c.requires.carried in
+    let all = carried_next g order top p l rows last same scenarios c.args.known.now.items c.args.sent.now.items carried
+    on c.make_start.new.known c.make_sends_after.new.sent own
     c.in_ok-make_sends_after.ensures.sent in
-    subst (λ i. AreCarried g order last scenarios (i + 1) (set c.args.known.now.items c.node_of-node.result c.make_start.new.known)
+    subst (λ i. AreCarried g order last scenarios (i + 1)
+    (set c.args.known.now.items c.node_of-node.result c.make_start.new.known)
     (set c.args.sent.now.items c.node_of-node.result c.make_sends_after.new.sent)) back
-    (subst (λ n. AreCarried g order last scenarios (place order p + 1) (set c.args.known.now.items n c.make_start.new.known) (set c.args.sent.now.items n c.make_sends_after.new.sent)) (sym node) all)
+    (subst (λ n. AreCarried g order last scenarios (place order p + 1) (set c.args.known.now.items n
+    c.make_start.new.known) (set c.args.sent.now.items n c.make_sends_after.new.sent)) (sym node) all)

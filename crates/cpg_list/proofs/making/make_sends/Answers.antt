@@ -1,4 +1,5 @@
-use Rattle.std.proofs.Common.{◌≡◌, ◌∙◌, ◌+◌, ◌<◌, ◌⊎◌, ◌∷◌, [], ◌++◌, List, length, get_or, take, Contains, sym, ap, subst, arith}
+use Rattle.std.proofs.Common.{◌≡◌, ◌∙◌, ◌+◌, ◌<◌, ◌⊎◌, ◌∷◌, [], ◌++◌, List, length, get_or, take, Contains, sym, ap}
+use Rattle.std.proofs.Common.{subst, arith}
 use Rattle.std.proofs.lemmas.List.{take_all}
 use Rattle.cpg_base.specs.Graph.{Graph, item_count, node_of}
 use Rattle.cpg_order.specs.Queue.{queued_before}
@@ -9,7 +10,8 @@ use Rattle.cpg_list.specs.Made.{queued_by, sent_before, AreCubesOf, AreEndsOf, A
 use Rattle.cpg_run.specs.Found.{columns_of_rows}
 use Rattle.cpg_run.specs.Rows.{AreEntriesOf}
 use Rattle.cpg_list.proofs.CodeMade.{timed_of, count_of, mergeable, same_before, one_made, made_same}
-use Rattle.cpg_list.proofs.CodeQueue.{queued_members, nth_queued, nth_place, nth_within, nth_earlier, nth_late, nth_new, before_to, before_from, next_to, next_from, sent_next, sent_back, queue_early}
+use Rattle.cpg_list.proofs.CodeQueue.{queued_members, nth_queued, nth_place, nth_within, nth_earlier, nth_late, nth_new}
+use Rattle.cpg_list.proofs.CodeQueue.{before_to, before_from, next_to, next_from, sent_next, sent_back, queue_early}
 use Rattle.cpg_list.proofs.CodeQueue.{all_to, all_from, made_next}
 use Rattle.cpg_list.proofs.CodeSame.{queued_cubes, ends_cubes}
 use Rattle.cpg_list.proofs.making.make_sends.Goals as goal
@@ -19,18 +21,23 @@ send_entries-requires-clause-item c =
     let g = c.args.listed.now.admitted.now.graph in
     let p = c.args.process in
     let m = c.loop-item.item-index in
-    let all : c.queue-item-items.result.now ≡ queue_of g p = c.queue-item-items.ensures ∙ ap (λ (h : Graph). queue_of h p) c.problem.ensures.problem in
+    let all : c.queue-item-items.result.now ≡ queue_of g p =
+    c.queue-item-items.ensures ∙ ap (λ (h : Graph). queue_of h p) c.problem.ensures.problem in
     let inside : m < length (queue_of g p) = omega (arith, ap length all, c.loop-item-test.true) in
-    subst (Contains (queue_of g p)) (ap (λ xs. get_or xs m 0) (sym all)) (nth_queued g c.args.listed.now.order.now c.requires.listed.topological p c.requires.process m inside)
+    subst (Contains (queue_of g p)) (ap (λ xs. get_or xs m 0) (sym all))
+    (nth_queued g c.args.listed.now.order.now c.requires.listed.topological p c.requires.process m inside)
 
 pub send_entries-requires-clause-ends : goal.send_entries-requires-clause-ends
 send_entries-requires-clause-ends c =
     let g = c.args.listed.now.admitted.now.graph in
     let order = c.args.listed.now.order.now in
     let p = c.args.process in
-    subst (λ (rs : List Row). AreEndsOf g order (columns_of_rows rs) c.args.listed.now.scenarios.now p c.args.ends.now) (sym c.as_slice.ensures.value)
-    (ends_cubes g order c.requires.listed.topological (columns_of_rows c.args.rows.now.items) (columns_of_rows c.loop-item.rows.items)
-    (place order p) c.loop-item.invariant.same c.args.listed.now.scenarios.now p c.args.ends.now (omega arith) c.requires.ends)
+    subst (λ (rs : List Row). AreEndsOf g order (columns_of_rows rs) c.args.listed.now.scenarios.now p c.args.ends.now)
+    (sym c.as_slice.ensures.value)
+    (ends_cubes g order c.requires.listed.topological (columns_of_rows c.args.rows.now.items)
+    (columns_of_rows c.loop-item.rows.items)
+    (place order p) c.loop-item.invariant.same c.args.listed.now.scenarios.now p c.args.ends.now
+    (omega arith) c.requires.ends)
 
 pub send_entries-requires-clause-sent : goal.send_entries-requires-clause-sent
 send_entries-requires-clause-sent c =
@@ -39,22 +46,28 @@ send_entries-requires-clause-sent c =
     let p = c.args.process in
     let m = c.loop-item.item-index in
     let scenarios = c.args.listed.now.scenarios.now in
-    let all : c.queue-item-items.result.now ≡ queue_of g p = c.queue-item-items.ensures ∙ ap (λ (h : Graph). queue_of h p) c.problem.ensures.problem in
+    let all : c.queue-item-items.result.now ≡ queue_of g p =
+    c.queue-item-items.ensures ∙ ap (λ (h : Graph). queue_of h p) c.problem.ensures.problem in
     let inside : m < length (queue_of g p) = omega (arith, ap length all, c.loop-item-test.true) in
     let rows = columns_of_rows c.loop-item.rows.items in
     let nth = get_or (queue_of g p) m 0 in
-    subst (λ (rs : List Row). AreCubesOf g.faults scenarios (queued_by g order (columns_of_rows rs) (queued_before g order (get_or c.queue-item-items.result.now m 0))) c.loop-item.sent)
+    subst (λ (rs : List Row). AreCubesOf g.faults scenarios (queued_by g order (columns_of_rows rs)
+    (queued_before g order (get_or c.queue-item-items.result.now m 0))) c.loop-item.sent)
     (sym c.as_slice.ensures.value)
-    (subst (λ x. AreCubesOf g.faults scenarios (queued_by g order rows (queued_before g order x)) c.loop-item.sent) (ap (λ xs. get_or xs m 0) (sym all))
-    (queued_members g.faults g order rows scenarios c.loop-item.sent (sent_before g order (node_of g p) (place order p) ++ take m (queue_of g p)) (queued_before g order nth)
-    (before_from g order c.requires.listed.topological p c.requires.process m inside) (before_to g order c.requires.listed.topological p c.requires.process m inside) c.loop-item.invariant.queue))
+    (subst (λ x. AreCubesOf g.faults scenarios (queued_by g order rows (queued_before g order x)) c.loop-item.sent)
+    (ap (λ xs. get_or xs m 0) (sym all))
+    (queued_members g.faults g order rows scenarios c.loop-item.sent
+    (sent_before g order (node_of g p) (place order p) ++ take m (queue_of g p)) (queued_before g order nth)
+    (before_from g order c.requires.listed.topological p c.requires.process m inside)
+    (before_to g order c.requires.listed.topological p c.requires.process m inside) c.loop-item.invariant.queue))
 
 pub set_row-requires-clause-item : goal.set_row-requires-clause-item
 set_row-requires-clause-item c =
     let g = c.args.listed.now.admitted.now.graph in
     let p = c.args.process in
     let m = c.loop-item.item-index in
-    let all : c.queue-item-items.result.now ≡ queue_of g p = c.queue-item-items.ensures ∙ ap (λ (h : Graph). queue_of h p) c.problem.ensures.problem in
+    let all : c.queue-item-items.result.now ≡ queue_of g p =
+    c.queue-item-items.ensures ∙ ap (λ (h : Graph). queue_of h p) c.problem.ensures.problem in
     let inside : m < length (queue_of g p) = omega (arith, ap length all, c.loop-item-test.true) in
     omega (
       arith,
@@ -72,13 +85,18 @@ set_row-requires-clause-entries c =
     let p = c.args.process in
     let m = c.loop-item.item-index in
     let entries = c.in_ok-entries.entries.items in
-    let all : c.queue-item-items.result.now ≡ queue_of g p = c.queue-item-items.ensures ∙ ap (λ (h : Graph). queue_of h p) c.problem.ensures.problem in
+    let all : c.queue-item-items.result.now ≡ queue_of g p =
+    c.queue-item-items.ensures ∙ ap (λ (h : Graph). queue_of h p) c.problem.ensures.problem in
     let inside : m < length (queue_of g p) = omega (arith, ap length all, c.loop-item-test.true) in
     let nth = get_or (queue_of g p) m 0 in
-    let timed = timed_of g a.order order a.guards frozen c.problem.ensures.admitted c.requires.listed.topological c.requires.listed.frozen in
-    let found = subst (λ x. AreEntriesOf g order frozen (columns_of_rows c.loop-item.rows.items) x entries) (ap (λ xs. get_or xs m 0) all)
-    (subst (λ (rs : List Row). AreEntriesOf g order frozen (columns_of_rows rs) (get_or c.queue-item-items.result.now m 0) entries) c.as_slice.ensures.value c.in_ok-entries.ensures.entries) in
-    mergeable g a.order order frozen timed (IsSent g order p m) c.loop-item.rows.items c.loop-item.invariant.made nth (nth_within g order c.requires.listed.topological p c.requires.process m inside)
+    let timed = timed_of g a.order order a.guards frozen c.problem.ensures.admitted c.requires.listed.topological
+    c.requires.listed.frozen in
+    let found = subst (λ x. AreEntriesOf g order frozen (columns_of_rows c.loop-item.rows.items) x entries)
+    (ap (λ xs. get_or xs m 0) all)
+    (subst (λ (rs : List Row). AreEntriesOf g order frozen (columns_of_rows rs)
+    (get_or c.queue-item-items.result.now m 0) entries) c.as_slice.ensures.value c.in_ok-entries.ensures.entries) in
+    mergeable g a.order order frozen timed (IsSent g order p m) c.loop-item.rows.items c.loop-item.invariant.made nth
+    (nth_within g order c.requires.listed.topological p c.requires.process m inside)
     (nth_earlier g order c.requires.listed.topological p c.requires.process m inside) entries found
 
 pub loop-item-preserved : goal.loop-item-preserved
@@ -95,29 +113,39 @@ loop-item-preserved c =
     let l = c.requires.process in
     let rows = c.loop-item.rows.items in
     let next = c.set_row.new.rows.items in
-    let all : c.queue-item-items.result.now ≡ queue_of g p = c.queue-item-items.ensures ∙ ap (λ (h : Graph). queue_of h p) c.problem.ensures.problem in
+    let all : c.queue-item-items.result.now ≡ queue_of g p =
+    c.queue-item-items.ensures ∙ ap (λ (h : Graph). queue_of h p) c.problem.ensures.problem in
     let inside : m < length (queue_of g p) = omega (arith, ap length all, c.loop-item-test.true) in
     let nth = get_or (queue_of g p) m 0 in
     let here : get_or c.queue-item-items.result.now m 0 ≡ nth = ap (λ xs. get_or xs m 0) all in
     let timed = timed_of g a.order order a.guards frozen c.problem.ensures.admitted top c.requires.listed.frozen in
     let found = subst (λ x. AreEntriesOf g order frozen (columns_of_rows rows) x entries) here
-    (subst (λ (rs : List Row). AreEntriesOf g order frozen (columns_of_rows rs) (get_or c.queue-item-items.result.now m 0) entries) c.as_slice.ensures.value c.in_ok-entries.ensures.entries) in
+    (subst (λ (rs : List Row). AreEntriesOf g order frozen (columns_of_rows rs)
+    (get_or c.queue-item-items.result.now m 0) entries) c.as_slice.ensures.value c.in_ok-entries.ensures.entries) in
     let is = subst (λ x. IsRowSet g a.order x entries rows next) here c.in_ok-set_row.ensures in
-    let made = one_made g a.order order frozen timed (IsSent g order p m) rows c.loop-item.invariant.made nth (nth_within g order top p l m inside) (nth_earlier g order top p l m inside) entries found
+    let made = one_made g a.order order frozen timed (IsSent g order p m) rows c.loop-item.invariant.made nth
+    (nth_within g order top p l m inside) (nth_earlier g order top p l m inside) entries found
     (nth_new g order top p l m inside) (nth_late g order top p l m inside) next is in
-    let same = same_before g a.order order frozen timed (IsSent g order p m) rows c.loop-item.invariant.made nth (nth_within g order top p l m inside)
+    let same = same_before g a.order order frozen timed (IsSent g order p m) rows c.loop-item.invariant.made nth
+    (nth_within g order top p l m inside)
     (nth_earlier g order top p l m inside) entries found
-    (nth_new g order top p l m inside) (nth_late g order top p l m inside) next is (place order p) (omega (arith, nth_place g order top p l m inside)) in
+    (nth_new g order top p l m inside) (nth_late g order top p l m inside) next is (place order p)
+    (omega (arith, nth_place g order top p l m inside)) in
     let items = queued_before g order nth ++ nth ∷ [] in
     let after = sent_before g order (node_of g p) (place order p) ++ take (m + 1) (queue_of g p) in
-    let left = subst (λ x. AreCubesOf g.faults scenarios (queued_by g order (columns_of_rows rows) (queued_before g order x ++ x ∷ [])) c.send_entries.new.sent) here
+    let left = subst (λ x. AreCubesOf g.faults scenarios
+    (queued_by g order (columns_of_rows rows) (queued_before g order x ++ x ∷ [])) c.send_entries.new.sent) here
     (subst (λ (rs : List Row). AreCubesOf g.faults scenarios
-    (queued_by g order (columns_of_rows rs) (queued_before g order (get_or c.queue-item-items.result.now m 0) ++ get_or c.queue-item-items.result.now m 0 ∷ [])) c.send_entries.new.sent)
+    (queued_by g order (columns_of_rows rs) (queued_before g order (get_or c.queue-item-items.result.now m 0)
+    ++ get_or c.queue-item-items.result.now m 0 ∷ [])) c.send_entries.new.sent)
     c.as_slice.ensures.value c.in_ok-entries.ensures.sent) in
     record {
-      made = made_same g a.order order frozen (λ y. IsSent g order p m y ⊎ (y ≡ nth)) (IsSent g order p (m + 1)) next made (sent_back g order top p l m inside) (sent_next g order top p l m inside);
-      queue = queued_members g.faults g order (columns_of_rows next) scenarios c.send_entries.new.sent items after (next_to g order top p l m inside) (next_from g order top p l m inside)
-          (queued_cubes g order top (columns_of_rows rows) (columns_of_rows next) (place order p) same g.faults scenarios c.send_entries.new.sent items
+      made = made_same g a.order order frozen (λ y. IsSent g order p m y ⊎ (y ≡ nth)) (IsSent g order p (m + 1)) next
+          made (sent_back g order top p l m inside) (sent_next g order top p l m inside);
+      queue = queued_members g.faults g order (columns_of_rows next) scenarios c.send_entries.new.sent items after
+          (next_to g order top p l m inside) (next_from g order top p l m inside)
+          (queued_cubes g order top (columns_of_rows rows) (columns_of_rows next)
+          (place order p) same g.faults scenarios c.send_entries.new.sent items
           (λ y j. queue_early g order top p l (m + 1) y (next_to g order top p l m inside y j)) left);
       same = λ y e. c.loop-item.invariant.same y e ∙ same y e;
     }
@@ -133,10 +161,14 @@ returns-clause-sent c =
     let l = c.requires.process in
     let rows = columns_of_rows c.loop-item.rows.items in
     let before = sent_before g order (node_of g p) (place order p) in
-    let all : c.queue-item-items.result.now ≡ queue_of g p = c.queue-item-items.ensures ∙ ap (λ (h : Graph). queue_of h p) c.problem.ensures.problem in
-    let whole : take m (queue_of g p) ≡ queue_of g p = take_all m (queue_of g p) (omega (arith, ap length all, c.loop-item-test.false)) in
-    queued_members g.faults g order rows scenarios c.loop-item.sent (before ++ queue_of g p) (sent_before g order (node_of g p) (place order p + 1)) (all_to g order top p l) (all_from g order top p l)
-    (subst (λ ys. AreCubesOf g.faults scenarios (queued_by g order rows (before ++ ys)) c.loop-item.sent) whole c.loop-item.invariant.queue)
+    let all : c.queue-item-items.result.now ≡ queue_of g p =
+    c.queue-item-items.ensures ∙ ap (λ (h : Graph). queue_of h p) c.problem.ensures.problem in
+    let whole : take m (queue_of g p) ≡ queue_of g p =
+    take_all m (queue_of g p) (omega (arith, ap length all, c.loop-item-test.false)) in
+    queued_members g.faults g order rows scenarios c.loop-item.sent (before ++ queue_of g p)
+    (sent_before g order (node_of g p) (place order p + 1)) (all_to g order top p l) (all_from g order top p l)
+    (subst (λ ys. AreCubesOf g.faults scenarios (queued_by g order rows (before ++ ys)) c.loop-item.sent) whole
+    c.loop-item.invariant.queue)
 
 pub returns-clause-made : goal.returns-clause-made
 returns-clause-made c =
@@ -144,7 +176,11 @@ returns-clause-made c =
     let g = a.graph in
     let order = c.args.listed.now.order.now in
     let p = c.args.process in
-    let all : c.queue-item-items.result.now ≡ queue_of g p = c.queue-item-items.ensures ∙ ap (λ (h : Graph). queue_of h p) c.problem.ensures.problem in
-    let last : c.loop-item.item-index ≡ length (queue_of g p) = omega (arith, ap length all, c.loop-item-test.false, c.loop-item.auto.item-index-end) in
-    made_next g order c.requires.listed.topological p c.requires.process a.order c.args.listed.now.frozen.now c.loop-item.rows.items
-    (subst (λ n. AreMade g a.order order c.args.listed.now.frozen.now (IsSent g order p n) c.loop-item.rows.items) last c.loop-item.invariant.made)
+    let all : c.queue-item-items.result.now ≡ queue_of g p =
+    c.queue-item-items.ensures ∙ ap (λ (h : Graph). queue_of h p) c.problem.ensures.problem in
+    let last : c.loop-item.item-index ≡ length (queue_of g p) =
+    omega (arith, ap length all, c.loop-item-test.false, c.loop-item.auto.item-index-end) in
+    made_next g order c.requires.listed.topological p c.requires.process a.order c.args.listed.now.frozen.now
+    c.loop-item.rows.items
+    (subst (λ n. AreMade g a.order order c.args.listed.now.frozen.now (IsSent g order p n) c.loop-item.rows.items) last
+    c.loop-item.invariant.made)

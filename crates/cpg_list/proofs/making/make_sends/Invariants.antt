@@ -13,7 +13,9 @@ invariant-loop-item l = record {
       (IsSent l.listed.admitted.now.graph l.listed.order.now l.process l.item-index) l.rows.items;
   queue : AreCubesOf l.listed.admitted.now.graph.faults l.listed.scenarios.now
       (queued_by l.listed.admitted.now.graph l.listed.order.now (columns_of_rows l.rows.items)
-      (sent_before l.listed.admitted.now.graph l.listed.order.now (node_of l.listed.admitted.now.graph l.process) (place l.listed.order.now l.process) ++ take l.item-index
+      (sent_before l.listed.admitted.now.graph l.listed.order.now (node_of l.listed.admitted.now.graph l.process)
+      (place l.listed.order.now l.process) ++ take l.item-index
       (queue_of l.listed.admitted.now.graph l.process))) l.sent;
-  same : SameRowsBefore l.listed.admitted.now.graph l.listed.order.now (place l.listed.order.now l.process) (columns_of_rows l.fn.rows.items) (columns_of_rows l.rows.items);
+  same : SameRowsBefore l.listed.admitted.now.graph l.listed.order.now (place l.listed.order.now l.process)
+      (columns_of_rows l.fn.rows.items) (columns_of_rows l.rows.items);
 }

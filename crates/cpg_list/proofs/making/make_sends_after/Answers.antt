@@ -9,12 +9,18 @@ pub make_sends-requires-clause-ends : goal.make_sends-requires-clause-ends
 make_sends-requires-clause-ends c =
     let g = c.args.listed.now.admitted.now.graph in
     let p = c.args.process in
-    let on : (process_at g p).frozen ≡ true = sym (c.is_frozen.ensures ∙ ap (λ (h : Graph). is_frozen h p) c.problem.ensures.problem ∙ frozen_start g p c.requires.process) ∙ c.if-is_frozen.true in
-    ends_frozen g c.args.listed.now.order.now (columns_of_rows c.args.rows.now.items) c.args.listed.now.scenarios.now p c.in_ok-ends.ends on c.in_ok-ends.ensures
+    let on : (process_at g p).frozen ≡ true =
+    sym (c.is_frozen.ensures ∙ ap (λ (h : Graph). is_frozen h p) c.problem.ensures.problem
+    ∙ frozen_start g p c.requires.process) ∙ c.if-is_frozen.true in
+    ends_frozen g c.args.listed.now.order.now (columns_of_rows c.args.rows.now.items) c.args.listed.now.scenarios.now p
+    c.in_ok-ends.ends on c.in_ok-ends.ensures
 
 pub make_sends-requires-2-clause-ends : goal.make_sends-requires-2-clause-ends
 make_sends-requires-2-clause-ends c =
     let g = c.args.listed.now.admitted.now.graph in
     let p = c.args.process in
-    let off : (process_at g p).frozen ≡ false = sym (c.is_frozen.ensures ∙ ap (λ (h : Graph). is_frozen h p) c.problem.ensures.problem ∙ frozen_start g p c.requires.process) ∙ c.if-is_frozen.false in
-    ends_plain g c.args.listed.now.order.now (columns_of_rows c.args.rows.now.items) c.args.listed.now.scenarios.now p c.args.known.now off c.requires.known
+    let off : (process_at g p).frozen ≡ false =
+    sym (c.is_frozen.ensures ∙ ap (λ (h : Graph). is_frozen h p) c.problem.ensures.problem
+    ∙ frozen_start g p c.requires.process) ∙ c.if-is_frozen.false in
+    ends_plain g c.args.listed.now.order.now
+    (columns_of_rows c.args.rows.now.items) c.args.listed.now.scenarios.now p c.args.known.now off c.requires.known

@@ -19,12 +19,19 @@ start_entries-requires-clause-told c =
     let order = c.args.listed.now.order.now in
     let frozen = c.args.listed.now.frozen.now in
     let p = c.args.process in
-    let timed = timed_of a.graph a.order order a.guards frozen c.problem-problem.ensures.admitted c.requires.listed.topological c.requires.listed.frozen in
-    subst (λ (rs : List Row). (s : Scenario) (t : Times) → IsScenario a.graph s → IsRun a.graph order frozen s t → EarlierTell a.graph order (columns_of_rows rs) s t p) (sym c.as_slice.ensures.value)
-    (told_from a.graph a.order order frozen timed (IsBefore a.graph order (place order p)) c.args.rows.now.items c.requires.made p (λ y h. h))
+    let timed = timed_of a.graph a.order order a.guards frozen c.problem-problem.ensures.admitted
+    c.requires.listed.topological c.requires.listed.frozen in
+    subst (λ (rs : List Row). (s : Scenario) (t : Times) → IsScenario a.graph s → IsRun a.graph order frozen s t →
+    EarlierTell a.graph order (columns_of_rows rs) s t p) (sym c.as_slice.ensures.value)
+    (told_from a.graph a.order order frozen timed
+    (IsBefore a.graph order (place order p)) c.args.rows.now.items c.requires.made p (λ y h. h))
 
 pub set_row-requires-clause-item : goal.set_row-requires-clause-item
-set_row-requires-clause-item c = omega (arith, c.requires.process, count_of c.args.rows.now.items (item_count c.args.listed.now.admitted.now.graph) c.requires.made.items)
+set_row-requires-clause-item c = omega (
+  arith,
+  c.requires.process,
+  count_of c.args.rows.now.items (item_count c.args.listed.now.admitted.now.graph) c.requires.made.items,
+)
 
 pub set_row-requires-clause-entries : goal.set_row-requires-clause-entries
 set_row-requires-clause-entries c =
@@ -32,11 +39,14 @@ set_row-requires-clause-entries c =
     let order = c.args.listed.now.order.now in
     let frozen = c.args.listed.now.frozen.now in
     let p = c.args.process in
-    let timed = timed_of a.graph a.order order a.guards frozen c.problem-problem.ensures.admitted c.requires.listed.topological c.requires.listed.frozen in
+    let timed = timed_of a.graph a.order order a.guards frozen c.problem-problem.ensures.admitted
+    c.requires.listed.topological c.requires.listed.frozen in
     let by = start_by a.graph order c.requires.listed.topological p c.requires.process in
-    mergeable a.graph a.order order frozen timed (IsBefore a.graph order (place order p)) c.args.rows.now.items c.requires.made p (omega (arith, c.requires.process))
+    mergeable a.graph a.order order frozen timed (IsBefore a.graph order (place order p)) c.args.rows.now.items
+    c.requires.made p (omega (arith, c.requires.process))
     (λ y h. omega (arith, h, by)) c.in_ok-entries.entries.items
-    (subst (λ (rs : List Row). AreEntriesOf a.graph order frozen (columns_of_rows rs) p c.in_ok-entries.entries.items) c.as_slice.ensures.value c.in_ok-entries.ensures.entries)
+    (subst (λ (rs : List Row). AreEntriesOf a.graph order frozen (columns_of_rows rs) p c.in_ok-entries.entries.items)
+    c.as_slice.ensures.value c.in_ok-entries.ensures.entries)
 
 pub returns-clause-same : goal.returns-clause-same
 returns-clause-same c =
@@ -44,12 +54,17 @@ returns-clause-same c =
     let order = c.args.listed.now.order.now in
     let frozen = c.args.listed.now.frozen.now in
     let p = c.args.process in
-    let timed = timed_of a.graph a.order order a.guards frozen c.problem-problem.ensures.admitted c.requires.listed.topological c.requires.listed.frozen in
+    let timed = timed_of a.graph a.order order a.guards frozen c.problem-problem.ensures.admitted
+    c.requires.listed.topological c.requires.listed.frozen in
     let by = start_by a.graph order c.requires.listed.topological p c.requires.process in
-    let found = subst (λ (rs : List Row). AreEntriesOf a.graph order frozen (columns_of_rows rs) p c.in_ok-entries.entries.items) c.as_slice.ensures.value c.in_ok-entries.ensures.entries in
-    same_before a.graph a.order order frozen timed (IsBefore a.graph order (place order p)) c.args.rows.now.items c.requires.made p (omega (arith, c.requires.process))
+    let found = subst
+    (λ (rs : List Row). AreEntriesOf a.graph order frozen (columns_of_rows rs) p c.in_ok-entries.entries.items)
+    c.as_slice.ensures.value c.in_ok-entries.ensures.entries in
+    same_before a.graph a.order order frozen timed (IsBefore a.graph order (place order p)) c.args.rows.now.items
+    c.requires.made p (omega (arith, c.requires.process))
     (λ y h. omega (arith, h, by)) c.in_ok-entries.entries.items found
-    (λ h. omega (arith, h, by)) (λ y h. omega (arith, h, by)) c.set_row.new.rows.items c.in_ok-set_row.ensures (place order p) (omega (arith, by))
+    (λ h. omega (arith, h, by)) (λ y h. omega (arith, h, by)) c.set_row.new.rows.items c.in_ok-set_row.ensures
+    (place order p) (omega (arith, by))
 
 pub returns-clause-made : goal.returns-clause-made
 returns-clause-made c =
@@ -57,10 +72,14 @@ returns-clause-made c =
     let order = c.args.listed.now.order.now in
     let frozen = c.args.listed.now.frozen.now in
     let p = c.args.process in
-    let timed = timed_of a.graph a.order order a.guards frozen c.problem-problem.ensures.admitted c.requires.listed.topological c.requires.listed.frozen in
+    let timed = timed_of a.graph a.order order a.guards frozen c.problem-problem.ensures.admitted
+    c.requires.listed.topological c.requires.listed.frozen in
     let by = start_by a.graph order c.requires.listed.topological p c.requires.process in
-    let found = subst (λ (rs : List Row). AreEntriesOf a.graph order frozen (columns_of_rows rs) p c.in_ok-entries.entries.items) c.as_slice.ensures.value c.in_ok-entries.ensures.entries in
-    one_made a.graph a.order order frozen timed (IsBefore a.graph order (place order p)) c.args.rows.now.items c.requires.made p (omega (arith, c.requires.process))
+    let found = subst
+    (λ (rs : List Row). AreEntriesOf a.graph order frozen (columns_of_rows rs) p c.in_ok-entries.entries.items)
+    c.as_slice.ensures.value c.in_ok-entries.ensures.entries in
+    one_made a.graph a.order order frozen timed (IsBefore a.graph order (place order p)) c.args.rows.now.items
+    c.requires.made p (omega (arith, c.requires.process))
     (λ y h. omega (arith, h, by)) c.in_ok-entries.entries.items found
     (λ h. omega (arith, h, by)) (λ y h. omega (arith, h, by)) c.set_row.new.rows.items c.in_ok-set_row.ensures
 
@@ -70,7 +89,10 @@ returns-clause-known c =
     let order = c.args.listed.now.order.now in
     let p = c.args.process in
     let after = before_on_node a.graph order p ++ p ∷ [] in
-    passed_cubes a.graph order c.requires.listed.topological (columns_of_rows c.args.rows.now.items) (columns_of_rows c.set_row.new.rows.items) (place order p) (returns-clause-same c)
-    a.graph.faults c.args.listed.now.scenarios.now c.start_entries.new.known after (own_early a.graph order c.requires.listed.topological p c.requires.process)
-    (subst (λ (rs : List Row). AreCubesOf a.graph.faults c.args.listed.now.scenarios.now (passed_by a.graph (columns_of_rows rs) after) c.start_entries.new.known) c.as_slice.ensures.value
+    passed_cubes a.graph order c.requires.listed.topological (columns_of_rows c.args.rows.now.items)
+    (columns_of_rows c.set_row.new.rows.items) (place order p) (returns-clause-same c)
+    a.graph.faults c.args.listed.now.scenarios.now c.start_entries.new.known after
+    (own_early a.graph order c.requires.listed.topological p c.requires.process)
+    (subst (λ (rs : List Row). AreCubesOf a.graph.faults c.args.listed.now.scenarios.now
+    (passed_by a.graph (columns_of_rows rs) after) c.start_entries.new.known) c.as_slice.ensures.value
     c.in_ok-entries.ensures.known)

@@ -16,9 +16,12 @@ loop-place-init c =
     let n = length c.args.scenarios.now in
     let e = c.problem-problem.ensures.problem in
     record {
-      carried = none_carried g order (columns_of_rows c.in_ok-rows.rows.items) c.args.scenarios.now c.in_ok-known.known.items c.in_ok-sent.sent.items
-          (c.in_ok-known.ensures ∙ ap (λ (h : Graph). replicate (length h.nodes) (replicate n [])) e) (c.in_ok-sent.ensures ∙ ap (λ (h : Graph). replicate (length h.nodes) (replicate n [])) e);
-      made = none_made g order a.order c.args.frozen.now c.in_ok-rows.rows.items (c.in_ok-rows.ensures ∙ ap (λ (h : Graph). map blank (numbers_below (item_count h))) e);
+      carried = none_carried g order (columns_of_rows c.in_ok-rows.rows.items) c.args.scenarios.now
+          c.in_ok-known.known.items c.in_ok-sent.sent.items
+          (c.in_ok-known.ensures ∙ ap (λ (h : Graph). replicate (length h.nodes) (replicate n [])) e)
+          (c.in_ok-sent.ensures ∙ ap (λ (h : Graph). replicate (length h.nodes) (replicate n [])) e);
+      made = none_made g order a.order c.args.frozen.now c.in_ok-rows.rows.items
+          (c.in_ok-rows.ensures ∙ ap (λ (h : Graph). map blank (numbers_below (item_count h))) e);
     }
 
 pub returns-clause-rows : goal.returns-clause-rows
@@ -27,8 +30,16 @@ returns-clause-rows c =
     let g = a.graph in
     let order = c.args.order.now in
     let last : c.loop-place.place ≡ process_count g =
-    omega (arith, ap length c.processes.ensures.processes, ap (λ (h : Graph). process_count h) c.problem-problem.ensures.problem, c.loop-place-test.false, c.loop-place.auto.place-end) in
-    let same : c.in_ok-rows-2.rows.items ≡ c.loop-place.rows.items = c.in_ok-rows-2.ensures ∙ c.as_slice.ensures.value in
+    omega (
+      arith,
+      ap length c.processes.ensures.processes,
+      ap (λ (h : Graph). process_count h) c.problem-problem.ensures.problem,
+      c.loop-place-test.false,
+      c.loop-place.auto.place-end,
+    ) in
+    let same : c.in_ok-rows-2.rows.items ≡ c.loop-place.rows.items =
+    c.in_ok-rows-2.ensures ∙ c.as_slice.ensures.value in
     subst (λ (rs : List Row). AreRows g a.order order c.args.frozen.now (columns_of_rows rs)) (sym same)
     (all_rows g order c.requires.topological a.order c.args.frozen.now c.loop-place.rows.items
-    (subst (λ i. AreMade g a.order order c.args.frozen.now (IsBefore g order i) c.loop-place.rows.items) last c.loop-place.invariant.made))
+    (subst (λ i. AreMade g a.order order c.args.frozen.now (IsBefore g order i) c.loop-place.rows.items) last
+    c.loop-place.invariant.made))

@@ -4,6 +4,8 @@ use Rattle.cpg_list.proofs.making.rows.Given as goal
 
 abbrev pub invariant-loop-place : goal.invariant-loop-place
 invariant-loop-place l = record {
-  carried : AreCarried l.admitted.graph l.order (columns_of_rows l.rows.items) l.scenarios l.place l.known.items l.sent.items;
-  made : AreMade l.admitted.graph l.admitted.order l.order l.frozen (IsBefore l.admitted.graph l.order l.place) l.rows.items;
+  carried : AreCarried l.admitted.graph l.order
+      (columns_of_rows l.rows.items) l.scenarios l.place l.known.items l.sent.items;
+  made : AreMade l.admitted.graph l.admitted.order l.order l.frozen
+      (IsBefore l.admitted.graph l.order l.place) l.rows.items;
 }

@@ -13,6 +13,7 @@ returns c =
     let x = c.args.item in
     let e = c.in-Message.edge in
     let at : item_at g x ≡ Message e = sym c.item.ensures.item ∙ c.in-Message.is in
-    let from : source g e ≡ c.args.process = ap (producer_of_item g) (sym at) ∙ queue_by g c.args.process x c.requires.item in
+    let from : source g e ≡ c.args.process =
+    ap (producer_of_item g) (sym at) ∙ queue_by g c.args.process x c.requires.item in
     let on : is_some (edge_at g e).when ≡ true = search rules in
     value_of g x e c.args.process at from on c.condition_of.result (sym c.condition_of.ensures)

@@ -11,8 +11,13 @@ returns c =
     let g = c.args.admitted.now.graph in
     let s = c.args.scenario.now in
     let p = c.args.process in
-    let first = subst (λ (h : Graph). IsNarrowed h.faults (decided h s p) c.whole-cube.result c.narrow_by_decided.new.cube) c.problem-problem.ensures.problem c.in_ok-narrow_by_decided.ensures in
-    let second = subst (λ (h : Graph). IsNarrowed h.faults (number_known s p ∷ []) c.narrow_by_decided.new.cube c.narrow_to_number.new.cube) c.problem-problem.ensures.problem
+    let first =
+    subst (λ (h : Graph). IsNarrowed h.faults (decided h s p) c.whole-cube.result c.narrow_by_decided.new.cube)
+    c.problem-problem.ensures.problem c.in_ok-narrow_by_decided.ensures in
+    let second = subst (λ (h : Graph). IsNarrowed h.faults (number_known s p ∷ []) c.narrow_by_decided.new.cube
+    c.narrow_to_number.new.cube) c.problem-problem.ensures.problem
     c.in_ok-narrow_to_number.ensures in
-    from_whole g.faults (decided g s p ++ number_known s p ∷ []) c.whole-cube.result c.narrow_to_number.new.cube c.whole-cube.ensures
-    (narrowed_then g.faults (decided g s p) (number_known s p ∷ []) c.whole-cube.result c.narrow_by_decided.new.cube c.narrow_to_number.new.cube first second)
+    from_whole g.faults
+    (decided g s p ++ number_known s p ∷ []) c.whole-cube.result c.narrow_to_number.new.cube c.whole-cube.ensures
+    (narrowed_then g.faults (decided g s p) (number_known s p ∷ []) c.whole-cube.result c.narrow_by_decided.new.cube
+    c.narrow_to_number.new.cube first second)

@@ -7,6 +7,8 @@ use Rattle.cpg_list.proofs.sends.frozen_ends.Given as goal
 abbrev pub invariant-loop-at : goal.invariant-loop-at
 invariant-loop-at l = record {
   count : length l.cubes.items ≡ l.at;
-  each : (i : ℕ) (s : Scenario) → i < l.at → IsCubeOf l.admitted.graph.faults (decided l.admitted.graph (get_or l.scenarios i s) l.process ++ number_known (get_or l.scenarios i s) l.process ∷ [])
+  each : (i : ℕ) (s : Scenario) → i < l.at →
+      IsCubeOf l.admitted.graph.faults (decided l.admitted.graph (get_or l.scenarios i s) l.process
+      ++ number_known (get_or l.scenarios i s) l.process ∷ [])
       (get_or l.cubes.items i []);
 }

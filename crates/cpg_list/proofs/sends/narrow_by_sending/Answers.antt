@@ -7,13 +7,18 @@ use Rattle.cpg_list.proofs.CodeCubes.{narrowed_then}
 use Rattle.cpg_list.proofs.sends.narrow_by_sending.Goals as goal
 
 pub narrow_by_sent_value-requires-clause-item : goal.narrow_by_sent_value-requires-clause-item
-narrow_by_sent_value-requires-clause-item c = subst (λ (h : Graph). Contains (queue_of h c.args.process) c.args.item) (sym c.problem-problem.ensures.problem) c.requires.item
+narrow_by_sent_value-requires-clause-item c = subst (λ (h : Graph). Contains (queue_of h c.args.process) c.args.item)
+    (sym c.problem-problem.ensures.problem) c.requires.item
 
 pub returns : goal.returns
 returns c =
     let g = c.args.admitted.now.graph in
     let s = c.args.scenario.now in
     let e = c.problem-problem.ensures.problem in
-    let first = subst (λ (h : Graph). IsNarrowed h.faults (decided h s c.args.process) c.args.cube.now c.narrow_by_decided.new.cube) e c.in_ok-narrow_by_decided.ensures in
-    let second = subst (λ (h : Graph). IsNarrowed h.faults (sent_by_value h s c.args.item) c.narrow_by_decided.new.cube c.narrow_by_sent_value.new.cube) e c.in_ok-narrow_by_sent_value.ensures in
-    narrowed_then g.faults (decided g s c.args.process) (sent_by_value g s c.args.item) c.args.cube.now c.narrow_by_decided.new.cube c.narrow_by_sent_value.new.cube first second
+    let first = subst
+    (λ (h : Graph). IsNarrowed h.faults (decided h s c.args.process) c.args.cube.now c.narrow_by_decided.new.cube) e
+    c.in_ok-narrow_by_decided.ensures in
+    let second = subst (λ (h : Graph). IsNarrowed h.faults (sent_by_value h s c.args.item) c.narrow_by_decided.new.cube
+    c.narrow_by_sent_value.new.cube) e c.in_ok-narrow_by_sent_value.ensures in
+    narrowed_then g.faults (decided g s c.args.process) (sent_by_value g s c.args.item) c.args.cube.now
+    c.narrow_by_decided.new.cube c.narrow_by_sent_value.new.cube first second

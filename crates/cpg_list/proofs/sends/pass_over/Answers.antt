@@ -12,15 +12,22 @@ returns-in_default c ends =
     let g = c.args.admitted.now.graph in
     let s = c.args.scenario.now in
     let p = c.args.process in
-    let off : active g s.values p ≡ false = sym (process_active g [] s p c.requires.process c.args.times.now c.requires.active) ∙ ap is_some (sym c.time.ensures ∙ c.in_default.is) in
-    subst (λ ls. IsNarrowed g.faults ls c.args.sent.now c.narrow_by_decided.new.cube) (sym (left_idle g s p c.args.item (queue_by g p c.args.item c.requires.item) ends off c.requires.idle))
-    (subst (λ (h : Graph). IsNarrowed h.faults (decided h s p) c.args.sent.now c.narrow_by_decided.new.cube) c.problem.ensures.problem c.in_ok-narrow_by_decided.ensures)
+    let off : active g s.values p ≡ false =
+    sym (process_active g [] s p c.requires.process c.args.times.now c.requires.active)
+    ∙ ap is_some (sym c.time.ensures ∙ c.in_default.is) in
+    subst (λ ls. IsNarrowed g.faults ls c.args.sent.now c.narrow_by_decided.new.cube)
+    (sym (left_idle g s p c.args.item (queue_by g p c.args.item c.requires.item) ends off c.requires.idle))
+    (subst (λ (h : Graph). IsNarrowed h.faults (decided h s p) c.args.sent.now c.narrow_by_decided.new.cube)
+    c.problem.ensures.problem c.in_ok-narrow_by_decided.ensures)
 
 pub returns : goal.returns
 returns c ends =
     let g = c.args.admitted.now.graph in
     let s = c.args.scenario.now in
     let p = c.args.process in
-    let on : active g s.values p ≡ true = sym (process_active g [] s p c.requires.process c.args.times.now c.requires.active) ∙ ap is_some (sym c.time.ensures ∙ c.in-Some.is) in
-    subst (λ ls. IsNarrowed g.faults ls c.args.sent.now c.narrow_by_sending.new.cube) (sym (left_skipped g s p c.args.item (queue_by g p c.args.item c.requires.item) ends on c.requires.idle))
+    let on : active g s.values p ≡ true =
+    sym (process_active g [] s p c.requires.process c.args.times.now c.requires.active)
+    ∙ ap is_some (sym c.time.ensures ∙ c.in-Some.is) in
+    subst (λ ls. IsNarrowed g.faults ls c.args.sent.now c.narrow_by_sending.new.cube)
+    (sym (left_skipped g s p c.args.item (queue_by g p c.args.item c.requires.item) ends on c.requires.idle))
     c.in_ok-narrow_by_sending.ensures

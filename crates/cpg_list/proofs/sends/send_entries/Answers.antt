@@ -18,24 +18,32 @@ loop-at-init c =
     let rows = columns_of_rows c.args.rows.now in
     let before = queued_before g order c.args.item in
     record {
-      found = subst (AreEntriesAmong g order c.args.listed.now.frozen.now rows c.args.item []) (sym c.new-entries.ensures.items) (none_yet g order c.args.listed.now.frozen.now rows c.args.item);
-      carried = none_done g.faults c.args.listed.now.scenarios.now (queued_by g order rows before) (queued_by g order rows (before ++ c.args.item ∷ [])) c.sent.inside.cubes.items
-          (subst (AreCubesOf g.faults c.args.listed.now.scenarios.now (queued_by g order rows before)) (sym c.sent.view_is) c.requires.sent);
+      found = subst (AreEntriesAmong g order c.args.listed.now.frozen.now rows c.args.item [])
+          (sym c.new-entries.ensures.items) (none_yet g order c.args.listed.now.frozen.now rows c.args.item);
+      carried = none_done g.faults c.args.listed.now.scenarios.now (queued_by g order rows before)
+          (queued_by g order rows (before ++ c.args.item ∷ [])) c.sent.inside.cubes.items
+          (subst (AreCubesOf g.faults c.args.listed.now.scenarios.now (queued_by g order rows before))
+          (sym c.sent.view_is) c.requires.sent);
     }
 
 pub send_in-requires-clause-process_active : goal.send_in-requires-clause-process_active
 send_in-requires-clause-process_active c =
     let g = c.args.listed.now.admitted.now.graph in
-    timed_here g c.args.listed.now.order.now c.requires.listed.topological c.args.listed.now.frozen.now [] c.args.process
-    (omega (arith, c.requires.process)) c.args.listed.now.scenarios.now c.args.listed.now.runs.now c.requires.listed.scenarios c.requires.listed.runs
-    c.loop-at.at c.index-scenarios-at.result c.index-runs-at.result c.loop-at-test.true c.index-scenarios-at.is c.index-runs-at.is
+    timed_here g c.args.listed.now.order.now c.requires.listed.topological c.args.listed.now.frozen.now
+    [] c.args.process
+    (omega (arith, c.requires.process)) c.args.listed.now.scenarios.now c.args.listed.now.runs.now
+    c.requires.listed.scenarios c.requires.listed.runs
+    c.loop-at.at c.index-scenarios-at.result c.index-runs-at.result c.loop-at-test.true c.index-scenarios-at.is
+    c.index-runs-at.is
 
 pub send_in-requires-clause-item_active : goal.send_in-requires-clause-item_active
 send_in-requires-clause-item_active c =
     let g = c.args.listed.now.admitted.now.graph in
     timed_here g c.args.listed.now.order.now c.requires.listed.topological c.args.listed.now.frozen.now [] c.args.item
-    (queue_within g c.args.process c.args.item c.requires.item) c.args.listed.now.scenarios.now c.args.listed.now.runs.now c.requires.listed.scenarios c.requires.listed.runs
-    c.loop-at.at c.index-scenarios-at.result c.index-runs-at.result c.loop-at-test.true c.index-scenarios-at.is c.index-runs-at.is
+    (queue_within g c.args.process c.args.item c.requires.item) c.args.listed.now.scenarios.now
+    c.args.listed.now.runs.now c.requires.listed.scenarios c.requires.listed.runs
+    c.loop-at.at c.index-scenarios-at.result c.index-runs-at.result c.loop-at-test.true c.index-scenarios-at.is
+    c.index-runs-at.is
 
 pub loop-at-preserved : goal.loop-at-preserved
 loop-at-preserved c =
@@ -51,30 +59,41 @@ loop-at-preserved c =
     let ends = carried_at_end g order rows s p in
     let cubes = c.loop-at.sent-inside.cubes.items in
     let is = cube_here g.faults c.args.listed.now.scenarios.now (queued_by g order rows before)
-    (queued_by g order rows (before ++ x ∷ [])) c.loop-at.at cubes s c.index_mut.result.now c.loop-at-test.true c.index-scenarios-at.is
+    (queued_by g order rows (before ++ x ∷ [])) c.loop-at.at cubes s c.index_mut.result.now c.loop-at-test.true
+    c.index-scenarios-at.is
     c.loop-at.invariant.carried c.index_mut.ensures.value in
     let end = end_here g order rows c.args.listed.now.scenarios.now p c.ends.inside.cubes.items
-    (subst (AreEndsOf g order rows c.args.listed.now.scenarios.now p) (sym c.ends.view_is) c.requires.ends) c.loop-at.at s c.index.result.now
+    (subst (AreEndsOf g order rows c.args.listed.now.scenarios.now p) (sym c.ends.view_is) c.requires.ends) c.loop-at.at
+    s c.index.result.now
     c.loop-at-test.true c.index-scenarios-at.is c.index.ensures in
-    let entry = subst (λ ls. IsKeptAt g s (get_or t.times x None) ls c.in_ok-entry.entry) (sym (carried_send g order rows s p x c.requires.item)) (c.in_ok-entry.ensures.entry queue ends is end) in
-    let left = subst (λ ls. IsNarrowed g.faults ls c.index_mut.result.now c.send_in.new.sent) (sym (queued_is g order rows s p x c.requires.item)) (c.in_ok-entry.ensures.sent ends end) in
+    let entry = subst (λ ls. IsKeptAt g s (get_or t.times x None) ls c.in_ok-entry.entry)
+    (sym (carried_send g order rows s p x c.requires.item)) (c.in_ok-entry.ensures.entry queue ends is end) in
+    let left = subst (λ ls. IsNarrowed g.faults ls c.index_mut.result.now c.send_in.new.sent)
+    (sym (queued_is g order rows s p x c.requires.item)) (c.in_ok-entry.ensures.sent ends end) in
     record {
       found = found_more g order c.requires.listed.topological c.args.listed.now.frozen.now rows x
-          (queue_within g p x c.requires.item) c.args.listed.now.scenarios.now c.args.listed.now.runs.now c.requires.listed.scenarios c.requires.listed.runs c.loop-at.at s t
-          c.loop-at-test.true c.index-scenarios-at.is c.index-runs-at.is c.loop-at.entries.items c.push_entry.new.entries.items c.loop-at.invariant.found c.in_ok-entry.entry entry
+          (queue_within g p x c.requires.item) c.args.listed.now.scenarios.now c.args.listed.now.runs.now
+          c.requires.listed.scenarios c.requires.listed.runs c.loop-at.at s t
+          c.loop-at-test.true c.index-scenarios-at.is c.index-runs-at.is c.loop-at.entries.items
+          c.push_entry.new.entries.items c.loop-at.invariant.found c.in_ok-entry.entry entry
           c.in_ok-push_entry.ensures;
       carried = one_done g.faults c.args.listed.now.scenarios.now (queued_by g order rows before)
-          (queued_by g order rows (before ++ x ∷ [])) c.loop-at.at cubes s c.send_in.new.sent c.loop-at-test.true c.loop-at.invariant.carried
-          c.index-scenarios-at.is (subst (λ ls. IsCubeOf g.faults ls c.send_in.new.sent) (flat_map_push (queued g order rows s) before x) (left.by queue is));
+          (queued_by g order rows (before ++ x ∷ [])) c.loop-at.at cubes s c.send_in.new.sent c.loop-at-test.true
+          c.loop-at.invariant.carried
+          c.index-scenarios-at.is (subst (λ ls. IsCubeOf g.faults ls c.send_in.new.sent)
+          (flat_map_push (queued g order rows s) before x) (left.by queue is));
     }
 
 pub returns-clause-entries : goal.returns-clause-entries
 returns-clause-entries c =
     let g = c.args.listed.now.admitted.now.graph in
     let rows = columns_of_rows c.args.rows.now in
-    let all : take c.loop-at.at c.args.listed.now.scenarios.now ≡ c.args.listed.now.scenarios.now = take_all c.loop-at.at c.args.listed.now.scenarios.now c.loop-at-test.false in
-    all_found g c.args.listed.now.order.now c.args.listed.now.frozen.now rows c.args.item c.args.listed.now.scenarios.now c.loop-at.entries.items
-    (subst (λ ds. AreEntriesAmong g c.args.listed.now.order.now c.args.listed.now.frozen.now rows c.args.item ds c.loop-at.entries.items) all c.loop-at.invariant.found) c.requires.listed.scenarios.all
+    let all : take c.loop-at.at c.args.listed.now.scenarios.now ≡ c.args.listed.now.scenarios.now =
+    take_all c.loop-at.at c.args.listed.now.scenarios.now c.loop-at-test.false in
+    all_found g c.args.listed.now.order.now c.args.listed.now.frozen.now rows c.args.item
+    c.args.listed.now.scenarios.now c.loop-at.entries.items
+    (subst (λ ds. AreEntriesAmong g c.args.listed.now.order.now c.args.listed.now.frozen.now rows c.args.item ds
+    c.loop-at.entries.items) all c.loop-at.invariant.found) c.requires.listed.scenarios.all
 
 pub returns-clause-sent : goal.returns-clause-sent
 returns-clause-sent c =
@@ -82,5 +101,6 @@ returns-clause-sent c =
     let order = c.args.listed.now.order.now in
     let rows = columns_of_rows c.args.rows.now in
     let before = queued_before g order c.args.item in
-    all_done g.faults c.args.listed.now.scenarios.now (queued_by g order rows before) (queued_by g order rows (before ++ c.args.item ∷ [])) c.loop-at.at c.loop-at.sent-inside.cubes.items
+    all_done g.faults c.args.listed.now.scenarios.now (queued_by g order rows before)
+    (queued_by g order rows (before ++ c.args.item ∷ [])) c.loop-at.at c.loop-at.sent-inside.cubes.items
     c.loop-at-test.false c.loop-at.invariant.carried

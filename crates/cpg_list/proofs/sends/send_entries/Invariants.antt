@@ -7,9 +7,12 @@ use Rattle.cpg_list.proofs.sends.send_entries.Given as goal
 
 abbrev pub invariant-loop-at : goal.invariant-loop-at
 invariant-loop-at l = record {
-  found : AreEntriesAmong l.listed.admitted.now.graph l.listed.order.now l.listed.frozen.now (columns_of_rows l.rows) l.item (take l.at l.listed.scenarios.now) l.entries.items;
+  found : AreEntriesAmong l.listed.admitted.now.graph l.listed.order.now l.listed.frozen.now
+      (columns_of_rows l.rows) l.item (take l.at l.listed.scenarios.now) l.entries.items;
   carried : AreCubesUpTo l.listed.admitted.now.graph.faults l.listed.scenarios.now
-      (queued_by l.listed.admitted.now.graph l.listed.order.now (columns_of_rows l.rows) (queued_before l.listed.admitted.now.graph l.listed.order.now l.item))
-      (queued_by l.listed.admitted.now.graph l.listed.order.now (columns_of_rows l.rows) (queued_before l.listed.admitted.now.graph l.listed.order.now l.item ++ l.item ∷ [])) l.at
+      (queued_by l.listed.admitted.now.graph l.listed.order.now (columns_of_rows l.rows)
+      (queued_before l.listed.admitted.now.graph l.listed.order.now l.item))
+      (queued_by l.listed.admitted.now.graph l.listed.order.now (columns_of_rows l.rows)
+      (queued_before l.listed.admitted.now.graph l.listed.order.now l.item ++ l.item ∷ [])) l.at
       l.sent-inside.cubes.items;
 }

@@ -14,10 +14,13 @@ returns-clause-entry c queue ends =
     let s = c.args.scenario.now in
     let p = c.args.process in
     let literals = decided g s p ++ sent_by_value g s c.args.item in
-    let is = from_whole g.faults literals c.whole-cube.result c.narrow_by_sending.new.cube c.whole-cube.ensures c.in_ok-narrow_by_sending.ensures in
-    subst (λ ls. IsKeptOf g s c.args.time ls c.in_ok-entry.entry) (sym (sends_frozen g s p c.args.item (queue_by g p c.args.item c.requires.item) ends queue c.requires.frozen))
+    let is = from_whole g.faults literals c.whole-cube.result c.narrow_by_sending.new.cube c.whole-cube.ensures
+    c.in_ok-narrow_by_sending.ensures in
+    subst (λ ls. IsKeptOf g s c.args.time ls c.in_ok-entry.entry)
+    (sym (sends_frozen g s p c.args.item (queue_by g p c.args.item c.requires.item) ends queue c.requires.frozen))
     (kept_of g s c.args.time literals c.narrow_by_sending.new.cube is c.in_ok-entry.entry
-    (subst (λ (h : Graph). IsLeastEntry h s c.args.time c.narrow_by_sending.new.cube c.in_ok-entry.entry) c.problem.ensures.problem c.in_ok-entry.ensures))
+    (subst (λ (h : Graph). IsLeastEntry h s c.args.time c.narrow_by_sending.new.cube c.in_ok-entry.entry)
+    c.problem.ensures.problem c.in_ok-entry.ensures))
 
 pub returns-clause-sent : goal.returns-clause-sent
 returns-clause-sent c ends =
@@ -27,7 +30,10 @@ returns-clause-sent c ends =
     let x = c.args.item in
     let literals = decided g s p ++ sent_by_value g s x in
     let by = queue_by g p x c.requires.item in
-    let is = from_whole g.faults literals c.whole-cube.result c.narrow_by_sending.new.cube c.whole-cube.ensures c.in_ok-narrow_by_sending.ensures in
-    let on : active g s.values p ≡ true = ap (active g s.values) (sym by) ∙ producer_active g s.values (item_at g x) c.requires.active in
-    subst (λ ls. IsNarrowed g.faults ls c.args.sent.now c.narrow_by_cube.new.cube) (sym (left_frozen g s p x by ends on c.requires.active c.requires.frozen))
+    let is = from_whole g.faults literals c.whole-cube.result c.narrow_by_sending.new.cube c.whole-cube.ensures
+    c.in_ok-narrow_by_sending.ensures in
+    let on : active g s.values p ≡ true =
+    ap (active g s.values) (sym by) ∙ producer_active g s.values (item_at g x) c.requires.active in
+    subst (λ ls. IsNarrowed g.faults ls c.args.sent.now c.narrow_by_cube.new.cube)
+    (sym (left_frozen g s p x by ends on c.requires.active c.requires.frozen))
     (c.in_ok-narrow_by_cube.ensures g.faults literals is)

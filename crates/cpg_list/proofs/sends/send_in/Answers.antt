@@ -15,13 +15,16 @@ is_frozen-requires c = subst (λ (h : Graph). c.args.sending.item < item_count h
     (queue_within c.args.admitted.now.graph c.args.sending.process c.args.sending.item c.requires.item)
 
 pub send_plain-requires-clause-item : goal.send_plain-requires-clause-item
-send_plain-requires-clause-item c = subst (λ (h : Graph). Contains (queue_of h c.args.sending.process) c.args.sending.item) (sym c.problem-problem.ensures.problem) c.requires.item
+send_plain-requires-clause-item c =
+    subst (λ (h : Graph). Contains (queue_of h c.args.sending.process) c.args.sending.item)
+    (sym c.problem-problem.ensures.problem) c.requires.item
 
 pub returns-then-is_frozen-clause-entry : goal.returns-then-is_frozen-clause-entry
 returns-then-is_frozen-clause-entry c queue ends is_queue is_end =
     let g = c.args.admitted.now.graph in
     let s = c.args.scenario.now in
-    subst (λ o. IsKeptAt g s o (send_after g s c.args.sending.item queue ends) c.in_ok-entry.entry) (sym c.in-Some.is ∙ c.time.ensures) (c.in_ok-entry.ensures.entry queue ends)
+    subst (λ o. IsKeptAt g s o (send_after g s c.args.sending.item queue ends) c.in_ok-entry.entry)
+    (sym c.in-Some.is ∙ c.time.ensures) (c.in_ok-entry.ensures.entry queue ends)
 
 pub returns-clause-entry : goal.returns-clause-entry
 returns-clause-entry c queue ends is_queue is_end =
@@ -29,11 +32,15 @@ returns-clause-entry c queue ends is_queue is_end =
     let s = c.args.scenario.now in
     let x = c.args.sending.item in
     let p = c.args.sending.process in
-    let acts : item_active g s.values (item_at g x) ≡ true = sym c.requires.item_active ∙ ap is_some (sym c.time.ensures ∙ c.in-Some.is) in
-    let on : active g s.values p ≡ true = ap (active g s.values) (sym (queue_by g p x c.requires.item)) ∙ producer_active g s.values (item_at g x) acts in
+    let acts : item_active g s.values (item_at g x) ≡ true =
+    sym c.requires.item_active ∙ ap is_some (sym c.time.ensures ∙ c.in-Some.is) in
+    let on : active g s.values p ≡ true =
+    ap (active g s.values) (sym (queue_by g p x c.requires.item)) ∙ producer_active g s.values (item_at g x) acts in
     let found = subst (λ (h : Graph). IsCubeOf h.faults queue c.args.sent.now → IsCubeOf h.faults ends c.args.end.now →
-    IsKeptOf h s c.in-Some.time (send_after h s x queue ends) c.in_ok-entry-2.entry) c.problem-problem.ensures.problem (c.in_ok-entry-2.ensures.entry queue ends) in
-    subst (λ o. IsKeptAt g s o (send_after g s x queue ends) c.in_ok-entry-2.entry) (sym c.in-Some.is ∙ c.time.ensures) (found is_queue (is_end.cube on))
+    IsKeptOf h s c.in-Some.time (send_after h s x queue ends) c.in_ok-entry-2.entry) c.problem-problem.ensures.problem
+    (c.in_ok-entry-2.ensures.entry queue ends) in
+    subst (λ o. IsKeptAt g s o (send_after g s x queue ends) c.in_ok-entry-2.entry) (sym c.in-Some.is ∙ c.time.ensures)
+    (found is_queue (is_end.cube on))
 
 pub returns-clause-sent : goal.returns-clause-sent
 returns-clause-sent c ends is_end =
@@ -41,8 +48,11 @@ returns-clause-sent c ends is_end =
     let s = c.args.scenario.now in
     let x = c.args.sending.item in
     let p = c.args.sending.process in
-    let acts : item_active g s.values (item_at g x) ≡ true = sym c.requires.item_active ∙ ap is_some (sym c.time.ensures ∙ c.in-Some.is) in
-    let on : active g s.values p ≡ true = ap (active g s.values) (sym (queue_by g p x c.requires.item)) ∙ producer_active g s.values (item_at g x) acts in
-    let found = subst (λ (h : Graph). IsCubeOf h.faults ends c.args.end.now → Within (decided h s p) ends → IsNarrowed h.faults (queued_after h s x ends) c.args.sent.now c.send_plain.new.sent)
+    let acts : item_active g s.values (item_at g x) ≡ true =
+    sym c.requires.item_active ∙ ap is_some (sym c.time.ensures ∙ c.in-Some.is) in
+    let on : active g s.values p ≡ true =
+    ap (active g s.values) (sym (queue_by g p x c.requires.item)) ∙ producer_active g s.values (item_at g x) acts in
+    let found = subst (λ (h : Graph). IsCubeOf h.faults ends c.args.end.now → Within (decided h s p) ends →
+    IsNarrowed h.faults (queued_after h s x ends) c.args.sent.now c.send_plain.new.sent)
     c.problem-problem.ensures.problem (c.in_ok-entry-2.ensures.sent ends) in
     found (is_end.cube on) is_end.decided

@@ -17,8 +17,10 @@ returns-clause-entry c queue ends is_queue is_ends =
     let x = c.args.sending.item in
     let first = (c.in_ok-narrow_by_cube.ensures g.faults ends is_ends).by queue is_queue in
     let both = c.in_ok-narrow_by_sent_value.ensures.by (queue ++ ends) first in
-    subst (λ ls. IsKeptOf g s c.args.time ls c.in_ok-entry.entry) (sym (sends_plain g s p x (queue_by g p x c.requires.item) ends queue c.requires.plain))
-    (kept_of g s c.args.time (queue ++ ends ++ sent_by_value g s x) c.narrow_by_sent_value.new.cube both c.in_ok-entry.entry c.in_ok-entry.ensures)
+    subst (λ ls. IsKeptOf g s c.args.time ls c.in_ok-entry.entry)
+    (sym (sends_plain g s p x (queue_by g p x c.requires.item) ends queue c.requires.plain))
+    (kept_of g s c.args.time (queue ++ ends ++ sent_by_value g s x) c.narrow_by_sent_value.new.cube both
+    c.in_ok-entry.entry c.in_ok-entry.ensures)
 
 pub returns-clause-sent : goal.returns-clause-sent
 returns-clause-sent c ends is_ends within =
@@ -27,8 +29,12 @@ returns-clause-sent c ends is_ends within =
     let p = c.args.sending.process in
     let x = c.args.sending.item in
     let by = queue_by g p x c.requires.item in
-    let on : active g s.values p ≡ true = ap (active g s.values) (sym by) ∙ producer_active g s.values (item_at g x) c.requires.active in
-    subst (λ ls. IsNarrowed g.faults ls c.args.sent.now c.narrow_by_sent_value.new.cube) (sym (left_plain g s p x by ends on c.requires.active c.requires.plain))
-    (end_with_value g.faults (decided g s p) (sent_by_value g s x) ends c.args.sent.now c.narrow_by_sent_value.new.cube within
-    (narrowed_then g.faults ends (sent_by_value g s x) c.args.sent.now c.narrow_by_cube.new.cube c.narrow_by_sent_value.new.cube
+    let on : active g s.values p ≡ true =
+    ap (active g s.values) (sym by) ∙ producer_active g s.values (item_at g x) c.requires.active in
+    subst (λ ls. IsNarrowed g.faults ls c.args.sent.now c.narrow_by_sent_value.new.cube)
+    (sym (left_plain g s p x by ends on c.requires.active c.requires.plain))
+    (end_with_value g.faults (decided g s p)
+    (sent_by_value g s x) ends c.args.sent.now c.narrow_by_sent_value.new.cube within
+    (narrowed_then g.faults ends
+    (sent_by_value g s x) c.args.sent.now c.narrow_by_cube.new.cube c.narrow_by_sent_value.new.cube
     (c.in_ok-narrow_by_cube.ensures g.faults ends is_ends) c.in_ok-narrow_by_sent_value.ensures))

@@ -7,5 +7,6 @@ returns c =
     let g = c.args.problem.now in
     let s = c.args.scenario.now in
     let literals = decided g s c.args.process in
-    kept_of g s c.args.time literals c.narrow_by_decided.new.cube (from_whole g.faults literals c.whole-cube.result c.narrow_by_decided.new.cube c.whole-cube.ensures c.in_ok-narrow_by_decided.ensures)
+    kept_of g s c.args.time literals c.narrow_by_decided.new.cube (from_whole g.faults literals c.whole-cube.result
+    c.narrow_by_decided.new.cube c.whole-cube.ensures c.in_ok-narrow_by_decided.ensures)
     c.in_ok-entry.entry c.in_ok-entry.ensures

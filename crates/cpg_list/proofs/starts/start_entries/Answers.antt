@@ -7,7 +7,8 @@ use Rattle.cpg_run.specs.Found.{columns_of_rows}
 use Rattle.cpg_list.specs.Narrowing.{IsKeptAt}
 use Rattle.cpg_run.specs.Rows.{IsCubeOf}
 use Rattle.cpg_run.proofs.CarriedBefore.{hears_earlier, receives_earlier}
-use Rattle.cpg_list.proofs.CodeStarts.{timed_if_active, run_at, scenario_at, carried_start, none_done, all_done, one_done, flat_map_push, found_more, cube_here}
+use Rattle.cpg_list.proofs.CodeStarts.{timed_if_active, run_at, scenario_at, carried_start, none_done, all_done}
+use Rattle.cpg_list.proofs.CodeStarts.{one_done, flat_map_push, found_more, cube_here}
 use Rattle.cpg_run.proofs.EntriesFound.{AreEntriesAmong, none_yet, all_found}
 use Rattle.cpg_list.proofs.starts.start_entries.Goals as goal
 
@@ -17,26 +18,33 @@ loop-at-init c =
     let rows = columns_of_rows c.args.rows.now in
     let before = before_on_node g c.args.listed.now.order.now c.args.process in
     record {
-      found = subst (AreEntriesAmong g c.args.listed.now.order.now c.args.listed.now.frozen.now rows c.args.process []) (sym c.new-entries.ensures.items)
+      found = subst (AreEntriesAmong g c.args.listed.now.order.now c.args.listed.now.frozen.now rows c.args.process [])
+          (sym c.new-entries.ensures.items)
           (none_yet g c.args.listed.now.order.now c.args.listed.now.frozen.now rows c.args.process);
-      carried = none_done g.faults c.args.listed.now.scenarios.now (passed_by g rows before) (passed_by g rows (before ++ c.args.process ∷ [])) c.known.inside.cubes.items
-          (subst (AreCubesOf g.faults c.args.listed.now.scenarios.now (passed_by g rows before)) (sym c.known.view_is) c.requires.known);
+      carried = none_done g.faults c.args.listed.now.scenarios.now (passed_by g rows before)
+          (passed_by g rows (before ++ c.args.process ∷ [])) c.known.inside.cubes.items
+          (subst (AreCubesOf g.faults c.args.listed.now.scenarios.now (passed_by g rows before))
+          (sym c.known.view_is) c.requires.known);
     }
 
 pub start_in-requires-clause-active : goal.start_in-requires-clause-active
 start_in-requires-clause-active c =
     let g = c.args.listed.now.admitted.now.graph in
-    let run = run_at g c.args.listed.now.order.now c.args.listed.now.frozen.now c.args.listed.now.scenarios.now c.args.listed.now.runs.now c.requires.listed.runs c.loop-at.at
+    let run = run_at g c.args.listed.now.order.now c.args.listed.now.frozen.now c.args.listed.now.scenarios.now
+    c.args.listed.now.runs.now c.requires.listed.runs c.loop-at.at
     c.index-scenarios-at.result c.index-runs-at.result c.loop-at-test.true c.index-scenarios-at.is c.index-runs-at.is in
-    timed_if_active g c.args.listed.now.order.now c.args.listed.now.frozen.now c.index-scenarios-at.result c.index-runs-at.result run c.args.process (omega (arith, c.requires.process))
+    timed_if_active g c.args.listed.now.order.now c.args.listed.now.frozen.now c.index-scenarios-at.result
+    c.index-runs-at.result run c.args.process (omega (arith, c.requires.process))
 
 pub start_in-requires-clause-heard : goal.start_in-requires-clause-heard
 start_in-requires-clause-heard c d j =
     let g = c.args.listed.now.admitted.now.graph in
     let s = c.index-scenarios-at.result in
-    let run = run_at g c.args.listed.now.order.now c.args.listed.now.frozen.now c.args.listed.now.scenarios.now c.args.listed.now.runs.now c.requires.listed.runs c.loop-at.at s c.index-runs-at.result
+    let run = run_at g c.args.listed.now.order.now c.args.listed.now.frozen.now c.args.listed.now.scenarios.now
+    c.args.listed.now.runs.now c.requires.listed.runs c.loop-at.at s c.index-runs-at.result
     c.loop-at-test.true c.index-scenarios-at.is c.index-runs-at.is in
-    let law = c.requires.listed.scenarios.lawful s (scenario_at c.args.listed.now.scenarios.now c.loop-at.at s c.loop-at-test.true c.index-scenarios-at.is) in
+    let law = c.requires.listed.scenarios.lawful s
+    (scenario_at c.args.listed.now.scenarios.now c.loop-at.at s c.loop-at-test.true c.index-scenarios-at.is) in
     let r = hears_earlier g c.args.listed.now.order.now c.requires.listed.topological s c.args.process d j in
     c.requires.told s c.index-runs-at.result law run _ r.0 r.1
 
@@ -44,9 +52,11 @@ pub start_in-requires-clause-received : goal.start_in-requires-clause-received
 start_in-requires-clause-received c e j =
     let g = c.args.listed.now.admitted.now.graph in
     let s = c.index-scenarios-at.result in
-    let run = run_at g c.args.listed.now.order.now c.args.listed.now.frozen.now c.args.listed.now.scenarios.now c.args.listed.now.runs.now c.requires.listed.runs c.loop-at.at s c.index-runs-at.result
+    let run = run_at g c.args.listed.now.order.now c.args.listed.now.frozen.now c.args.listed.now.scenarios.now
+    c.args.listed.now.runs.now c.requires.listed.runs c.loop-at.at s c.index-runs-at.result
     c.loop-at-test.true c.index-scenarios-at.is c.index-runs-at.is in
-    let law = c.requires.listed.scenarios.lawful s (scenario_at c.args.listed.now.scenarios.now c.loop-at.at s c.loop-at-test.true c.index-scenarios-at.is) in
+    let law = c.requires.listed.scenarios.lawful s
+    (scenario_at c.args.listed.now.scenarios.now c.loop-at.at s c.loop-at-test.true c.index-scenarios-at.is) in
     let r = receives_earlier g c.args.listed.now.order.now c.requires.listed.topological c.args.process e j in
     c.requires.told s c.index-runs-at.result law run _ r.0 r.1
 
@@ -61,27 +71,36 @@ loop-at-preserved c =
     let before = before_on_node g order p in
     let earlier = passed_by g rows before s in
     let cubes = c.loop-at.known-inside.cubes.items in
-    let is = cube_here g.faults c.args.listed.now.scenarios.now (passed_by g rows before) (passed_by g rows (before ++ p ∷ [])) c.loop-at.at cubes s c.index_mut.result.now c.loop-at-test.true
+    let is = cube_here g.faults c.args.listed.now.scenarios.now (passed_by g rows before)
+    (passed_by g rows (before ++ p ∷ [])) c.loop-at.at cubes s c.index_mut.result.now c.loop-at-test.true
     c.index-scenarios-at.is
     c.loop-at.invariant.carried c.index_mut.ensures.value in
-    let entry = subst (λ ls. IsKeptAt g s (get_or t.times p None) ls c.in_ok-entry.entry) (sym (carried_start g order rows s p c.requires.process)) (c.in_ok-entry.ensures.entry earlier is) in
+    let entry = subst (λ ls. IsKeptAt g s (get_or t.times p None) ls c.in_ok-entry.entry)
+    (sym (carried_start g order rows s p c.requires.process)) (c.in_ok-entry.ensures.entry earlier is) in
     record {
       found = found_more g order c.requires.listed.topological c.args.listed.now.frozen.now rows p
-          (omega (arith, c.requires.process)) c.args.listed.now.scenarios.now c.args.listed.now.runs.now c.requires.listed.scenarios c.requires.listed.runs c.loop-at.at s t
-          c.loop-at-test.true c.index-scenarios-at.is c.index-runs-at.is c.loop-at.entries.items c.push_entry.new.entries.items c.loop-at.invariant.found c.in_ok-entry.entry entry
+          (omega (arith, c.requires.process)) c.args.listed.now.scenarios.now c.args.listed.now.runs.now
+          c.requires.listed.scenarios c.requires.listed.runs c.loop-at.at s t
+          c.loop-at-test.true c.index-scenarios-at.is c.index-runs-at.is c.loop-at.entries.items
+          c.push_entry.new.entries.items c.loop-at.invariant.found c.in_ok-entry.entry entry
           c.in_ok-push_entry.ensures;
       carried = one_done g.faults c.args.listed.now.scenarios.now (passed_by g rows before)
-          (passed_by g rows (before ++ p ∷ [])) c.loop-at.at cubes s c.start_in.new.cube c.loop-at-test.true c.loop-at.invariant.carried
-          c.index-scenarios-at.is (subst (λ ls. IsCubeOf g.faults ls c.start_in.new.cube) (flat_map_push (passed g rows s) before p) (c.in_ok-entry.ensures.carried.by earlier is));
+          (passed_by g rows (before ++ p ∷ [])) c.loop-at.at cubes s c.start_in.new.cube c.loop-at-test.true
+          c.loop-at.invariant.carried
+          c.index-scenarios-at.is (subst (λ ls. IsCubeOf g.faults ls c.start_in.new.cube)
+          (flat_map_push (passed g rows s) before p) (c.in_ok-entry.ensures.carried.by earlier is));
     }
 
 pub returns-clause-entries : goal.returns-clause-entries
 returns-clause-entries c =
     let g = c.args.listed.now.admitted.now.graph in
     let rows = columns_of_rows c.args.rows.now in
-    let all : take c.loop-at.at c.args.listed.now.scenarios.now ≡ c.args.listed.now.scenarios.now = take_all c.loop-at.at c.args.listed.now.scenarios.now c.loop-at-test.false in
-    all_found g c.args.listed.now.order.now c.args.listed.now.frozen.now rows c.args.process c.args.listed.now.scenarios.now c.loop-at.entries.items
-    (subst (λ ds. AreEntriesAmong g c.args.listed.now.order.now c.args.listed.now.frozen.now rows c.args.process ds c.loop-at.entries.items) all c.loop-at.invariant.found)
+    let all : take c.loop-at.at c.args.listed.now.scenarios.now ≡ c.args.listed.now.scenarios.now =
+    take_all c.loop-at.at c.args.listed.now.scenarios.now c.loop-at-test.false in
+    all_found g c.args.listed.now.order.now c.args.listed.now.frozen.now rows c.args.process
+    c.args.listed.now.scenarios.now c.loop-at.entries.items
+    (subst (λ ds. AreEntriesAmong g c.args.listed.now.order.now c.args.listed.now.frozen.now rows c.args.process ds
+    c.loop-at.entries.items) all c.loop-at.invariant.found)
     c.requires.listed.scenarios.all
 
 pub returns-clause-known : goal.returns-clause-known
@@ -89,5 +108,6 @@ returns-clause-known c =
     let g = c.args.listed.now.admitted.now.graph in
     let rows = columns_of_rows c.args.rows.now in
     let before = before_on_node g c.args.listed.now.order.now c.args.process in
-    all_done g.faults c.args.listed.now.scenarios.now (passed_by g rows before) (passed_by g rows (before ++ c.args.process ∷ [])) c.loop-at.at c.loop-at.known-inside.cubes.items c.loop-at-test.false
+    all_done g.faults c.args.listed.now.scenarios.now (passed_by g rows before) (passed_by g rows
+    (before ++ c.args.process ∷ [])) c.loop-at.at c.loop-at.known-inside.cubes.items c.loop-at-test.false
     c.loop-at.invariant.carried

@@ -7,8 +7,11 @@ use Rattle.cpg_list.proofs.starts.start_entries.Given as goal
 
 abbrev pub invariant-loop-at : goal.invariant-loop-at
 invariant-loop-at l = record {
-  found : AreEntriesAmong l.listed.admitted.now.graph l.listed.order.now l.listed.frozen.now (columns_of_rows l.rows) l.process (take l.at l.listed.scenarios.now) l.entries.items;
+  found : AreEntriesAmong l.listed.admitted.now.graph l.listed.order.now l.listed.frozen.now
+      (columns_of_rows l.rows) l.process (take l.at l.listed.scenarios.now) l.entries.items;
   carried : AreCubesUpTo l.listed.admitted.now.graph.faults l.listed.scenarios.now
-      (passed_by l.listed.admitted.now.graph (columns_of_rows l.rows) (before_on_node l.listed.admitted.now.graph l.listed.order.now l.process))
-      (passed_by l.listed.admitted.now.graph (columns_of_rows l.rows) (before_on_node l.listed.admitted.now.graph l.listed.order.now l.process ++ l.process ∷ [])) l.at l.known-inside.cubes.items;
+      (passed_by l.listed.admitted.now.graph (columns_of_rows l.rows)
+      (before_on_node l.listed.admitted.now.graph l.listed.order.now l.process))
+      (passed_by l.listed.admitted.now.graph (columns_of_rows l.rows) (before_on_node l.listed.admitted.now.graph
+      l.listed.order.now l.process ++ l.process ∷ [])) l.at l.known-inside.cubes.items;
 }

@@ -14,11 +14,13 @@ use Rattle.cpg_list.proofs.starts.start_in.Goals as goal
 pub narrow_by_heard-requires-clause-told : goal.narrow_by_heard-requires-clause-told
 narrow_by_heard-requires-clause-told c =
     subst (λ (h : Graph). (d : ℕ) → Contains (deciding h c.args.frames.now.scenario.now.values c.args.process) d →
-    RowTells h (columns_of_rows c.args.frames.now.rows.now) c.args.frames.now.scenario.now c.args.frames.now.times.now (broadcast_item h d)) (sym c.requires.graph) c.requires.heard
+    RowTells h (columns_of_rows c.args.frames.now.rows.now) c.args.frames.now.scenario.now c.args.frames.now.times.now
+    (broadcast_item h d)) (sym c.requires.graph) c.requires.heard
 
 pub started-requires-clause-told : goal.started-requires-clause-told
 started-requires-clause-told c =
-    subst (λ (h : Graph). (e : ℕ) → Contains (inputs h c.args.process) e → RowTells h (columns_of_rows c.args.frames.now.rows.now) c.args.frames.now.scenario.now c.args.frames.now.times.now
+    subst (λ (h : Graph). (e : ℕ) → Contains (inputs h c.args.process) e → RowTells h
+    (columns_of_rows c.args.frames.now.rows.now) c.args.frames.now.scenario.now c.args.frames.now.times.now
     (message_item h e)) (sym c.requires.graph) c.requires.received
 
 pub returns-in_default-clause-carried : goal.returns-in_default-clause-carried
@@ -28,11 +30,17 @@ returns-in_default-clause-carried c =
     let p = c.args.process in
     let rows = columns_of_rows c.args.frames.now.rows.now in
     let e = c.requires.graph in
-    let first = subst (λ (h : Graph). IsNarrowed h.faults (decided h s p) c.args.cube.now c.narrow_by_decided.new.cube) e c.in_ok-narrow_by_decided.ensures in
-    let second = subst (λ (h : Graph). IsNarrowed h.faults (heard h rows s p) c.narrow_by_decided.new.cube c.narrow_by_heard.new.cube) e c.in_ok-narrow_by_heard.ensures in
-    let off : active g s.values p ≡ false = sym (process_active g rows s p c.requires.process c.args.frames.now.times.now c.requires.active) ∙ ap is_some (sym c.time.ensures ∙ c.in_default.is) in
+    let first = subst (λ (h : Graph). IsNarrowed h.faults (decided h s p) c.args.cube.now c.narrow_by_decided.new.cube)
+    e c.in_ok-narrow_by_decided.ensures in
+    let second = subst
+    (λ (h : Graph). IsNarrowed h.faults (heard h rows s p) c.narrow_by_decided.new.cube c.narrow_by_heard.new.cube)
+    e c.in_ok-narrow_by_heard.ensures in
+    let off : active g s.values p ≡ false =
+    sym (process_active g rows s p c.requires.process c.args.frames.now.times.now c.requires.active)
+    ∙ ap is_some (sym c.time.ensures ∙ c.in_default.is) in
     subst (λ ls. IsNarrowed g.faults ls c.args.cube.now c.narrow_by_heard.new.cube) (sym (passed_idle g rows s p off))
-    (narrowed_then g.faults (decided g s p) (heard g rows s p) c.args.cube.now c.narrow_by_decided.new.cube c.narrow_by_heard.new.cube first second)
+    (narrowed_then g.faults (decided g s p)
+    (heard g rows s p) c.args.cube.now c.narrow_by_decided.new.cube c.narrow_by_heard.new.cube first second)
 
 pub returns-clause-entry : goal.returns-clause-entry
 returns-clause-entry c earlier is =
@@ -41,12 +49,18 @@ returns-clause-entry c earlier is =
     let p = c.args.process in
     let rows = columns_of_rows c.args.frames.now.rows.now in
     let e = c.requires.graph in
-    let first = subst (λ (h : Graph). IsNarrowed h.faults (decided h s p) c.args.cube.now c.narrow_by_decided.new.cube) e c.in_ok-narrow_by_decided.ensures in
-    let second = subst (λ (h : Graph). IsNarrowed h.faults (heard h rows s p) c.narrow_by_decided.new.cube c.narrow_by_heard.new.cube) e c.in_ok-narrow_by_heard.ensures in
+    let first = subst (λ (h : Graph). IsNarrowed h.faults (decided h s p) c.args.cube.now c.narrow_by_decided.new.cube)
+    e c.in_ok-narrow_by_decided.ensures in
+    let second = subst
+    (λ (h : Graph). IsNarrowed h.faults (heard h rows s p) c.narrow_by_decided.new.cube c.narrow_by_heard.new.cube)
+    e c.in_ok-narrow_by_heard.ensures in
     let before = second.by (earlier ++ decided g s p) (first.by earlier is) in
-    let found = subst (λ (h : Graph). IsCubeOf h.faults (earlier ++ decided h s p ++ heard h rows s p) c.narrow_by_heard.new.cube →
-    IsKeptOf h s c.in-Some.time (start_after h rows s p earlier) c.in_ok-entry.entry) e (c.in_ok-entry.ensures.entry earlier) in
-    subst (λ o. IsKeptAt g s o (start_after g rows s p earlier) c.in_ok-entry.entry) (sym c.in-Some.is ∙ c.time.ensures) (found before)
+    let found = subst
+    (λ (h : Graph). IsCubeOf h.faults (earlier ++ decided h s p ++ heard h rows s p) c.narrow_by_heard.new.cube →
+    IsKeptOf h s c.in-Some.time (start_after h rows s p earlier) c.in_ok-entry.entry) e
+    (c.in_ok-entry.ensures.entry earlier) in
+    subst (λ o. IsKeptAt g s o (start_after g rows s p earlier) c.in_ok-entry.entry)
+    (sym c.in-Some.is ∙ c.time.ensures) (found before)
 
 pub returns-clause-carried : goal.returns-clause-carried
 returns-clause-carried c =
@@ -55,12 +69,23 @@ returns-clause-carried c =
     let p = c.args.process in
     let rows = columns_of_rows c.args.frames.now.rows.now in
     let e = c.requires.graph in
-    let first = subst (λ (h : Graph). IsNarrowed h.faults (decided h s p) c.args.cube.now c.narrow_by_decided.new.cube) e c.in_ok-narrow_by_decided.ensures in
-    let second = subst (λ (h : Graph). IsNarrowed h.faults (heard h rows s p) c.narrow_by_decided.new.cube c.narrow_by_heard.new.cube) e c.in_ok-narrow_by_heard.ensures in
-    let third = subst (λ (h : Graph). IsNarrowed h.faults (received_unless_frozen h rows s p) c.narrow_by_heard.new.cube c.started.new.cube) e c.in_ok-entry.ensures.carried in
-    let fourth = subst (λ (h : Graph). IsNarrowed h.faults (number_known s p ∷ []) c.started.new.cube c.narrow_to_number.new.cube) e c.in_ok-narrow_to_number.ensures in
-    let on : active g s.values p ≡ true = sym (process_active g rows s p c.requires.process c.args.frames.now.times.now c.requires.active) ∙ ap is_some (sym c.time.ensures ∙ c.in-Some.is) in
+    let first = subst (λ (h : Graph). IsNarrowed h.faults (decided h s p) c.args.cube.now c.narrow_by_decided.new.cube)
+    e c.in_ok-narrow_by_decided.ensures in
+    let second = subst
+    (λ (h : Graph). IsNarrowed h.faults (heard h rows s p) c.narrow_by_decided.new.cube c.narrow_by_heard.new.cube)
+    e c.in_ok-narrow_by_heard.ensures in
+    let third = subst (λ (h : Graph). IsNarrowed h.faults (received_unless_frozen h rows s p) c.narrow_by_heard.new.cube
+    c.started.new.cube) e c.in_ok-entry.ensures.carried in
+    let fourth = subst
+    (λ (h : Graph). IsNarrowed h.faults (number_known s p ∷ []) c.started.new.cube c.narrow_to_number.new.cube) e
+    c.in_ok-narrow_to_number.ensures in
+    let on : active g s.values p ≡ true =
+    sym (process_active g rows s p c.requires.process c.args.frames.now.times.now c.requires.active)
+    ∙ ap is_some (sym c.time.ensures ∙ c.in-Some.is) in
     subst (λ ls. IsNarrowed g.faults ls c.args.cube.now c.narrow_to_number.new.cube) (sym (passed_active g rows s p on))
-    (narrowed_then g.faults (decided g s p ++ heard g rows s p) (received_unless_frozen g rows s p ++ number_known s p ∷ []) c.args.cube.now c.narrow_by_heard.new.cube c.narrow_to_number.new.cube
-    (narrowed_then g.faults (decided g s p) (heard g rows s p) c.args.cube.now c.narrow_by_decided.new.cube c.narrow_by_heard.new.cube first second)
-    (narrowed_then g.faults (received_unless_frozen g rows s p) (number_known s p ∷ []) c.narrow_by_heard.new.cube c.started.new.cube c.narrow_to_number.new.cube third fourth))
+    (narrowed_then g.faults (decided g s p ++ heard g rows s p) (received_unless_frozen g rows s p
+    ++ number_known s p ∷ []) c.args.cube.now c.narrow_by_heard.new.cube c.narrow_to_number.new.cube
+    (narrowed_then g.faults (decided g s p)
+    (heard g rows s p) c.args.cube.now c.narrow_by_decided.new.cube c.narrow_by_heard.new.cube first second)
+    (narrowed_then g.faults (received_unless_frozen g rows s p)
+    (number_known s p ∷ []) c.narrow_by_heard.new.cube c.started.new.cube c.narrow_to_number.new.cube third fourth))

@@ -13,6 +13,8 @@ returns-clause-entry c earlier is =
     let p = c.args.process in
     let rows = columns_of_rows c.args.frames.now.rows.now in
     let before = earlier ++ decided g s p ++ heard g rows s p in
-    let plain : (process_at g p).frozen ≡ false = sym (c.is_frozen.ensures ∙ frozen_start g p c.requires.process) ∙ c.if-is_frozen.false in
+    let plain : (process_at g p).frozen ≡ false =
+    sym (c.is_frozen.ensures ∙ frozen_start g p c.requires.process) ∙ c.if-is_frozen.false in
     subst (λ ls. IsKeptOf g s c.args.time ls c.in_ok-entry-2.entry) (sym (start_plain g rows s p earlier plain))
-    (kept_of g s c.args.time (before ++ received g rows s p) c.narrow_by_received.new.cube (c.in_ok-narrow_by_received.ensures.by before is) c.in_ok-entry-2.entry c.in_ok-entry-2.ensures)
+    (kept_of g s c.args.time (before ++ received g rows s p) c.narrow_by_received.new.cube
+    (c.in_ok-narrow_by_received.ensures.by before is) c.in_ok-entry-2.entry c.in_ok-entry-2.ensures)

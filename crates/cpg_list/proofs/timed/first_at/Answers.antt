@@ -7,7 +7,8 @@ use Rattle.cpg_list.proofs.timed.first_at.Goals as goal
 pub returns : goal.returns
 returns c =
     let parted = IsPartitionedBy-ltb (λ (t : TimedColumn). t.time) c.args.by_time.now c.args.time c.requires in
-    let point = IsPartitionPoint-from_clause (λ (t : TimedColumn). ltb t.time c.args.time) c.args.by_time.now c.partition_point.result c.partition_point.ensures.partitioned parted
+    let point = IsPartitionPoint-from_clause (λ (t : TimedColumn). ltb t.time c.args.time) c.args.by_time.now
+    c.partition_point.result c.partition_point.ensures.partitioned parted
     (λ a r q k. search rules) in
     record {
       inside = c.partition_point.ensures.bound;

@@ -10,12 +10,16 @@ loop-place-init c = record { count = search rules; each = λ i d x h. absurd (om
 pub loop-place-preserved : goal.loop-place-preserved
 loop-place-preserved c =
     let t : TimedColumn = record { time = c.index-columns-place.result.time; place = c.loop-place.place } in
-    one_timed c.args.columns.now c.loop-place.place c.loop-place.by_time.items c.push.new.self.items c.index-columns-place.result t c.loop-place-test.true c.loop-place.invariant
+    one_timed c.args.columns.now c.loop-place.place c.loop-place.by_time.items c.push.new.self.items
+    c.index-columns-place.result t c.loop-place-test.true c.loop-place.invariant
     c.index-columns-place.is (search rules) refl refl
 
 pub returns : goal.returns
 returns c =
-    let all : c.loop-place.place ≡ length c.args.columns.now = omega (arith, c.loop-place-test.false, c.loop-place.auto.place-end) in
-    time_order c.args.columns.now c.loop-place.by_time.items c.sort_by_key.new.self.items (subst (λ n. AreTimes c.args.columns.now n c.loop-place.by_time.items) all c.loop-place.invariant)
+    let all : c.loop-place.place ≡ length c.args.columns.now =
+    omega (arith, c.loop-place-test.false, c.loop-place.auto.place-end) in
+    time_order c.args.columns.now c.loop-place.by_time.items c.sort_by_key.new.self.items
+    (subst (λ n. AreTimes c.args.columns.now n c.loop-place.by_time.items) all c.loop-place.invariant)
     c.in_ok-sort_by_key.ensures.permutation
-    (IsNonDecreasingBy-from_sort_by_key (λ (t : TimedColumn). t.time) _ c.in_ok-sort_by_key.ensures.sorted (λ a r f' k. search rules))
+    (IsNonDecreasingBy-from_sort_by_key (λ (t : TimedColumn). t.time) _ c.in_ok-sort_by_key.ensures.sorted
+    (λ a r f' k. search rules))

@@ -5,5 +5,6 @@ use Rattle.cpg_live.proofs.act_lines.condition_name.Given as goal
 
 abbrev pub invariant-loop-process : goal.invariant-loop-process
 invariant-loop-process l =
-    get_or (map (λ (p : HeadProcess). p.name) (filter (λ (p : HeadProcess). p.condition) (drop l.process-index l.process-items))) l.before []
+    get_or (map (λ (p : HeadProcess). p.name)
+    (filter (λ (p : HeadProcess). p.condition) (drop l.process-index l.process-items))) l.before []
     ≡ condition_name (head_labels l.head) l.condition

@@ -17,16 +17,19 @@ returns-in_default-clause-is c = λ n l e. absurd (c.in_default.ensures.cases.0 
 
 pub returns-in_default-parse-clause-is : goal.returns-in_default-parse-clause-is
 returns-in_default-parse-clause-is c = λ n l e. absurd
-    (c.in_default-parse.not-Ok n (parse-decimal 64 n c.in-Ok.text.now c.parse.result (omega arith) (omega arith) (c.in-Ok.ensures.cases.0 ∙ e) c.parse.ensures.value.0))
+    (c.in_default-parse.not-Ok n (parse-decimal 64 n c.in-Ok.text.now c.parse.result (omega arith) (omega arith)
+    (c.in-Ok.ensures.cases.0 ∙ e) c.parse.ensures.value.0))
 
 pub returns-then-number-lt-TOO_LATE-clause-is : goal.returns-then-number-lt-TOO_LATE-clause-is
 returns-then-number-lt-TOO_LATE-clause-is c =
-    λ n l e. ap Some (ap given (sym c.in-Ok-parse.is ∙ parse-decimal 64 n c.in-Ok.text.now c.parse.result (omega arith) (omega arith) (c.in-Ok.ensures.cases.0 ∙ e) c.parse.ensures.value.0))
+    λ n l e. ap Some (ap given (sym c.in-Ok-parse.is ∙ parse-decimal 64 n c.in-Ok.text.now c.parse.result (omega arith)
+    (omega arith) (c.in-Ok.ensures.cases.0 ∙ e) c.parse.ensures.value.0))
 
 pub returns-else-number-lt-TOO_LATE-clause-is : goal.returns-else-number-lt-TOO_LATE-clause-is
 returns-else-number-lt-TOO_LATE-clause-is c = λ n l e. absurd (omega (
   arith,
   c.if-number-lt-TOO_LATE.false,
   l,
-  ap given (sym c.in-Ok-parse.is ∙ parse-decimal 64 n c.in-Ok.text.now c.parse.result (omega arith) (omega arith) (c.in-Ok.ensures.cases.0 ∙ e) c.parse.ensures.value.0),
+  ap given (sym c.in-Ok-parse.is ∙ parse-decimal 64 n c.in-Ok.text.now c.parse.result (omega arith) (omega arith)
+      (c.in-Ok.ensures.cases.0 ∙ e) c.parse.ensures.value.0),
 ))

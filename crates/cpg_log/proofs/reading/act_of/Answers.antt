@@ -7,20 +7,24 @@ use Rattle.cpg_log.proofs.reading.act_of.Goals as goal
 pub returns-in_default-2-clause-none : goal.returns-in_default-2-clause-none
 returns-in_default-2-clause-none c = λ act may e.
     let early : act.time < 2 ^ 60 = omega (arith, may.act.time, c.requires.until) in
-    let parts = act_parts c.args.problem.now c.args.line.now c.in-Some.digits.now c.in-Some.text.now act c.in-Some.ensures.some early e in
+    let parts = act_parts c.args.problem.now c.args.line.now c.in-Some.digits.now c.in-Some.text.now act
+    c.in-Some.ensures.some early e in
     let none = rw c.in_default-2.is at c.in_ok-time.ensures.none in
     none act.time early parts.0
 
 pub returns-then-log-time-clause-none : goal.returns-then-log-time-clause-none
 returns-then-log-time-clause-none c = λ act may e.
     let early : act.time < 2 ^ 60 = omega (arith, may.act.time, c.requires.until) in
-    let parts = act_parts c.args.problem.now c.args.line.now c.in-Some.digits.now c.in-Some.text.now act c.in-Some.ensures.some early e in
+    let parts = act_parts c.args.problem.now c.args.line.now c.in-Some.digits.now c.in-Some.text.now act
+    c.in-Some.ensures.some early e in
     let read = rw c.in-Some-2.is at c.in_ok-time.ensures.some in
-    let same = decimal_injective c.in-Some-2.time act.time (omega (arith, read.1)) (omega (arith, early)) (sym read.0 ∙ parts.0) in
+    let same = decimal_injective c.in-Some-2.time act.time (omega (arith, read.1)) (omega (arith, early))
+    (sym read.0 ∙ parts.0) in
     omega (arith, c.if-log-time.true, ap (λ (l : Log). l.until) c.log.view_is, may.act.time, same)
 
 pub returns-in_default-item_named-clause-none : goal.returns-in_default-item_named-clause-none
 returns-in_default-item_named-clause-none c = λ act may e.
     let early : act.time < 2 ^ 60 = omega (arith, may.act.time, c.requires.until) in
-    let parts = act_parts c.args.problem.now c.args.line.now c.in-Some.digits.now c.in-Some.text.now act c.in-Some.ensures.some early e in
+    let parts = act_parts c.args.problem.now c.args.line.now c.in-Some.digits.now c.in-Some.text.now act
+    c.in-Some.ensures.some early e in
     c.in_default-item_named.ensures.none act.item (record { item = may.act.item; new = may.new; spelled = parts.1 })

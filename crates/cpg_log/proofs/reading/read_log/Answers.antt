@@ -9,17 +9,20 @@ pub returns-in_err-log-clause-bad : goal.returns-in_err-log-clause-bad
 returns-in_err-log-clause-bad c = λ place e.
     let told : c.opened.result ≡ Err (Bad place) = search rules in
     let lack = c.opened.ensures.bad place told in
-    subst (IsBadLine c.args.problem.now (lines c.args.bytes.now)) (sym lack.0) (lack_bad c.args.problem.now (lines c.args.bytes.now) lack.1)
+    subst (IsBadLine c.args.problem.now (lines c.args.bytes.now)) (sym lack.0)
+    (lack_bad c.args.problem.now (lines c.args.bytes.now) lack.1)
 
 pub returns-in_err-rest-clause-bad : goal.returns-in_err-rest-clause-bad
 returns-in_err-rest-clause-bad c = λ place e.
     let told : c.read_line.result ≡ Err (Bad place) = search rules in
     line_strange c.args.problem.now c.processes-processes.ensures.within c.in_ok-texts.ensures.names
-    (lines c.args.bytes.now) c.loop-rest.log c.loop-rest.rest.now c.loop-rest.invariant.lawful c.loop-rest.invariant.spelled
+    (lines c.args.bytes.now) c.loop-rest.log c.loop-rest.rest.now c.loop-rest.invariant.lawful
+    c.loop-rest.invariant.spelled
     place (c.read_line.ensures.bad place told)
 
 pub loop-rest-preserved : goal.loop-rest-preserved
 loop-rest-preserved c =
-    let read = line_read c.args.problem.now (lines c.args.bytes.now) c.loop-rest.log c.loop-rest.rest.now c.loop-rest.invariant.lawful c.loop-rest.invariant.spelled c.read_line.new.log
+    let read = line_read c.args.problem.now (lines c.args.bytes.now) c.loop-rest.log c.loop-rest.rest.now
+    c.loop-rest.invariant.lawful c.loop-rest.invariant.spelled c.read_line.new.log
     c.in_ok-rest.rest.now c.in_ok-rest.ensures.more in
     record { lawful = read.0; spelled = read.1 }

@@ -7,7 +7,9 @@ use Rattle.cpg_log.proofs.texts.act_texts.Goals as goal
 
 pub loop-item-preserved : goal.loop-item-preserved
 loop-item-preserved c = record {
-  texts = map_below_push (act_text c.args.problem.now) (map string_bytes c.loop-item.texts.items) (map string_bytes c.push.new.self.items) (string_bytes c.in_ok-text.text) c.loop-item.item
-      c.loop-item.invariant.texts c.in_ok-text.ensures.text (ap (map string_bytes) c.in_ok-push.ensures.items ∙ map_push string_bytes c.loop-item.texts.items c.in_ok-text.text);
+  texts = map_below_push (act_text c.args.problem.now) (map string_bytes c.loop-item.texts.items)
+      (map string_bytes c.push.new.self.items) (string_bytes c.in_ok-text.text) c.loop-item.item
+      c.loop-item.invariant.texts c.in_ok-text.ensures.text (ap (map string_bytes) c.in_ok-push.ensures.items
+      ∙ map_push string_bytes c.loop-item.texts.items c.in_ok-text.text);
   names = names_more c.args.problem.now c.loop-item.item c.loop-item.invariant.names c.act_text.ensures.name;
 }

@@ -6,4 +6,5 @@ pub bounds-texts-item : goal.bounds-texts-item
 bounds-texts-item c = omega (arith, texts_long c.args.problem.now c.args.texts.now c.requires.texts, c.requires.item)
 
 pub returns : goal.returns
-returns c = c.as_bytes.ensures.value ∙ ap string_bytes c.index-texts-item.is ∙ text_at c.args.problem.now c.args.texts.now c.requires.texts c.args.item c.index-texts-item.result c.requires.item
+returns c = c.as_bytes.ensures.value ∙ ap string_bytes c.index-texts-item.is
+    ∙ text_at c.args.problem.now c.args.texts.now c.requires.texts c.args.item c.index-texts-item.result c.requires.item

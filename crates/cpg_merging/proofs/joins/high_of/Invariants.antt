@@ -3,4 +3,5 @@ use Rattle.cpg_cube.specs.Cube.{high_in}
 use Rattle.cpg_merging.proofs.joins.high_of.Given as goal
 
 abbrev pub invariant-loop-literal : goal.invariant-loop-literal
-invariant-loop-literal l = high_in l.faults l.literals l.variable ≡ high_in l.faults (drop l.literal-index l.literals) l.variable
+invariant-loop-literal l =
+    high_in l.faults l.literals l.variable ≡ high_in l.faults (drop l.literal-index l.literals) l.variable

@@ -3,4 +3,5 @@ use Rattle.cpg_merging.specs.Merging.{is_any_followed, is_any_followed_from}
 use Rattle.cpg_merging.proofs.joins.is_any_followed.Given as goal
 
 abbrev pub invariant-loop-next : goal.invariant-loop-next
-invariant-loop-next l = is_any_followed l.faults l.variable l.columns ≡ is_any_followed_from l.faults l.variable l.last (drop l.next-index l.rest)
+invariant-loop-next l = is_any_followed l.faults l.variable l.columns
+    ≡ is_any_followed_from l.faults l.variable l.last (drop l.next-index l.rest)

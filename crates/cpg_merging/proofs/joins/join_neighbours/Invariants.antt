@@ -4,4 +4,5 @@ use Rattle.cpg_merging.specs.Merging.{walked, walked_over}
 use Rattle.cpg_merging.proofs.joins.join_neighbours.Given as goal
 
 abbrev pub invariant-loop-next : goal.invariant-loop-next
-invariant-loop-next l = walked_over l.faults l.variable l.fn.columns.items ≡ l.joined.items ++ walked l.faults l.variable l.current (into_iter_items l.next-iterator)
+invariant-loop-next l = walked_over l.faults l.variable l.fn.columns.items ≡ l.joined.items
+    ++ walked l.faults l.variable l.current (into_iter_items l.next-iterator)

@@ -5,6 +5,8 @@ use Rattle.cpg_merging.proofs.joins.raised_cube.Goals as goal
 
 pub push-requires : goal.push-requires
 push-requires c = record {
-  last = raised_before c.args.variable c.args.high c.literals-literal-items.result.now c.loop-literal.literal-index _ c.loop-literal.raised
-      (subst IsRising (sym c.literals-literal-items.ensures.literals) c.literals-literal-items.ensures.rising) (omega arith) c.loop-literal.invariant;
+  last = raised_before c.args.variable c.args.high c.literals-literal-items.result.now c.loop-literal.literal-index _
+      c.loop-literal.raised
+      (subst IsRising (sym c.literals-literal-items.ensures.literals) c.literals-literal-items.ensures.rising)
+      (omega arith) c.loop-literal.invariant;
 }

@@ -5,6 +5,8 @@ use Rattle.cpg_merging.proofs.joins.shorn_cube.Goals as goal
 
 pub push-requires : goal.push-requires
 push-requires c = record {
-  last = shorn_before c.args.faults c.literals-literal-items.result.now c.loop-literal.literal-index _ c.loop-literal.shorn
-      (subst IsRising (sym c.literals-literal-items.ensures.literals) c.literals-literal-items.ensures.rising) (omega arith) c.loop-literal.invariant;
+  last =
+      shorn_before c.args.faults c.literals-literal-items.result.now c.loop-literal.literal-index _ c.loop-literal.shorn
+      (subst IsRising (sym c.literals-literal-items.ensures.literals) c.literals-literal-items.ensures.rising)
+      (omega arith) c.loop-literal.invariant;
 }

@@ -10,12 +10,18 @@ loop-block-preserved c =
     let parted : c.loop-block.left.now ≡ c.in-Some.block.now ++ c.in-Some.rest.now = search rules in
     record {
       kept = λ v on. c.mark_block.ensures.kept v (old.kept v on);
-      marked = marked_on (λ (m : Literal). ¬ IsMarked c.loop-block.marks m.variable → HasNoPartner c.args.sums.sorted.now c.args.total m)
-          (λ (m : Literal). ¬ IsMarked c.mark_block.new.marks m.variable → HasNoPartner c.args.sums.sorted.now c.args.total m) c.args.literals.now c.loop-block.left.now c.in-Some.block.now
+      marked = marked_on (λ (m : Literal). ¬ IsMarked c.loop-block.marks m.variable →
+          HasNoPartner c.args.sums.sorted.now c.args.total m)
+          (λ (m : Literal). ¬ IsMarked c.mark_block.new.marks m.variable → HasNoPartner c.args.sums.sorted.now
+          c.args.total m) c.args.literals.now c.loop-block.left.now c.in-Some.block.now
           c.in-Some.rest.now parted
           (λ m h off. h (λ on. off (c.mark_block.ensures.kept m.variable on))) c.mark_block.ensures.marked old.marked;
     }
 
 pub returns-clause-marked : goal.returns-clause-marked
-returns-clause-marked c = all_marked (λ (m : Literal). ¬ IsMarked c.mark_each.new.marks m.variable → HasNoPartner c.args.sums.sorted.now c.args.total m) c.args.literals.now c.loop-block.left.now
-    (λ m h. elim (c.loop-block.invariant.marked m h) [ inl there ↦ inl there | inr done ↦ inr (λ off. done (λ on. off (c.mark_each.ensures.kept m.variable on))) ]) c.mark_each.ensures.marked
+returns-clause-marked c = all_marked (λ (m : Literal). ¬ IsMarked c.mark_each.new.marks m.variable →
+    HasNoPartner c.args.sums.sorted.now c.args.total m) c.args.literals.now c.loop-block.left.now
+    (λ m h. elim (c.loop-block.invariant.marked m h) [
+      | inl there ↦ inl there
+      | inr done ↦ inr (λ off. done (λ on. off (c.mark_each.ensures.kept m.variable on)))
+    ]) c.mark_each.ensures.marked

@@ -6,7 +6,8 @@ use Rattle.cpg_merging.proofs.marks.mark.Given as goal
 abbrev pub invariant-loop-block : goal.invariant-loop-block
 invariant-loop-block l = record {
   kept : (v : ℕ) → IsMarked l.fn.marks v → IsMarked l.marks v;
-  marked : (m : Literal) → Contains l.literals m → Contains l.left m ⊎ (¬ IsMarked l.marks m.variable → HasNoPartner l.sums.sorted.now l.total m);
+  marked : (m : Literal) → Contains l.literals m →
+      Contains l.left m ⊎ (¬ IsMarked l.marks m.variable → HasNoPartner l.sums.sorted.now l.total m);
 }
 
 abbrev pub decreases-loop-block : goal.decreases-loop-block

@@ -6,4 +6,5 @@ pub returns-clause-kept : goal.returns-clause-kept
 returns-clause-kept c = mark_kept c.args.marks.now c.args.literal.variable c.has_partner.result c.if-marks-place.false
 
 pub returns-clause-marked : goal.returns-clause-marked
-returns-clause-marked c off = from_off c.has_partner.result (mark_off c.args.marks.now c.args.literal.variable c.has_partner.result (search rules) off) c.has_partner.ensures
+returns-clause-marked c off = from_off c.has_partner.result
+    (mark_off c.args.marks.now c.args.literal.variable c.has_partner.result (search rules) off) c.has_partner.ensures

@@ -9,11 +9,13 @@ loop-literal-preserved c =
     let old = c.loop-literal.invariant in
     record {
       kept = λ v on. c.mark_at.ensures.kept v (old.kept v on);
-      marked = all_more (λ (m : Literal). ¬ IsMarked c.mark_at.new.marks m.variable → HasNoPartner c.args.sums.sorted.now c.args.total m) c.args.literals.now c.loop-literal.literal-index _
+      marked = all_more (λ (m : Literal). ¬ IsMarked c.mark_at.new.marks m.variable →
+          HasNoPartner c.args.sums.sorted.now c.args.total m) c.args.literals.now c.loop-literal.literal-index _
           (omega arith)
           (λ m h off. old.marked m h (λ on. off (c.mark_at.ensures.kept m.variable on))) c.mark_at.ensures.marked;
     }
 
 pub returns-clause-marked : goal.returns-clause-marked
-returns-clause-marked c = all_of (λ (m : Literal). ¬ IsMarked c.loop-literal.marks m.variable → HasNoPartner c.args.sums.sorted.now c.args.total m) c.args.literals.now c.loop-literal.literal-index
+returns-clause-marked c = all_of (λ (m : Literal). ¬ IsMarked c.loop-literal.marks m.variable →
+    HasNoPartner c.args.sums.sorted.now c.args.total m) c.args.literals.now c.loop-literal.literal-index
     (omega arith) c.loop-literal.invariant.marked

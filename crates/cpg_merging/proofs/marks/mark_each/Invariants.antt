@@ -6,5 +6,6 @@ use Rattle.cpg_merging.proofs.marks.mark_each.Given as goal
 abbrev pub invariant-loop-literal : goal.invariant-loop-literal
 invariant-loop-literal l = record {
   kept : (v : ℕ) → IsMarked l.fn.marks v → IsMarked l.marks v;
-  marked : (m : Literal) → Contains (take l.literal-index l.literals) m → ¬ IsMarked l.marks m.variable → HasNoPartner l.sums.sorted.now l.total m;
+  marked : (m : Literal) → Contains (take l.literal-index l.literals) m → ¬ IsMarked l.marks m.variable →
+      HasNoPartner l.sums.sorted.now l.total m;
 }

@@ -11,7 +11,8 @@ pub returns-then-not-many : goal.returns-then-not-many
 returns-then-not-many c v known off =
     let g = c.args.problem.now in
     let few = c.processes-processes.ensures.within.few_processes in
-    settled_by_demands g few c.processes-processes.ensures.within.faults v known c.args.columns.now (good_of g few c.args.columns.now c.requires)
+    settled_by_demands g few c.processes-processes.ensures.within.faults v known c.args.columns.now
+    (good_of g few c.args.columns.now c.requires)
     (from_off c.in_ok-many.many c.if-not-many.true c.in_ok-many.ensures)
 
 pub returns-then-is_empty : goal.returns-then-is_empty
@@ -19,14 +20,17 @@ returns-then-is_empty c v known off =
     let g = c.args.problem.now in
     let few = c.processes-processes.ensures.within.few_processes in
     let none : length c.in_ok-candidates.candidates.items ≡ 0 = search rules in
-    settled_none g few c.processes-processes.ensures.within.faults v known c.args.columns.now (good_of g few c.args.columns.now c.requires)
+    settled_none g few c.processes-processes.ensures.within.faults v known c.args.columns.now
+    (good_of g few c.args.columns.now c.requires)
     (λ (b : Bor Column). b.now) c.in_ok-candidates.candidates.items c.in_ok-candidates.ensures none
 
 pub returns : goal.returns
 returns c =
     let g = c.args.problem.now in
     let few = c.processes-processes.ensures.within.few_processes in
-    marked_by g few c.processes-processes.ensures.within.faults c.args.columns.now (map (λ (b : Bor Column). b.now) c.in_ok-candidates.candidates.items)
+    marked_by g few c.processes-processes.ensures.within.faults c.args.columns.now
+    (map (λ (b : Bor Column). b.now) c.in_ok-candidates.candidates.items)
     (good_of g few c.args.columns.now c.requires) c.in_ok-candidates.ensures c.in_ok-marks.marks
-    (subst (λ (bs : List (Bor Column)). AreMarkedBy (map total_of (map (λ (b : Bor Column). b.now) bs)) c.in_ok-marks.marks (map (λ (b : Bor Column). b.now) bs)) c.as_slice.ensures.value
+    (subst (λ (bs : List (Bor Column)). AreMarkedBy (map total_of (map (λ (b : Bor Column). b.now) bs))
+    c.in_ok-marks.marks (map (λ (b : Bor Column). b.now) bs)) c.as_slice.ensures.value
     c.in_ok-marks.ensures)

@@ -6,7 +6,8 @@ use Rattle.cpg_merging.proofs.marks.marks_over.Goals as goal
 
 pub marks_by-requires-clause-sums : goal.marks_by-requires-clause-sums
 marks_by-requires-clause-sums c = record {
-  up = subst DoNotFall (sym c.as_slice-3.ensures.value) (λ i j l k. IsNonDecreasingBy-from_sort (λ (n : ℕ). n) _ c.sort_unstable.ensures.sorted i j 0 l k);
+  up = subst DoNotFall (sym c.as_slice-3.ensures.value)
+      (λ i j l k. IsNonDecreasingBy-from_sort (λ (n : ℕ). n) _ c.sort_unstable.ensures.sorted i j 0 l k);
   some = search rules;
   marked = search rules;
 }
@@ -14,5 +15,6 @@ marks_by-requires-clause-sums c = record {
 pub returns : goal.returns
 returns c = marked_sorted (map (λ b. b.now) c.args.columns.now) c.marks_by.result c.as_slice-3.result.now
     (subst (IsPermutation (map total_of (map (λ b. b.now) c.args.columns.now))) (sym c.as_slice-3.ensures.value)
-    (subst (λ (ns : List ℕ). IsPermutation ns c.sort_unstable.new.self.items) (search rules) c.sort_unstable.ensures.permutation))
+    (subst (λ (ns : List ℕ). IsPermutation ns c.sort_unstable.new.self.items)
+    (search rules) c.sort_unstable.ensures.permutation))
     c.marks_by.ensures

@@ -11,7 +11,8 @@ returns-then-not-marked-variable-clause-passed c =
     let g = c.args.problem.now in
     let v = c.args.variable in
     let columns = c.args.marked.listing.columns.items in
-    passed_settled g v columns c.requires.shorn (c.requires.marked v c.requires.known (λ on. true≢false (sym on ∙ c.if-not-marked-variable.true)))
+    passed_settled g v columns c.requires.shorn
+    (c.requires.marked v c.requires.known (λ on. true≢false (sym on ∙ c.if-not-marked-variable.true)))
 
 pub returns-then-len-before-clause-marked : goal.returns-then-len-before-clause-marked
 returns-then-len-before-clause-marked c =
@@ -21,4 +22,5 @@ returns-then-len-before-clause-marked c =
     let n : length new.items ≡ vec_len new = search rules in
     subst (λ (l : Listing). AreMarked c.args.problem.now c.args.marked.marks l.columns.items) (sym c.unsorted.ensures)
     (marked_permuted c.args.problem.now old.items new.items c.args.marked.marks
-    (permuted_same c.args.problem.now (λ (u : ℕ). u ≡ c.args.variable) old.items new.items c.in_ok-columns.ensures (omega arith)) c.requires.marked)
+    (permuted_same c.args.problem.now (λ (u : ℕ). u ≡ c.args.variable) old.items new.items c.in_ok-columns.ensures
+    (omega arith)) c.requires.marked)

@@ -17,7 +17,9 @@ returns c =
     let columns = c.args.columns.items in
     let sorted = c.sort_by.new.self.items in
     let up : IsSortedBy (λ (x y : Column). is_lt (column_cmp v x y)) sorted =
-    c.in_ok-sort_by.ensures.sorted (λ (x y : Column). is_lt (column_cmp v x y)) (ranks_by (column_total v) (λ (x : Column). x)) (always_returns_same _ _ _ (λ a r f k. search rules)) in
+    c.in_ok-sort_by.ensures.sorted (λ (x y : Column). is_lt (column_cmp v x y))
+    (ranks_by (column_total v) (λ (x : Column). x)) (always_returns_same _ _ _ (λ a r f k. search rules)) in
     IfOk-weaker _ (λ r. r.items ≡ walked_over g.faults v sorted) (λ r. IsPassed g (λ u. u ≡ v) columns r.items)
-    (λ r e. subst (IsPassed g (λ u. u ≡ v) columns) (sym e) (passed_on g c.faults-k.ensures.within.few_processes v c.requires.known columns sorted c.requires.shorn c.sort_by.ensures.permutation up))
+    (λ r e. subst (IsPassed g (λ u. u ≡ v) columns) (sym e) (passed_on g c.faults-k.ensures.within.few_processes v
+    c.requires.known columns sorted c.requires.shorn c.sort_by.ensures.permutation up))
     (search rules)

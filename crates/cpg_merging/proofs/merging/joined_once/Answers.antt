@@ -14,18 +14,23 @@ returns-clause-passed c =
     let columns = c.args.marked.listing.columns.items in
     let middle = c.in_ok-marked.marked.listing.columns.items in
     let few = c.processes.ensures.within in
-    IfOk-weaker _ (λ r. IsPassed g (IsBetween 128 (128 + c.conditions.result)) middle r.listing.columns.items) (λ r. IsPassed g (IsVariable g) columns r.listing.columns.items)
-    (λ r p. passed_through g (IsBetween 0 (length c.processes.result.now)) (IsBetween 128 (128 + c.conditions.result)) (IsVariable g)
+    IfOk-weaker _ (λ r. IsPassed g (IsBetween 128 (128 + c.conditions.result)) middle r.listing.columns.items)
+    (λ r. IsPassed g (IsVariable g) columns r.listing.columns.items)
+    (λ r p. passed_through g (IsBetween 0 (length c.processes.result.now))
+    (IsBetween 128 (128 + c.conditions.result)) (IsVariable g)
     (λ v known. ⊎_elim
     (λ (l : v < process_count g). let e = ap length c.processes.ensures.processes in inl (omega arith, omega arith))
-    (λ (l : (128 ≤ v) × (v < value_variable (condition_count g))). let e = c.conditions.ensures.count in inr (l.0, omega arith))
+    (λ (l : (128 ≤ v) × (v < value_variable (condition_count g))). let e = c.conditions.ensures.count in
+    inr (l.0, omega arith))
     known) columns middle r.listing.columns.items c.in_ok-marked.ensures.passed p)
     (search rules)
 
 pub returns-clause-sorted : goal.returns-clause-sorted
 returns-clause-sorted c =
-    IfOk-weaker _ (λ r. IsSortedAs c.in_ok-marked.marked.listing r.listing) (λ r. IsSortedAs c.args.marked.listing r.listing)
-    (λ r h. sorted_through c.args.marked.listing c.in_ok-marked.marked.listing r.listing c.in_ok-marked.ensures.sorted h)
+    IfOk-weaker _ (λ r. IsSortedAs c.in_ok-marked.marked.listing r.listing)
+    (λ r. IsSortedAs c.args.marked.listing r.listing)
+    (λ r h.
+    sorted_through c.args.marked.listing c.in_ok-marked.marked.listing r.listing c.in_ok-marked.ensures.sorted h)
     (search rules)
 
 pub returns-then-not-contains-clause-passed : goal.returns-then-not-contains-clause-passed
@@ -35,5 +40,9 @@ returns-then-not-contains-clause-passed c =
     record {
       joins = joins_itself g columns;
       good = c.requires.shorn;
-      fewer = inr (IsPermutation-refl columns, λ v known. c.requires.marked v known (none_on _ refl c.args.marked.marks (sym c.contains.ensures.value ∙ c.if-not-contains.true) v));
+      fewer = inr (
+        IsPermutation-refl columns,
+        λ v known. c.requires.marked v known
+            (none_on _ refl c.args.marked.marks (sym c.contains.ensures.value ∙ c.if-not-contains.true) v),
+      );
     }

@@ -13,7 +13,8 @@ joined_at-requires c = record {
 
 pub loop-variable-init : goal.loop-variable-init
 loop-variable-init c = record {
-  passed = passed_none c.args.problem.now (IsBetween c.args.first c.args.first) (λ v o. omega arith) c.args.marked.listing.columns.items c.requires.shorn;
+  passed = passed_none c.args.problem.now (IsBetween c.args.first c.args.first)
+      (λ v o. omega arith) c.args.marked.listing.columns.items c.requires.shorn;
   marked = c.requires.marked;
   sorted = λ t. (t, refl);
 }
@@ -22,17 +23,23 @@ pub loop-variable-preserved : goal.loop-variable-preserved
 loop-variable-preserved c =
     let v = c.loop-variable.variable in
     record {
-      passed = passed_through c.args.problem.now (IsBetween c.args.first v) (λ u. u ≡ v) (IsBetween c.args.first (v + 1))
+      passed =
+          passed_through c.args.problem.now (IsBetween c.args.first v) (λ u. u ≡ v) (IsBetween c.args.first (v + 1))
           (λ u h. ⊎_elim (λ (l : u < v). inl (omega arith, l)) (λ (l : v ≤ u). inr (omega arith)) (cases_lt u v))
-          c.args.marked.listing.columns.items c.loop-variable.marked.listing.columns.items c.in_ok-marked.marked.listing.columns.items c.loop-variable.invariant.passed c.in_ok-marked.ensures.passed;
+          c.args.marked.listing.columns.items c.loop-variable.marked.listing.columns.items
+          c.in_ok-marked.marked.listing.columns.items c.loop-variable.invariant.passed
+          c.in_ok-marked.ensures.passed;
       marked = c.in_ok-marked.ensures.marked;
-      sorted = sorted_through c.args.marked.listing c.loop-variable.marked.listing c.in_ok-marked.marked.listing c.loop-variable.invariant.sorted c.in_ok-marked.ensures.sorted;
+      sorted = sorted_through c.args.marked.listing c.loop-variable.marked.listing c.in_ok-marked.marked.listing
+          c.loop-variable.invariant.sorted c.in_ok-marked.ensures.sorted;
     }
 
 pub returns : goal.returns
 returns c = record {
-  passed = passed_wider c.args.problem.now (IsBetween c.args.first c.loop-variable.variable) (IsBetween c.args.first c.args.end)
-      (λ v o. (o.0, omega arith)) c.args.marked.listing.columns.items c.loop-variable.marked.listing.columns.items c.loop-variable.invariant.passed;
+  passed = passed_wider c.args.problem.now (IsBetween c.args.first c.loop-variable.variable)
+      (IsBetween c.args.first c.args.end)
+      (λ v o. (o.0, omega arith)) c.args.marked.listing.columns.items c.loop-variable.marked.listing.columns.items
+      c.loop-variable.invariant.passed;
   marked = c.loop-variable.invariant.marked;
   sorted = c.loop-variable.invariant.sorted;
 }

@@ -4,7 +4,8 @@ use Rattle.cpg_merging.proofs.merging.joined_over.Given as goal
 
 abbrev pub invariant-loop-variable : goal.invariant-loop-variable
 invariant-loop-variable l = record {
-  passed : IsPassed l.problem (IsBetween l.first l.variable) l.fn.marked.listing.columns.items l.marked.listing.columns.items;
+  passed : IsPassed l.problem
+      (IsBetween l.first l.variable) l.fn.marked.listing.columns.items l.marked.listing.columns.items;
   marked : AreMarked l.problem l.marked.marks l.marked.listing.columns.items;
   sorted : IsSortedAs l.fn.marked.listing l.marked.listing;
 }

@@ -12,7 +12,8 @@ use Rattle.cpg_merging.proofs.merging.merged.Goals as goal
 pub settled-requires : goal.settled-requires
 settled-requires c =
     let g = c.args.problem.now in
-    subst (IsShorn g) (sym (ap (λ (l : Listing). l.columns.items) c.unsorted.ensures ∙ c.in_ok-columns.ensures ∙ ap (λ k. all_shorn k c.args.entries.items) c.faults.ensures.faults))
+    subst (IsShorn g) (sym (ap (λ (l : Listing). l.columns.items) c.unsorted.ensures ∙ c.in_ok-columns.ensures
+    ∙ ap (λ k. all_shorn k c.args.entries.items) c.faults.ensures.faults))
     (shorn_columns g c.faults.ensures.within.few_processes c.args.entries.items c.requires.entries)
 
 pub returns : goal.returns
@@ -23,11 +24,15 @@ returns c =
     let columns = c.in_ok-listing.listing.columns.items in
     let settled : AreSettled g (all_shorn g.faults entries) columns =
     subst (λ before. AreSettled g before columns)
-    (ap (λ (l : Listing). l.columns.items) c.unsorted.ensures ∙ c.in_ok-columns.ensures ∙ ap (λ k. all_shorn k c.args.entries.items) c.faults.ensures.faults) c.in_ok-listing.ensures.settled in
-    if_ok_both c.sorted.result (λ r. IsPermutation columns r.items) (λ r. AreByLows (λ (e : Column). e.cube) g order r.items) (λ r. IsMergeOf g order entries r.items)
-    (λ r p up. merge_of g c.faults.ensures.within.few_processes order c.requires.order entries columns r.items c.requires.entries settled p up)
+    (ap (λ (l : Listing). l.columns.items) c.unsorted.ensures ∙ c.in_ok-columns.ensures
+    ∙ ap (λ k. all_shorn k c.args.entries.items) c.faults.ensures.faults) c.in_ok-listing.ensures.settled in
+    if_ok_both c.sorted.result (λ r. IsPermutation columns r.items)
+    (λ r. AreByLows (λ (e : Column). e.cube) g order r.items) (λ r. IsMergeOf g order entries r.items)
+    (λ r p up. merge_of g c.faults.ensures.within.few_processes order c.requires.order entries columns r.items
+    c.requires.entries settled p up)
     c.sorted.ensures.permutation c.sorted.ensures.by_lows
 
 pub sorted-requires-clause-sorted : goal.sorted-requires-clause-sorted
 sorted-requires-clause-sorted c = OnTrue_from c.in_ok-listing.listing.is_sorted _
-    (λ t. absurd (true≢false (sym (c.in_ok-listing.ensures.sorted t).0 ∙ ap (λ (l : Listing). l.is_sorted) c.unsorted.ensures)))
+    (λ t. absurd
+    (true≢false (sym (c.in_ok-listing.ensures.sorted t).0 ∙ ap (λ (l : Listing). l.is_sorted) c.unsorted.ensures)))

@@ -14,7 +14,8 @@ settled-requires c = record { good = c.requires.entries; not_whole = c.requires.
 
 pub sorted-requires-clause-sorted : goal.sorted-requires-clause-sorted
 sorted-requires-clause-sorted c = OnTrue_from c.in_ok-listing.listing.is_sorted _
-    (sorted_still c.args.problem.now c.args.order.now c.args.listing c.in_ok-listing.listing (λ t. OnTrue_at t c.requires.sorted) c.in_ok-listing.ensures.sorted)
+    (sorted_still c.args.problem.now c.args.order.now c.args.listing c.in_ok-listing.listing
+    (λ t. OnTrue_at t c.requires.sorted) c.in_ok-listing.ensures.sorted)
 
 pub returns : goal.returns
 returns c =
@@ -22,7 +23,10 @@ returns c =
     let order = c.args.order.now in
     let entries = c.args.listing.columns.items in
     let columns = c.in_ok-listing.listing.columns.items in
-    let settled = subst (λ before. AreSettled g before columns) (sym (tidy_kept g.faults entries c.requires.tidy)) c.in_ok-listing.ensures.settled in
-    if_ok_both c.sorted.result (λ r. IsPermutation columns r.items) (λ r. AreByLows (λ (e : Column). e.cube) g order r.items) (λ r. IsMergeOf g order entries r.items)
-    (λ r p up. merge_of g c.processes-processes.ensures.within.few_processes order c.requires.order entries columns r.items c.requires.entries settled p up)
+    let settled = subst (λ before. AreSettled g before columns)
+    (sym (tidy_kept g.faults entries c.requires.tidy)) c.in_ok-listing.ensures.settled in
+    if_ok_both c.sorted.result (λ r. IsPermutation columns r.items)
+    (λ r. AreByLows (λ (e : Column). e.cube) g order r.items) (λ r. IsMergeOf g order entries r.items)
+    (λ r p up. merge_of g c.processes-processes.ensures.within.few_processes order c.requires.order entries columns
+    r.items c.requires.entries settled p up)
     c.sorted.ensures.permutation c.sorted.ensures.by_lows

@@ -11,7 +11,10 @@ loop-marked-init c = record {
   good = search rules;
   joins = search rules;
   marked = c.in_ok-marked.ensures.marks;
-  sorted = λ t. (sym (ap (λ (l : Listing). l.is_sorted) c.in_ok-marked.ensures.listing) ∙ t, ap (λ (l : Listing). l.columns.items) c.in_ok-marked.ensures.listing);
+  sorted = λ t. (
+    sym (ap (λ (l : Listing). l.is_sorted) c.in_ok-marked.ensures.listing) ∙ t,
+    ap (λ (l : Listing). l.columns.items) c.in_ok-marked.ensures.listing,
+  );
 }
 
 pub returns-then-len-before-clause-settled : goal.returns-then-len-before-clause-settled
@@ -22,7 +25,8 @@ returns-then-len-before-clause-settled c =
     let m : length old.items ≡ vec_len old = search rules in
     let n : length new.items ≡ vec_len new = search rules in
     record {
-      joins = joins_through g c.args.listing.columns.items old.items new.items c.loop-marked.invariant.joins c.in_ok-marked-2.ensures.passed.joins;
+      joins = joins_through g c.args.listing.columns.items old.items new.items c.loop-marked.invariant.joins
+          c.in_ok-marked-2.ensures.passed.joins;
       good = c.in_ok-marked-2.ensures.passed.good;
       settled = settled_same g (IsVariable g) old.items new.items c.in_ok-marked-2.ensures.passed (omega arith);
     }
@@ -34,17 +38,21 @@ loop-marked-smaller c =
     let new = c.in_ok-marked-2.marked.listing.columns in
     let m : length old.items ≡ vec_len old = search rules in
     let n : length new.items ≡ vec_len new = search rules in
-    let less : length new.items < length old.items = fewer_else g (IsVariable g) old.items new.items c.in_ok-marked-2.ensures.passed (λ e. c.if-len-before.false (omega arith)) in
+    let less : length new.items < length old.items = fewer_else g
+    (IsVariable g) old.items new.items c.in_ok-marked-2.ensures.passed (λ e. c.if-len-before.false (omega arith)) in
     omega arith
 
 pub loop-marked-preserved : goal.loop-marked-preserved
 loop-marked-preserved c = record {
   good = c.in_ok-marked-2.ensures.passed.good;
-  joins = joins_through c.args.problem.now c.args.listing.columns.items c.loop-marked.marked.listing.columns.items c.in_ok-marked-2.marked.listing.columns.items c.loop-marked.invariant.joins
+  joins = joins_through c.args.problem.now c.args.listing.columns.items c.loop-marked.marked.listing.columns.items
+      c.in_ok-marked-2.marked.listing.columns.items c.loop-marked.invariant.joins
       c.in_ok-marked-2.ensures.passed.joins;
   marked = c.in_ok-marked-2.ensures.marked;
-  sorted = sorted_through c.args.listing c.loop-marked.marked.listing c.in_ok-marked-2.marked.listing c.loop-marked.invariant.sorted c.in_ok-marked-2.ensures.sorted;
+  sorted = sorted_through c.args.listing c.loop-marked.marked.listing c.in_ok-marked-2.marked.listing
+      c.loop-marked.invariant.sorted c.in_ok-marked-2.ensures.sorted;
 }
 
 pub returns-then-len-before-clause-sorted : goal.returns-then-len-before-clause-sorted
-returns-then-len-before-clause-sorted c = sorted_through c.args.listing c.loop-marked.marked.listing c.in_ok-marked-2.marked.listing c.loop-marked.invariant.sorted c.in_ok-marked-2.ensures.sorted
+returns-then-len-before-clause-sorted c = sorted_through c.args.listing c.loop-marked.marked.listing
+    c.in_ok-marked-2.marked.listing c.loop-marked.invariant.sorted c.in_ok-marked-2.ensures.sorted

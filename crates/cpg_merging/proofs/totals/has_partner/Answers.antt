@@ -8,11 +8,13 @@ pub loop-low-preserved : goal.loop-low-preserved
 loop-low-preserved c low less there = elim (cases_eq low c.loop-low.low) [
   | inr n ↦ c.loop-low.invariant low (omega (arith, less, n)) there
   | inl e ↦ from_off c.is_there.result c.if-is_there.false c.is_there.ensures
-      (subst (λ (m : ℕ). Contains c.args.sums.sorted.now ((c.rest_of-rest.result + m) % 2 ^ 64)) (ap (λ (w : ℕ). hash_of (ended c.args.literal w)) e ∙ sym c.hash_of-in-loop-low.ensures) there)
+      (subst (λ (m : ℕ). Contains c.args.sums.sorted.now ((c.rest_of-rest.result + m) % 2 ^ 64))
+      (ap (λ (w : ℕ). hash_of (ended c.args.literal w)) e ∙ sym c.hash_of-in-loop-low.ensures) there)
 ]
 
 pub returns : goal.returns
 returns c low rest less is there = c.loop-low.invariant low (omega arith)
     (subst (λ (m : ℕ). Contains c.args.sums.sorted.now m)
     (one_rest rest c.rest_of-rest.result (hash_of c.args.literal) (hash_of (ended c.args.literal low))
-    (is ∙ sym (ap (λ (m : ℕ). (c.rest_of-rest.result + m) % 2 ^ 64) (sym c.hash_of.ensures) ∙ c.rest_of-rest.ensures))) there)
+    (is ∙ sym (ap (λ (m : ℕ). (c.rest_of-rest.result + m) % 2 ^ 64) (sym c.hash_of.ensures) ∙ c.rest_of-rest.ensures)))
+    there)

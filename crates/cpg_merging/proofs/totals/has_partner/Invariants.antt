@@ -3,4 +3,5 @@ use Rattle.cpg_merging.specs.Totals.{hash_of, ended}
 use Rattle.cpg_merging.proofs.totals.has_partner.Given as goal
 
 abbrev pub invariant-loop-low : goal.invariant-loop-low
-invariant-loop-low l = (low : ℕ) → low < l.low → Contains l.sums.sorted.now ((l.rest + hash_of (ended l.literal low)) % 2 ^ 64) → ⊥
+invariant-loop-low l =
+    (low : ℕ) → low < l.low → Contains l.sums.sorted.now ((l.rest + hash_of (ended l.literal low)) % 2 ^ 64) → ⊥

@@ -4,5 +4,7 @@ use Rattle.cpg_merging.proofs.MergingTotals.{not_there}
 use Rattle.cpg_merging.proofs.totals.is_there.Goals as goal
 
 pub returns : goal.returns
-returns c = subst (λ (b : Bool). OnFalse b (Contains c.args.sums.sorted.now c.args.number → ⊥)) (sym c.is_ok.ensures.value)
-    (not_there c.args.sums.sorted.now c.args.number c.binary_search.result c.binary_search.ensures.position c.requires.up)
+returns c =
+    subst (λ (b : Bool). OnFalse b (Contains c.args.sums.sorted.now c.args.number → ⊥)) (sym c.is_ok.ensures.value)
+    (not_there c.args.sums.sorted.now c.args.number c.binary_search.result
+    c.binary_search.ensures.position c.requires.up)

@@ -6,10 +6,14 @@ use Rattle.cpg_merging.proofs.totals.put_each.Goals as goal
 pub loop-number-preserved : goal.loop-number-preserved
 loop-number-preserved c = record {
   long = search rules;
-  marked = sieve_more c.loop-number.sieve (length c.args.sieve.now) c.place_in-place.result c.args.numbers.now c.loop-number.number-index _
-      (omega arith) c.loop-number.invariant.long c.place_in-place.ensures.place c.place_in-place.ensures.within c.loop-number.invariant.marked;
+  marked = sieve_more c.loop-number.sieve
+      (length c.args.sieve.now) c.place_in-place.result c.args.numbers.now c.loop-number.number-index _
+      (omega arith) c.loop-number.invariant.long c.place_in-place.ensures.place c.place_in-place.ensures.within
+      c.loop-number.invariant.marked;
 }
 
 pub returns-clause-sieve : goal.returns-clause-sieve
-returns-clause-sieve c = all_of (λ (n : ℕ). IsMarked c.loop-number.sieve (place_in (length c.loop-number.sieve) n)) c.args.numbers.now c.loop-number.number-index (omega arith)
-    (λ n there. subst (λ (count : ℕ). IsMarked c.loop-number.sieve (place_in count n)) (sym c.loop-number.invariant.long) (c.loop-number.invariant.marked n there))
+returns-clause-sieve c = all_of (λ (n : ℕ). IsMarked c.loop-number.sieve (place_in (length c.loop-number.sieve) n))
+    c.args.numbers.now c.loop-number.number-index (omega arith)
+    (λ n there. subst (λ (count : ℕ). IsMarked c.loop-number.sieve (place_in count n))
+    (sym c.loop-number.invariant.long) (c.loop-number.invariant.marked n there))

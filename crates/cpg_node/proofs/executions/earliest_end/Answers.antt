@@ -5,6 +5,8 @@ use Rattle.cpg_node.proofs.Least.{least_zip}
 use Rattle.cpg_node.proofs.executions.earliest_end.Goals as goal
 
 pub loop-place-preserved : goal.loop-place-preserved
-loop-place-preserved c = least_zip (is_after (Some c.args.last)) possible_ends c.loop-place.place c.args.own.now c.args.running.now c.index-own-place.result _ c.loop-place.first
+loop-place-preserved c = least_zip (is_after (Some c.args.last)) possible_ends c.loop-place.place c.args.own.now
+    c.args.running.now c.index-own-place.result _ c.loop-place.first
     c.earlier-first.result _
-    c.loop-place-test.true c.requires.same c.index-own-place.is (c.earlier-first.ensures ∙ ap (earlier c.loop-place.first) c.first_end_of.ensures) c.loop-place.invariant
+    c.loop-place-test.true c.requires.same c.index-own-place.is
+    (c.earlier-first.ensures ∙ ap (earlier c.loop-place.first) c.first_end_of.ensures) c.loop-place.invariant

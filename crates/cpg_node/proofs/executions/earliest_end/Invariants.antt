@@ -5,5 +5,6 @@ use Rattle.cpg_node.specs.State.{earlier}
 use Rattle.cpg_node.proofs.executions.earliest_end.Given as goal
 
 abbrev pub invariant-loop-place : goal.invariant-loop-place
-invariant-loop-place l = earlier l.first (least_of (filter (is_after (Some l.last)) (flat_map (λ ends. ends) (zip_with possible_ends (drop l.place l.own) (drop l.place l.running))))) ≡ least_of
+invariant-loop-place l = earlier l.first (least_of (filter (is_after (Some l.last))
+    (flat_map (λ ends. ends) (zip_with possible_ends (drop l.place l.own) (drop l.place l.running))))) ≡ least_of
     (filter (is_after (Some l.last)) (flat_map (λ ends. ends) (zip_with possible_ends l.own l.running)))

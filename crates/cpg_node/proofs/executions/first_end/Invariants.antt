@@ -4,5 +4,6 @@ use Rattle.cpg_node.specs.State.{earlier}
 use Rattle.cpg_node.proofs.executions.first_end.Given as goal
 
 abbrev pub invariant-loop-duration : goal.invariant-loop-duration
-invariant-loop-duration l = earlier l.first (least_of (filter (is_after (Some l.last)) (map (λ d. l.start + d) (drop l.duration-index l.times)))) ≡ least_of
+invariant-loop-duration l = earlier l.first
+    (least_of (filter (is_after (Some l.last)) (map (λ d. l.start + d) (drop l.duration-index l.times)))) ≡ least_of
     (filter (is_after (Some l.last)) (map (λ d. l.start + d) l.times))

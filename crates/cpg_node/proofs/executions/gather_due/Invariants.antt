@@ -6,7 +6,8 @@ use Rattle.cpg_node.proofs.executions.gather_due.Given as goal
 
 abbrev pub invariant-loop-place : goal.invariant-loop-place
 invariant-loop-place l = record {
-  reports : l.due.items ++ flat_map (λ es. es) (zip_with (due_reports_of l.time) (drop l.place l.own) (drop l.place l.running)) ≡ flat_map (λ es. es)
+  reports : l.due.items ++ flat_map (λ es. es)
+      (zip_with (due_reports_of l.time) (drop l.place l.own) (drop l.place l.running)) ≡ flat_map (λ es. es)
       (zip_with (due_reports_of l.time) l.own l.running);
   few : vec_len l.due ≤ l.place;
   room : vec_capacity l.due ≡ vec_capacity l.fn.due;

@@ -4,4 +4,5 @@ use Rattle.cpg_node.proofs.executions.running_in.Goals as goal
 
 pub loop-place-preserved : goal.loop-place-preserved
 loop-place-preserved c = c.loop-place.invariant
-    ∙ running_in-next c.loop-place.place c.args.own.now c.args.running.now c.args.process c.index-own-place.result c.loop-place-test.true c.requires c.index-own-place.is c.if-own-process.false
+    ∙ running_in-next c.loop-place.place c.args.own.now c.args.running.now c.args.process c.index-own-place.result
+    c.loop-place-test.true c.requires c.index-own-place.is c.if-own-process.false

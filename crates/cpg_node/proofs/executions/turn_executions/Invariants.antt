@@ -4,4 +4,5 @@ use Rattle.cpg_node.proofs.Places.{zip_front}
 use Rattle.cpg_node.proofs.executions.turn_executions.Given as goal
 
 abbrev pub invariant-loop-place : goal.invariant-loop-place
-invariant-loop-place l = l.running ≡ zip_front (running_after (l.ended ++ l.due) l.acts l.time) l.place l.own l.fn.running
+invariant-loop-place l =
+    l.running ≡ zip_front (running_after (l.ended ++ l.due) l.acts l.time) l.place l.own l.fn.running

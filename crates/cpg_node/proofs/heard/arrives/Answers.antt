@@ -8,12 +8,16 @@ pub returns-in-Some : goal.returns-in-Some
 returns-in-Some c =
     let columns = c.heard_columns.result.now in
     let i = c.args.frame.now.column in
-    let found : slice_get columns i ≡ Some c.in-Some.entry.now = slice_get-get_or columns i c.in-Some.entry.now c.in-Some.ensures.lookup.3.0 ∙ ap Some (sym c.in-Some.ensures.lookup.1) in
-    arrives_at c.args.table.now c.args.arrival c.args.frame.now c.in-Some.entry.now (ap (λ cs. slice_get cs i) (sym c.heard_columns.ensures) ∙ found)
+    let found : slice_get columns i ≡ Some c.in-Some.entry.now =
+    slice_get-get_or columns i c.in-Some.entry.now c.in-Some.ensures.lookup.3.0
+    ∙ ap Some (sym c.in-Some.ensures.lookup.1) in
+    arrives_at c.args.table.now c.args.arrival c.args.frame.now c.in-Some.entry.now
+    (ap (λ cs. slice_get cs i) (sym c.heard_columns.ensures) ∙ found)
 
 pub returns-in-None : goal.returns-in-None
 returns-in-None c =
     let columns = c.heard_columns.result.now in
     let i = c.args.frame.now.column in
     let past : length columns ≤ i = search rules in
-    arrives_nowhere c.args.table.now c.args.arrival c.args.frame.now (ap (λ cs. slice_get cs i) (sym c.heard_columns.ensures) ∙ slice_get_past columns i past)
+    arrives_nowhere c.args.table.now c.args.arrival c.args.frame.now
+    (ap (λ cs. slice_get cs i) (sym c.heard_columns.ensures) ∙ slice_get_past columns i past)

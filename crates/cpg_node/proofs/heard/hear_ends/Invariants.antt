@@ -3,4 +3,5 @@ use Rattle.cpg_node.specs.Dispatcher.{hear_end}
 use Rattle.cpg_node.proofs.heard.hear_ends.Given as goal
 
 abbrev pub invariant-loop-end : goal.invariant-loop-end
-invariant-loop-end l = fold (hear_end l.table) l.heard (drop l.end-index l.ended) ≡ fold (hear_end l.table) l.fn.heard l.ended
+invariant-loop-end l =
+    fold (hear_end l.table) l.heard (drop l.end-index l.ended) ≡ fold (hear_end l.table) l.fn.heard l.ended

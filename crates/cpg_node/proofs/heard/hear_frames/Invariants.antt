@@ -3,4 +3,5 @@ use Rattle.cpg_node.specs.Dispatcher.{hear_frame}
 use Rattle.cpg_node.proofs.heard.hear_frames.Given as goal
 
 abbrev pub invariant-loop-frame : goal.invariant-loop-frame
-invariant-loop-frame l = fold (hear_frame l.table) l.heard (drop l.frame-index l.frames) ≡ fold (hear_frame l.table) l.fn.heard l.frames
+invariant-loop-frame l =
+    fold (hear_frame l.table) l.heard (drop l.frame-index l.frames) ≡ fold (hear_frame l.table) l.fn.heard l.frames

@@ -3,5 +3,7 @@ use Rattle.cpg_table.specs.declared.own.Own.{Own}
 use Rattle.cpg_node.proofs.own.own_of.Given as goal
 
 abbrev pub invariant-loop-own : goal.invariant-loop-own
-invariant-loop-own l = get_or (filter (λ (o : Own). o.process == l.process) l.table.own) 0 (record { process = 0; condition = None; times = [] }) ≡ get_or
-    (filter (λ (o : Own). o.process == l.process) (drop l.own-index l.own-items)) 0 (record { process = 0; condition = None; times = [] })
+invariant-loop-own l = get_or (filter (λ (o : Own). o.process == l.process) l.table.own) 0
+    (record { process = 0; condition = None; times = [] }) ≡ get_or
+    (filter (λ (o : Own). o.process == l.process) (drop l.own-index l.own-items)) 0
+    (record { process = 0; condition = None; times = [] })

@@ -5,7 +5,8 @@ use Rattle.cpg_node.proofs.plan.gather_acts.Goals as goal
 
 pub loop-planned-preserved : goal.loop-planned-preserved
 loop-planned-preserved c = record {
-  acts = acts_next (takes (c.args.table.now.sends ++ c.args.table.now.starts) c.args.heard.now) c.args.plan.now c.loop-planned.planned-index _ c.loop-planned.acts.items c.add_act.new.acts.items
+  acts = acts_next (takes (c.args.table.now.sends ++ c.args.table.now.starts) c.args.heard.now) c.args.plan.now
+      c.loop-planned.planned-index _ c.loop-planned.acts.items c.add_act.new.acts.items
       c.loop-planned-test.true c.loop-planned.invariant.acts c.add_act.ensures.added;
   few = omega arith;
   room = c.add_act.ensures.room ∙ c.loop-planned.invariant.room;

@@ -5,7 +5,8 @@ use Rattle.cpg_node.proofs.plan.gather_acts.Given as goal
 
 abbrev pub invariant-loop-planned : goal.invariant-loop-planned
 invariant-loop-planned l = record {
-  acts : l.acts.items ++ map act_of (filter (takes (l.table.sends ++ l.table.starts) l.heard) (drop l.planned-index l.plan)) ≡ map act_of
+  acts : l.acts.items ++ map act_of
+      (filter (takes (l.table.sends ++ l.table.starts) l.heard) (drop l.planned-index l.plan)) ≡ map act_of
       (filter (takes (l.table.sends ++ l.table.starts) l.heard) l.plan);
   few : vec_len l.acts ≤ l.planned-index;
   room : vec_capacity l.acts ≡ vec_capacity l.fn.acts;

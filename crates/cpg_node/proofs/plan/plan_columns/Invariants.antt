@@ -4,6 +4,7 @@ use Rattle.cpg_node.proofs.plan.plan_columns.Given as goal
 
 abbrev pub invariant-loop-entry : goal.invariant-loop-entry
 invariant-loop-entry l = record {
-  plan : l.plan.items ++ plan_of_columns l.row l.item l.column (drop l.entry-index l.columns) ≡ l.fn.plan.items ++ plan_of_columns l.row l.item 0 l.columns;
+  plan : l.plan.items ++ plan_of_columns l.row l.item l.column (drop l.entry-index l.columns) ≡ l.fn.plan.items
+      ++ plan_of_columns l.row l.item 0 l.columns;
   column : l.column ≡ l.entry-index;
 }

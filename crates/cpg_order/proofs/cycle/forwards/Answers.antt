@@ -6,7 +6,8 @@ use Rattle.cpg_order.proofs.cycle.forwards.Goals as goal
 use Rattle.cpg_order.proofs.cycle.forwards.Goals.{then-place-eq0, else-place-eq0}
 
 -- one place further down
-next_place : (m n k at : ℕ) → m < n → k < n → at ≡ place_down m n k → (at ≡ 0 → n - 1 ≡ place_down m n (k + 1)) × ((at ≡ 0 → ⊥) → at - 1 ≡ place_down m n (k + 1))
+next_place : (m n k at : ℕ) → m < n → k < n → at ≡ place_down m n k →
+    (at ≡ 0 → n - 1 ≡ place_down m n (k + 1)) × ((at ≡ 0 → ⊥) → at - 1 ≡ place_down m n (k + 1))
 next_place m n k at h l is = elim (down_next m n k h l) [
   | inl (a, b) ↦ (λ z. sym b, λ z. absurd (z (is ∙ a)))
   | inr (a, b) ↦ (λ z. absurd (omega arith), λ z. omega arith)
@@ -14,11 +15,15 @@ next_place m n k at h l is = elim (down_next m n k h l) [
 
 pub loop-preserved : goal.loop-preserved
 loop-preserved c =
-    let n = next_place c.least_place-place.result (length c.args.back.now) c.loop.counter c.loop.place c.least_place-place.ensures.within c.loop-test.true c.loop.invariant.place in
+    let n = next_place c.least_place-place.result (length c.args.back.now) c.loop.counter c.loop.place
+    c.least_place-place.ensures.within c.loop-test.true c.loop.invariant.place in
     record {
-      walk = map_below_push (λ k. get_or c.args.back.now (place_down c.least_place-place.result (length c.args.back.now) k) 0) c.loop.walk.items c.push.new.self.items
+      walk = map_below_push
+          (λ k. get_or c.args.back.now (place_down c.least_place-place.result (length c.args.back.now) k) 0)
+          c.loop.walk.items c.push.new.self.items
           (get_or c.args.back.now c.loop.place 0) c.loop.counter
-          c.loop.invariant.walk (ap (λ i. get_or c.args.back.now i 0) c.loop.invariant.place) c.in_ok-push.ensures.items;
+          c.loop.invariant.walk (ap (λ i. get_or c.args.back.now i 0) c.loop.invariant.place)
+          c.in_ok-push.ensures.items;
       place = elim c.if-place-eq0.branch [
         | then-place-eq0 w ↦ w.place-is ∙ n.0 w.if-place-eq0.true
         | else-place-eq0 w ↦ w.place-is ∙ n.1 w.if-place-eq0.false
@@ -33,5 +38,7 @@ pub returns : goal.returns
 returns c g is =
     let all : c.loop.counter ≡ length c.args.back.now = omega arith in
     cycle_from_back g c.args.back.now is c.least_place-place.result c.least_place-place.ensures.within c.loop.walk.items
-    (c.loop.invariant.walk ∙ ap (λ n. map (λ k. get_or c.args.back.now (place_down c.least_place-place.result (length c.args.back.now) k) 0) (numbers_below n)) all)
+    (c.loop.invariant.walk ∙ ap
+    (λ n. map (λ k. get_or c.args.back.now (place_down c.least_place-place.result (length c.args.back.now) k) 0)
+    (numbers_below n)) all)
     c.least_place-place.ensures.least

@@ -5,7 +5,8 @@ use Rattle.cpg_order.proofs.cycle.forwards.Given as goal
 
 abbrev pub invariant-loop : goal.invariant-loop
 invariant-loop l = record {
-  walk : l.walk.items ≡ map (λ k. get_or l.back (place_down l.initial.place (length l.back) k) 0) (numbers_below l.counter);
+  walk : l.walk.items
+      ≡ map (λ k. get_or l.back (place_down l.initial.place (length l.back) k) 0) (numbers_below l.counter);
   place : l.place ≡ place_down l.initial.place (length l.back) l.counter;
   within : l.place < length l.back;
 }

@@ -11,14 +11,17 @@ pub source-source-requires : goal.source-source-requires
 source-source-requires c =
     let is = c.inputs-edge-items.ensures.of_graph c.args.problem.now c.requires.links in
     (inputs_parts c.args.problem.now c.args.process (get_or c.inputs-edge-items.result.now c.loop-edge.edge-index 0)
-    (subst (λ xs. Contains xs (get_or c.inputs-edge-items.result.now c.loop-edge.edge-index 0)) is (Contains-get_or c.inputs-edge-items.result.now c.loop-edge.edge-index 0 c.loop-edge-test.true))).0
+    (subst (λ xs. Contains xs (get_or c.inputs-edge-items.result.now c.loop-edge.edge-index 0)) is
+    (Contains-get_or c.inputs-edge-items.result.now c.loop-edge.edge-index 0 c.loop-edge-test.true))).0
 
 pub returns-then-waiting-source-gt0-clause-edge : goal.returns-then-waiting-source-gt0-clause-edge
 returns-then-waiting-source-gt0-clause-edge c =
     let is = c.inputs-edge-items.ensures.of_graph c.args.problem.now c.requires.links in
     subst (λ p. has_edge c.args.problem.now p c.args.process ≡ true) (sym c.source-source.ensures.source)
-    (has_edge_of_input c.args.problem.now c.args.process (get_or c.inputs-edge-items.result.now c.loop-edge.edge-index 0)
-    (subst (λ xs. Contains xs (get_or c.inputs-edge-items.result.now c.loop-edge.edge-index 0)) is (Contains-get_or c.inputs-edge-items.result.now c.loop-edge.edge-index 0 c.loop-edge-test.true)))
+    (has_edge_of_input c.args.problem.now c.args.process
+    (get_or c.inputs-edge-items.result.now c.loop-edge.edge-index 0)
+    (subst (λ xs. Contains xs (get_or c.inputs-edge-items.result.now c.loop-edge.edge-index 0)) is
+    (Contains-get_or c.inputs-edge-items.result.now c.loop-edge.edge-index 0 c.loop-edge-test.true)))
 
 pub unreachable-requires : goal.unreachable-requires
 unreachable-requires c =
@@ -26,7 +29,8 @@ unreachable-requires c =
     let is = c.inputs-edge-items.ensures.of_graph c.args.problem.now c.requires.links in
     let k = r.1.0 in
     let l : k < c.loop-edge.edge-index = omega (arith, r.1.1, ap length is) in
-    let at : get_or (inputs c.args.problem.now c.args.process) k 0 ≡ r.0 = get_or_default (inputs c.args.problem.now c.args.process) k 0 r.0 r.1.1 ∙ r.1.2 in
+    let at : get_or (inputs c.args.problem.now c.args.process) k 0 ≡ r.0 =
+    get_or_default (inputs c.args.problem.now c.args.process) k 0 r.0 r.1.1 ∙ r.1.2 in
     let none = c.loop-edge.invariant k l in
     let some = r.2 in
     omega (arith, ap (λ e. get_or c.args.waiting.now (source c.args.problem.now e) 0) at)

@@ -3,4 +3,5 @@ use Rattle.cpg_base.specs.Graph.{inputs, source}
 use Rattle.cpg_order.proofs.cycle.waiting_source.Given as goal
 
 abbrev pub invariant-loop-edge : goal.invariant-loop-edge
-invariant-loop-edge l = (k : ℕ) → k < l.edge-index → get_or l.waiting (source l.problem (get_or (inputs l.problem l.process) k 0)) 0 ≡ 0
+invariant-loop-edge l =
+    (k : ℕ) → k < l.edge-index → get_or l.waiting (source l.problem (get_or (inputs l.problem l.process) k 0)) 0 ≡ 0

@@ -1,4 +1,5 @@
-use Rattle.std.proofs.Common.{ℕ, List, Option, ◌≡◌, ◌∙◌, ◌==◌, sym, ap, length, false, Some, position, arith, eqb-true, length-append, ◌∷◌, []}
+use Rattle.std.proofs.Common.{ℕ, List, Option, ◌≡◌, ◌∙◌, ◌==◌, sym, ap, length, false, Some, position, arith, eqb-true}
+use Rattle.std.proofs.Common.{length-append, ◌∷◌, []}
 use Rattle.std.proofs.lemmas.Bool.{false_from_ne_true}
 use Rattle.std.proofs.lemmas.List.Quantifiers.{position-Some}
 use Rattle.cpg_base.specs.Graph.{process_count}
@@ -12,28 +13,37 @@ use Rattle.cpg_order.proofs.cycle.walk_back.Goals as goal
 
 pub returns-in-Some-clause-cycle : goal.returns-in-Some-clause-cycle
 returns-in-Some-clause-cycle c =
-    let found : position (λ p. p == c.loop-from.process) c.loop-from.walk.items ≡ Some c.in-Some.from = ap (position (λ p. p == c.loop-from.process)) (sym c.as_slice.ensures.value) ∙
+    let found : position (λ p. p == c.loop-from.process) c.loop-from.walk.items ≡ Some c.in-Some.from =
+    ap (position (λ p. p == c.loop-from.process)) (sym c.as_slice.ensures.value) ∙
     sym c.in-Some.ensures in
     let r = position-Some (λ p. p == c.loop-from.process) c.loop-from.walk.items c.in-Some.from 0 found in
-    walk_meets c.args.problem.now c.loop-from.walk.items c.loop-from.process c.loop-from.invariant.walk c.in-Some.from r.0 (eqb-true _ _ r.1)
+    walk_meets c.args.problem.now c.loop-from.walk.items c.loop-from.process c.loop-from.invariant.walk c.in-Some.from
+    r.0 (eqb-true _ _ r.1)
 
-not_found : (walk : List ℕ) (p : ℕ) (found : Option ℕ) → found ≡ position (λ q. q == p) walk → ((from : ℕ) → found ≡ Some from → ⊥) → is_in walk p ≡ false
-not_found walk p found is none = false_from_ne_true (is_in walk p) (λ t. none (place walk p) (is ∙ position-place walk p (from_is_in walk p t)))
+not_found : (walk : List ℕ) (p : ℕ) (found : Option ℕ) → found ≡ position (λ q. q == p) walk →
+    ((from : ℕ) → found ≡ Some from → ⊥) →
+    is_in walk p ≡ false
+not_found walk p found is none =
+    false_from_ne_true (is_in walk p) (λ t. none (place walk p) (is ∙ position-place walk p (from_is_in walk p t)))
 
 pub loop-from-smaller : goal.loop-from-smaller
 loop-from-smaller c =
-    let fresh = not_found c.loop-from.walk.items c.loop-from.process c.place_in.result (c.place_in.ensures ∙ ap (position (λ p. p == c.loop-from.process)) c.as_slice.ensures.value)
+    let fresh = not_found c.loop-from.walk.items c.loop-from.process c.place_in.result
+    (c.place_in.ensures ∙ ap (position (λ p. p == c.loop-from.process)) c.as_slice.ensures.value)
     c.in_default.not-Some in
-    let l = length-lt_below (process_count c.args.problem.now) c.loop-from.process c.loop-from.walk.items c.loop-from.invariant.walk.apart c.loop-from.invariant.walk.below
+    let l = length-lt_below (process_count c.args.problem.now) c.loop-from.process c.loop-from.walk.items
+    c.loop-from.invariant.walk.apart c.loop-from.invariant.walk.below
     c.loop-from.invariant.within fresh in
     omega (arith, ap length c.in_ok-push.ensures.items, length-append c.loop-from.walk.items (c.loop-from.process ∷ []))
 
 pub loop-from-preserved : goal.loop-from-preserved
 loop-from-preserved c =
-    let fresh = not_found c.loop-from.walk.items c.loop-from.process c.place_in.result (c.place_in.ensures ∙ ap (position (λ p. p == c.loop-from.process)) c.as_slice.ensures.value)
+    let fresh = not_found c.loop-from.walk.items c.loop-from.process c.place_in.result
+    (c.place_in.ensures ∙ ap (position (λ p. p == c.loop-from.process)) c.as_slice.ensures.value)
     c.in_default.not-Some in
     record {
-      walk = rw c.in_ok-push.ensures.items (walk_more c.args.problem.now c.loop-from.walk.items c.loop-from.process c.loop-from.invariant.walk c.waiting_source-process.result
+      walk = rw c.in_ok-push.ensures.items (walk_more c.args.problem.now c.loop-from.walk.items c.loop-from.process
+          c.loop-from.invariant.walk c.waiting_source-process.result
           c.loop-from.invariant.within fresh c.waiting_source-process.ensures.edge);
       within = c.waiting_source-process.ensures.within;
       waits = c.waiting_source-process.ensures.waits;

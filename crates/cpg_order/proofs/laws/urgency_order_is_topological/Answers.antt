@@ -2,4 +2,5 @@ use Rattle.cpg_order.proofs.UrgencyIsTopological.{work_within, urgency_goes_forw
 use Rattle.cpg_order.proofs.laws.urgency_order_is_topological.Goals as goal
 
 pub returns : goal.returns
-returns c g some order within topological urgency = urgency_goes_forward g (work_within g within) some topological order urgency
+returns c g some order within topological urgency =
+    urgency_goes_forward g (work_within g within) some topological order urgency

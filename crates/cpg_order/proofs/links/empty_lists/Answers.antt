@@ -3,4 +3,5 @@ use Rattle.cpg_base.proofs.Lists.{map_below_push}
 use Rattle.cpg_order.proofs.links.empty_lists.Goals as goal
 
 pub loop-preserved : goal.loop-preserved
-loop-preserved c = map_below_push (λ _. []) c.loop.lists.items c.push.new.self.items _ c.loop.counter c.loop.invariant c.empty.ensures c.in_ok-push.ensures.items
+loop-preserved c = map_below_push (λ _. []) c.loop.lists.items c.push.new.self.items _ c.loop.counter c.loop.invariant
+    c.empty.ensures c.in_ok-push.ensures.items

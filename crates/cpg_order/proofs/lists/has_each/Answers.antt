@@ -9,24 +9,34 @@ loop-number-init c = seen_none c.args.list.now c.in_ok-seen.seen.items (search r
 pub returns-then-place-list : goal.returns-then-place-list
 returns-then-place-list c = (
   λ t. absurd (true≢false (sym t)),
-  λ all. absurd (not_great c.args.list.now c.loop-number.seen.items c.loop-number.number-index c.loop-number.invariant c.loop-number-test.true c.if-place-list.true all),
+  λ all. absurd (not_great c.args.list.now c.loop-number.seen.items c.loop-number.number-index c.loop-number.invariant
+      c.loop-number-test.true c.if-place-list.true all),
 )
 
 pub returns-then-index : goal.returns-then-index
 returns-then-index c =
     let small : get_or c.args.list.now c.loop-number.number-index 0 < length c.args.list.now = omega arith in
-    let old = sym (get_or_default c.loop-number.seen.items (get_or c.args.list.now c.loop-number.number-index 0) c.index.result.now false (omega (arith, c.loop-number.invariant.long))) ∙
-    sym c.index.ensures ∙ c.if-index.true in
-    (λ t. absurd (true≢false (sym t)), λ all. absurd (not_twice c.args.list.now c.loop-number.seen.items c.loop-number.number-index c.loop-number.invariant c.loop-number-test.true small old all))
+    let old = sym (get_or_default c.loop-number.seen.items (get_or c.args.list.now c.loop-number.number-index 0)
+    c.index.result.now false (omega (arith, c.loop-number.invariant.long))) ∙
+    sym c.index.ensures ∙ c.if-index.true in (
+      λ t. absurd (true≢false (sym t)),
+      λ all. absurd (not_twice c.args.list.now c.loop-number.seen.items c.loop-number.number-index
+          c.loop-number.invariant c.loop-number-test.true small old all),
+    )
 
 pub loop-number-preserved : goal.loop-number-preserved
 loop-number-preserved c =
     let small : get_or c.args.list.now c.loop-number.number-index 0 < length c.args.list.now = omega arith in
-    let fresh = sym (get_or_default c.loop-number.seen.items (get_or c.args.list.now c.loop-number.number-index 0) c.index.result.now false (omega (arith, c.loop-number.invariant.long))) ∙
+    let fresh = sym (get_or_default c.loop-number.seen.items (get_or c.args.list.now c.loop-number.number-index 0)
+    c.index.result.now false (omega (arith, c.loop-number.invariant.long))) ∙
     sym c.index.ensures ∙ c.if-index.false in
-    seen_more c.args.list.now c.loop-number.seen.items c.loop-number.number-index c.loop-number.invariant c.loop-number-test.true small fresh
+    seen_more c.args.list.now c.loop-number.seen.items c.loop-number.number-index c.loop-number.invariant
+    c.loop-number-test.true small fresh
 
 pub returns : goal.returns
 returns c =
-    let e : c.loop-number.number-index ≡ length c.args.list.now = omega arith in
-    (λ t. all_seen c.args.list.now c.loop-number.seen.items (subst (AreSeen c.args.list.now c.loop-number.seen.items) e c.loop-number.invariant), λ all. refl)
+    let e : c.loop-number.number-index ≡ length c.args.list.now = omega arith in (
+      λ t. all_seen c.args.list.now c.loop-number.seen.items
+          (subst (AreSeen c.args.list.now c.loop-number.seen.items) e c.loop-number.invariant),
+      λ all. refl,
+    )

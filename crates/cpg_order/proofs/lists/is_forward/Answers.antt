@@ -8,23 +8,30 @@ use Rattle.cpg_order.proofs.lists.is_forward.Goals as goal
 
 pub returns-then-place : goal.returns-then-place
 returns-then-place c =
-    let l : c.loop-edge.edge-index < edge_count c.args.problem.now = omega (arith, ap length c.edges-edge-items.ensures.edges) in
+    let l : c.loop-edge.edge-index < edge_count c.args.problem.now =
+    omega (arith, ap length c.edges-edge-items.ensures.edges) in
     let from = rw c.edges-edge-items.ensures.edges at c.place.ensures.place in
     let to = rw c.edges-edge-items.ensures.edges at c.place-in-loop-edge.ensures.place in (
       λ t. absurd (true≢false (sym t)),
-      λ all. absurd (not_before_at c.args.order.now (source c.args.problem.now c.loop-edge.edge-index) (target c.args.problem.now c.loop-edge.edge-index)
-          c.place.result c.place-in-loop-edge.result from to c.if-place.true (all c.loop-edge.edge-index (Contains-numbers (edge_count c.args.problem.now) c.loop-edge.edge-index l))),
+      λ all. absurd (not_before_at c.args.order.now (source c.args.problem.now c.loop-edge.edge-index)
+          (target c.args.problem.now c.loop-edge.edge-index)
+          c.place.result c.place-in-loop-edge.result from to c.if-place.true
+          (all c.loop-edge.edge-index (Contains-numbers (edge_count c.args.problem.now) c.loop-edge.edge-index l))),
     )
 
 pub loop-edge-preserved : goal.loop-edge-preserved
 loop-edge-preserved c e l =
-    let m : c.loop-edge.edge-index < edge_count c.args.problem.now = omega (arith, ap length c.edges-edge-items.ensures.edges) in
+    let m : c.loop-edge.edge-index < edge_count c.args.problem.now =
+    omega (arith, ap length c.edges-edge-items.ensures.edges) in
     let from = rw c.edges-edge-items.ensures.edges at c.place.ensures.place in
     let to = rw c.edges-edge-items.ensures.edges at c.place-in-loop-edge.ensures.place in
-    let from_within : source c.args.problem.now c.loop-edge.edge-index < process_count c.args.problem.now = (c.edges-edge-items.ensures.within.edges c.loop-edge.edge-index _ m).from in
+    let from_within : source c.args.problem.now c.loop-edge.edge-index < process_count c.args.problem.now =
+    (c.edges-edge-items.ensures.within.edges c.loop-edge.edge-index _ m).from in
     let inside : source c.args.problem.now c.loop-edge.edge-index < length c.args.order.now = omega arith in
     elim (cases_eq e c.loop-edge.edge-index) [
-      | inl is ↦ subst (λ k. comes_before c.args.order.now (source c.args.problem.now k) (target c.args.problem.now k) ≡ true) (sym is)
+      | inl is ↦
+          subst (λ k. comes_before c.args.order.now (source c.args.problem.now k) (target c.args.problem.now k) ≡ true)
+          (sym is)
           (comes_before_at c.args.order.now c.place.ensures.order (source c.args.problem.now c.loop-edge.edge-index)
           (target c.args.problem.now c.loop-edge.edge-index) c.place.result c.place-in-loop-edge.result
           inside from to c.if-place.false)
@@ -32,4 +39,8 @@ loop-edge-preserved c e l =
     ]
 
 pub returns : goal.returns
-returns c = (λ t e k. c.loop-edge.invariant e (omega (arith, numbers-Contains (edge_count c.args.problem.now) e k, ap length c.edges-edge-items.ensures.edges)), λ all. refl)
+returns c = (
+  λ t e k. c.loop-edge.invariant e
+      (omega (arith, numbers-Contains (edge_count c.args.problem.now) e k, ap length c.edges-edge-items.ensures.edges)),
+  λ all. refl,
+)

@@ -7,18 +7,22 @@ use Rattle.cpg_order.proofs.lists.ordered.Goals as goal
 
 pub returns-then-list-processes-clause-refused : goal.returns-then-list-processes-clause-refused
 returns-then-list-processes-clause-refused c topological =
-    absurd (c.if-list-processes.true (length_order (process_count c.args.problem.now) c.args.list.now topological.all ∙ sym (ap length c.processes.ensures.processes)))
+    absurd (c.if-list-processes.true (length_order (process_count c.args.problem.now) c.args.list.now topological.all
+    ∙ sym (ap length c.processes.ensures.processes)))
 
 pub returns-then-not-is_forward-clause-refused : goal.returns-then-not-is_forward-clause-refused
 returns-then-not-is_forward-clause-refused c topological =
     let same : c.in_ok-order.order ≡ c.args.list.now = c.in_ok-order.ensures ∙ c.in_ok-copied.ensures in
-    absurd (true≢false (sym (c.if-not-is_forward.ensures.1 (subst (IsTopological c.args.problem.now) (sym same) topological).forward)))
+    absurd (true≢false
+    (sym (c.if-not-is_forward.ensures.1 (subst (IsTopological c.args.problem.now) (sym same) topological).forward)))
 
 pub returns-clause-topological : goal.returns-clause-topological
 returns-clause-topological c =
     let same : c.in_ok-order.order ≡ c.args.list.now = c.in_ok-order.ensures ∙ c.in_ok-copied.ensures in
-    let long : length c.args.list.now ≡ process_count c.args.problem.now = omega (arith, ap length c.processes.ensures.processes) in
+    let long : length c.args.list.now ≡ process_count c.args.problem.now =
+    omega (arith, ap length c.processes.ensures.processes) in
     record {
-      all = subst₂ (λ n xs. IsPermutation (numbers_below n) xs) long (sym same) (c.in_ok-has_each.ensures.0 c.if-not-branch.false);
+      all = subst₂ (λ n xs. IsPermutation (numbers_below n) xs) long (sym same)
+          (c.in_ok-has_each.ensures.0 c.if-not-branch.false);
       forward = c.if-not-is_forward.ensures.0 refl;
     }

@@ -10,5 +10,7 @@ overflow_cast-inputs c =
     omega (arith, inputs-le c.args.problem.now c.loop-process.process, c.processes-count.ensures.within.few_edges)
 
 pub loop-process-preserved : goal.loop-process-preserved
-loop-process-preserved c = map_below_push (λ p. length (inputs c.args.problem.now p)) c.loop-process.counts.items c.push.new.self.items (length c.inputs.result.now) c.loop-process.process
-    c.loop-process.invariant (ap length (c.inputs.ensures.of_graph c.args.problem.now c.requires)) c.in_ok-push.ensures.items
+loop-process-preserved c = map_below_push (λ p. length (inputs c.args.problem.now p)) c.loop-process.counts.items
+    c.push.new.self.items (length c.inputs.result.now) c.loop-process.process
+    c.loop-process.invariant (ap length (c.inputs.ensures.of_graph c.args.problem.now c.requires))
+    c.in_ok-push.ensures.items

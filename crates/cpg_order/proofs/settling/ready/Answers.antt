@@ -8,9 +8,12 @@ use Rattle.cpg_order.proofs.settling.ready.Goals.{then-left-eq0+in_ok-push, else
 
 pub loop-process-preserved : goal.loop-process-preserved
 loop-process-preserved c = elim c.if-left-eq0.branch [
-  | then-left-eq0+in_ok-push w ↦ filter_below_takes (λ p. get_or c.args.waiting.now p 0 == 0) c.loop-process.ready.items c.if-left-eq0.ready.items c.loop-process.process c.loop-process.invariant
-      (eq-eqb (get_or c.args.waiting.now c.loop-process.process 0) 0 w.if-left-eq0.true) (ap (λ v. v.items) w.ready-is ∙ w.in_ok-push.ensures.items)
-  | else-left-eq0 w ↦ ap (λ v. v.items) w.ready-is ∙ filter_below_skips (λ p. get_or c.args.waiting.now p 0 == 0) c.loop-process.ready.items c.loop-process.process c.loop-process.invariant
+  | then-left-eq0+in_ok-push w ↦ filter_below_takes (λ p. get_or c.args.waiting.now p 0 == 0) c.loop-process.ready.items
+      c.if-left-eq0.ready.items c.loop-process.process c.loop-process.invariant
+      (eq-eqb (get_or c.args.waiting.now c.loop-process.process 0) 0 w.if-left-eq0.true)
+      (ap (λ v. v.items) w.ready-is ∙ w.in_ok-push.ensures.items)
+  | else-left-eq0 w ↦ ap (λ v. v.items) w.ready-is ∙ filter_below_skips (λ p. get_or c.args.waiting.now p 0 == 0)
+      c.loop-process.ready.items c.loop-process.process c.loop-process.invariant
       (ne_eqb (get_or c.args.waiting.now c.loop-process.process 0) 0 w.if-left-eq0.false)
 ]
 

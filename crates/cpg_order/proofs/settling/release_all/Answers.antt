@@ -1,4 +1,5 @@
-use Rattle.std.proofs.Common.{ℕ, List, ◌+◌, ◌<◌, ◌≤◌, ◌≡◌, ◌==◌, ◌∙◌, ◌++◌, sym, ap, length, get_or, take, arith, eq-eqb, append_assoc, length-set}
+use Rattle.std.proofs.Common.{ℕ, List, ◌+◌, ◌<◌, ◌≤◌, ◌≡◌, ◌==◌, ◌∙◌, ◌++◌, sym, ap, length, get_or, take, arith}
+use Rattle.std.proofs.Common.{eq-eqb, append_assoc, length-set}
 use Rattle.std.proofs.lemmas.List.{take_all}
 use Rattle.std.proofs.lemmas.List.Elements.{Contains-get_or}
 use Rattle.cpg_base.specs.Graph.{target}
@@ -6,28 +7,36 @@ use Rattle.cpg_order.proofs.Readiness.{passing, passing_next, left_next}
 use Rattle.cpg_order.proofs.settling.release_all.Goals as goal
 
 pub target-requires : goal.target-requires
-target-requires c = c.requires.edges (get_or c.args.edges.now c.loop-edge.edge-index 0) (Contains-get_or c.args.edges.now c.loop-edge.edge-index 0 c.loop-edge-test.true)
+target-requires c = c.requires.edges (get_or c.args.edges.now c.loop-edge.edge-index 0)
+    (Contains-get_or c.args.edges.now c.loop-edge.edge-index 0 c.loop-edge-test.true)
 
 -- the target of the next edge still waits
-next_waits : (edges waiting : List ℕ) (f : ℕ → ℕ) (i t : ℕ) (old : ℕ) → i < length edges → t ≡ f (get_or edges i 0) → passing (λ e. f e == t) edges ≤ old →
+next_waits : (edges waiting : List ℕ) (f : ℕ → ℕ) (i t : ℕ) (old : ℕ) → i < length edges → t ≡ f (get_or edges i 0) →
+    passing (λ e. f e == t) edges ≤ old →
     get_or waiting t 0 + passing (λ e. f e == t) (take i edges) ≡ old → 0 < get_or waiting t 0
 next_waits edges waiting f i t old l at enough left =
     let n = passing_next (λ e. f e == t) edges i l (eq-eqb (f (get_or edges i 0)) t (sym at)) in
     omega arith
 
 pub release-requires-clause-waits : goal.release-requires-clause-waits
-release-requires-clause-waits c = next_waits c.args.edges.now c.loop-edge.waiting.items (target c.args.problem.now) c.loop-edge.edge-index c.target.result
+release-requires-clause-waits c = next_waits c.args.edges.now c.loop-edge.waiting.items
+    (target c.args.problem.now) c.loop-edge.edge-index c.target.result
     (get_or c.args.waiting.now.items c.target.result 0)
-    c.loop-edge-test.true c.target.ensures.target (c.requires.wait c.target.result) (c.loop-edge.invariant.left c.target.result)
+    c.loop-edge-test.true c.target.ensures.target (c.requires.wait c.target.result)
+    (c.loop-edge.invariant.left c.target.result)
 
 pub loop-edge-preserved : goal.loop-edge-preserved
 loop-edge-preserved c =
-    let some = next_waits c.args.edges.now c.loop-edge.waiting.items (target c.args.problem.now) c.loop-edge.edge-index c.target.result (get_or c.args.waiting.now.items c.target.result 0)
-    c.loop-edge-test.true c.target.ensures.target (c.requires.wait c.target.result) (c.loop-edge.invariant.left c.target.result) in
+    let some = next_waits c.args.edges.now c.loop-edge.waiting.items (target c.args.problem.now) c.loop-edge.edge-index
+    c.target.result (get_or c.args.waiting.now.items c.target.result 0)
+    c.loop-edge-test.true c.target.ensures.target (c.requires.wait c.target.result)
+    (c.loop-edge.invariant.left c.target.result) in
     record {
       ready = c.in_ok-release.ensures.ready;
-      long = ap length c.in_ok-release.ensures.waiting ∙ length-set c.loop-edge.waiting.items c.target.result _ ∙ c.loop-edge.invariant.long;
-      left = left_next (target c.args.problem.now) c.args.edges.now c.loop-edge.waiting.items c.release.new.waiting.items
+      long = ap length c.in_ok-release.ensures.waiting ∙ length-set c.loop-edge.waiting.items c.target.result _
+          ∙ c.loop-edge.invariant.long;
+      left =
+          left_next (target c.args.problem.now) c.args.edges.now c.loop-edge.waiting.items c.release.new.waiting.items
           (λ p. get_or c.args.waiting.now.items p 0) c.loop-edge.edge-index c.target.result
           c.loop-edge-test.true c.target.ensures.target some c.in_ok-release.ensures.waiting c.loop-edge.invariant.left;
       longer = let old = c.loop-edge.invariant.longer in let more = c.in_ok-release.ensures.longer in
@@ -36,5 +45,6 @@ loop-edge-preserved c =
 
 pub returns-clause-waiting : goal.returns-clause-waiting
 returns-clause-waiting c p =
-    ap (λ xs. get_or c.loop-edge.waiting.items p 0 + passing (λ e. target c.args.problem.now e == p) xs) (sym (take_all c.loop-edge.edge-index c.args.edges.now (omega arith)))
+    ap (λ xs. get_or c.loop-edge.waiting.items p 0 + passing (λ e. target c.args.problem.now e == p) xs)
+    (sym (take_all c.loop-edge.edge-index c.args.edges.now (omega arith)))
     ∙ c.loop-edge.invariant.left p

@@ -7,6 +7,8 @@ abbrev pub invariant-loop-edge : goal.invariant-loop-edge
 invariant-loop-edge l = record {
   ready : AreReady l.waiting.items l.ready.items;
   long : length l.waiting.items ≡ length l.fn.waiting.items;
-  left : (p : ℕ) → get_or l.waiting.items p 0 + length (filter (λ e. target l.problem e == p) (take l.edge-index l.edges)) ≡ get_or l.fn.waiting.items p 0;
+  left : (p : ℕ) →
+      get_or l.waiting.items p 0 + length (filter (λ e. target l.problem e == p) (take l.edge-index l.edges))
+      ≡ get_or l.fn.waiting.items p 0;
   longer : (more : List ℕ) × (l.ready.items ≡ l.fn.ready.items ++ more);
 }

@@ -10,7 +10,8 @@ use Rattle.cpg_order.proofs.settling.settle.Goals as goal
 
 pub ready-requires : goal.ready-requires
 ready-requires c =
-    let long = ap length c.in_ok-waiting.ensures.counts ∙ length-map-range_with_len (λ p. length (inputs c.args.problem.now p)) 0 (process_count c.args.problem.now) in
+    let long = ap length c.in_ok-waiting.ensures.counts
+    ∙ length-map-range_with_len (λ p. length (inputs c.args.problem.now p)) 0 (process_count c.args.problem.now) in
     let same = ap length c.as_slice.ensures.value in
     omega (arith, c.in_ok-waiting.ensures.within.few_processes)
 
@@ -19,41 +20,53 @@ loop-settled-init c =
     let count : ℕ → ℕ = λ p. length (inputs c.args.problem.now p) in
     settled_first c.args.problem.now c.in_ok-waiting.waiting.items c.in_ok-ready.ready.items
     (ap length c.in_ok-waiting.ensures.counts ∙ length-map-range_with_len count 0 (process_count c.args.problem.now))
-    (λ p l. ap (λ xs. get_or xs p 0) c.in_ok-waiting.ensures.counts ∙ get_or-map-below count (process_count c.args.problem.now) p 0 l)
+    (λ p l. ap (λ xs. get_or xs p 0) c.in_ok-waiting.ensures.counts
+    ∙ get_or-map-below count (process_count c.args.problem.now) p 0 l)
     (subst (λ xs. AreReady xs c.in_ok-ready.ready.items) c.as_slice.ensures.value c.in_ok-ready.ensures)
 
 -- the next process, and the edges that lead away from it
 pub outputs-requires : goal.outputs-requires
 outputs-requires c =
     let l : c.loop-settled.settled < length c.loop-settled.ready.items = omega arith in
-    let at = c.index-process.ensures ∙ get_or_default c.loop-settled.ready.items c.loop-settled.settled c.index-process.result.now 0 l in
-    let w = ready_within c.args.problem.now c.loop-settled.waiting.items c.loop-settled.ready.items c.loop-settled.settled c.loop-settled.settled c.loop-settled.invariant l in
+    let at = c.index-process.ensures
+    ∙ get_or_default c.loop-settled.ready.items c.loop-settled.settled c.index-process.result.now 0 l in
+    let w = ready_within c.args.problem.now c.loop-settled.waiting.items c.loop-settled.ready.items
+    c.loop-settled.settled c.loop-settled.settled c.loop-settled.invariant l in
     subst (λ k. c.index-process.result.now < k.count) (sym c.requires) (omega arith)
 
 pub release_all-requires-clause-edges : goal.release_all-requires-clause-edges
 release_all-requires-clause-edges c e k =
-    (outputs_parts c.args.problem.now c.index-process.result.now e (subst (λ xs. Contains xs e) (c.outputs.ensures.of_graph c.args.problem.now c.requires) k)).0
+    (outputs_parts c.args.problem.now c.index-process.result.now e
+    (subst (λ xs. Contains xs e) (c.outputs.ensures.of_graph c.args.problem.now c.requires) k)).0
 
 pub release_all-requires-clause-wait : goal.release_all-requires-clause-wait
 release_all-requires-clause-wait c p =
     let l : c.loop-settled.settled < length c.loop-settled.ready.items = omega arith in
-    let at = c.index-process.ensures ∙ get_or_default c.loop-settled.ready.items c.loop-settled.settled c.index-process.result.now 0 l in
+    let at = c.index-process.ensures
+    ∙ get_or_default c.loop-settled.ready.items c.loop-settled.settled c.index-process.result.now 0 l in
     rw (c.outputs.ensures.of_graph c.args.problem.now c.requires)
-    (subst (λ q. passing (λ e. target c.args.problem.now e == p) (outputs c.args.problem.now q) ≤ get_or c.loop-settled.waiting.items p 0) (sym at)
-    (enough c.args.problem.now c.loop-settled.waiting.items c.loop-settled.settled c.loop-settled.ready.items c.loop-settled.invariant l
+    (subst (λ q. passing (λ e. target c.args.problem.now e == p) (outputs c.args.problem.now q)
+    ≤ get_or c.loop-settled.waiting.items p 0) (sym at)
+    (enough c.args.problem.now c.loop-settled.waiting.items c.loop-settled.settled c.loop-settled.ready.items
+    c.loop-settled.invariant l
     (λ e k. (c.in_ok-waiting.ensures.within.edges e _ k).to) p))
 
 pub loop-settled-smaller : goal.loop-settled-smaller
 loop-settled-smaller c =
-    let few = ready-le c.args.problem.now c.loop-settled.waiting.items c.loop-settled.ready.items c.loop-settled.settled c.loop-settled.invariant in
+    let few = ready-le c.args.problem.now c.loop-settled.waiting.items c.loop-settled.ready.items c.loop-settled.settled
+    c.loop-settled.invariant in
     omega arith
 
 pub loop-settled-preserved : goal.loop-settled-preserved
 loop-settled-preserved c =
     let l : c.loop-settled.settled < length c.loop-settled.ready.items = omega arith in
-    let at = c.index-process.ensures ∙ get_or_default c.loop-settled.ready.items c.loop-settled.settled c.index-process.result.now 0 l in
-    settled_more c.args.problem.now c.loop-settled.waiting.items c.loop-settled.settled c.loop-settled.ready.items c.loop-settled.invariant l
-    c.release_all.new.waiting.items c.release_all.new.ready.items c.in_ok-release_all.ensures.longer.0 c.in_ok-release_all.ensures.longer.1 c.in_ok-release_all.ensures.long
+    let at = c.index-process.ensures
+    ∙ get_or_default c.loop-settled.ready.items c.loop-settled.settled c.index-process.result.now 0 l in
+    settled_more c.args.problem.now c.loop-settled.waiting.items c.loop-settled.settled c.loop-settled.ready.items
+    c.loop-settled.invariant l
+    c.release_all.new.waiting.items c.release_all.new.ready.items c.in_ok-release_all.ensures.longer.0
+    c.in_ok-release_all.ensures.longer.1 c.in_ok-release_all.ensures.long
     c.in_ok-release_all.ensures.ready
     (λ q. ap (λ xs. get_or c.release_all.new.waiting.items q 0 + passing (λ e. target c.args.problem.now e == q) xs)
-    (sym (c.outputs.ensures.of_graph c.args.problem.now c.requires ∙ ap (outputs c.args.problem.now) at)) ∙ c.in_ok-release_all.ensures.waiting q)
+    (sym (c.outputs.ensures.of_graph c.args.problem.now c.requires ∙ ap (outputs c.args.problem.now) at))
+    ∙ c.in_ok-release_all.ensures.waiting q)

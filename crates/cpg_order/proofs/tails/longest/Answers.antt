@@ -3,7 +3,9 @@ use Rattle.std.proofs.lemmas.List.Elements.{Contains-get_or}
 use Rattle.cpg_order.proofs.tails.longest.Goals as goal
 
 pub delay-requires : goal.delay-requires
-delay-requires c = c.requires.outputs (get_or c.args.outputs.now c.loop-edge.edge-index 0) (Contains-get_or c.args.outputs.now c.loop-edge.edge-index 0 c.loop-edge-test.true)
+delay-requires c = c.requires.outputs (get_or c.args.outputs.now c.loop-edge.edge-index 0)
+    (Contains-get_or c.args.outputs.now c.loop-edge.edge-index 0 c.loop-edge-test.true)
 
 pub target-requires : goal.target-requires
-target-requires c = c.requires.outputs (get_or c.args.outputs.now c.loop-edge.edge-index 0) (Contains-get_or c.args.outputs.now c.loop-edge.edge-index 0 c.loop-edge-test.true)
+target-requires c = c.requires.outputs (get_or c.args.outputs.now c.loop-edge.edge-index 0)
+    (Contains-get_or c.args.outputs.now c.loop-edge.edge-index 0 c.loop-edge-test.true)

@@ -4,4 +4,6 @@ use Rattle.cpg_base.specs.Graph.{is_message, target}
 use Rattle.cpg_order.proofs.tails.longest.Given as goal
 
 abbrev pub invariant-loop-edge : goal.invariant-loop-edge
-invariant-loop-edge l = l.longest ≡ greatest (map (λ e. (if is_message l.problem e then l.turn else 0) + get_or l.tails (target l.problem e) 0) (take l.edge-index l.outputs))
+invariant-loop-edge l = l.longest
+    ≡ greatest (map (λ e. (if is_message l.problem e then l.turn else 0) + get_or l.tails (target l.problem e) 0)
+    (take l.edge-index l.outputs))

@@ -6,4 +6,5 @@ use Rattle.cpg_order.proofs.tails.tail.Goals as goal
 
 pub returns : goal.returns
 returns c = c.index.ensures ∙ ap (λ xs. get_or xs c.args.process c.index.result.now) c.in_ok-tails.ensures
-    ∙ get_or-map-below (tail c.args.problem.now) (process_count c.args.problem.now) c.args.process c.index.result.now c.requires.process
+    ∙ get_or-map-below (tail c.args.problem.now)
+    (process_count c.args.problem.now) c.args.process c.index.result.now c.requires.process

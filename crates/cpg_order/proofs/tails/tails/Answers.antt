@@ -1,4 +1,5 @@
-use Rattle.std.proofs.Common.{◌+◌, ◌<◌, ◌≡◌, ◌∙◌, sym, ap, ap₂, subst, get_or, length, Contains, set, arith, replicate, rules}
+use Rattle.std.proofs.Common.{◌+◌, ◌<◌, ◌≡◌, ◌∙◌, sym, ap, ap₂, subst, get_or, length, Contains, set, arith, replicate}
+use Rattle.std.proofs.Common.{rules}
 use Rattle.std.proofs.lemmas.List.{get_or-replicate, length-replicate}
 use Rattle.cpg_base.specs.Graph.{process_count}
 use Rattle.cpg_base.proofs.Bounds.{round-le, duration-le}
@@ -12,12 +13,17 @@ pub loop-done-init : goal.loop-done-init
 loop-done-init c =
     let count = ap length c.processes-count.ensures.processes in
     let zeros : c.in_ok-tails.tails.items ≡ replicate (length c.processes-count.result.now) 0 = search rules in
-    none_found c.args.problem.now c.processes-count.ensures.within c.args.order.now c.requires.order c.in_ok-tails.tails.items
+    none_found c.args.problem.now c.processes-count.ensures.within c.args.order.now c.requires.order
+    c.in_ok-tails.tails.items
     (ap length zeros ∙ length-replicate (length c.processes-count.result.now) 0 ∙ count)
     (λ p l. ap (λ xs. get_or xs p 0) zeros ∙ get_or-replicate (length c.processes-count.result.now) p 0 0 (omega arith))
 
 pub at-process-requires : goal.at-process-requires
-at-process-requires c = omega (arith, ap length c.processes-count.ensures.processes, length_order (process_count c.args.problem.now) c.args.order.now c.requires.order.all)
+at-process-requires c = omega (
+  arith,
+  ap length c.processes-count.ensures.processes,
+  length_order (process_count c.args.problem.now) c.args.order.now c.requires.order.all,
+)
 
 pub outputs-requires : goal.outputs-requires
 outputs-requires c =
@@ -26,50 +32,67 @@ outputs-requires c =
 
 pub longest-way-requires-clause-outputs : goal.longest-way-requires-clause-outputs
 longest-way-requires-clause-outputs c e k =
-    (outputs_parts c.args.problem.now c.at-process.result e (subst (λ xs. Contains xs e) (c.outputs.ensures.of_graph c.args.problem.now c.requires.links) k)).0
+    (outputs_parts c.args.problem.now c.at-process.result e
+    (subst (λ xs. Contains xs e) (c.outputs.ensures.of_graph c.args.problem.now c.requires.links) k)).0
 
 pub longest-way-requires-clause-turn : goal.longest-way-requires-clause-turn
-longest-way-requires-clause-turn c = omega (arith, c.round-turn.ensures, round-le c.args.problem.now c.processes-count.ensures.within)
+longest-way-requires-clause-turn c =
+    omega (arith, c.round-turn.ensures, round-le c.args.problem.now c.processes-count.ensures.within)
 
 pub longest-way-requires-clause-low : goal.longest-way-requires-clause-low
 longest-way-requires-clause-low c p =
     let low = c.loop-done.invariant.low p in
-    rw c.as_slice.ensures.value (omega (arith, ap length c.processes-count.ensures.processes, c.processes-count.ensures.within.few_processes))
+    rw c.as_slice.ensures.value
+    (omega (arith, ap length c.processes-count.ensures.processes, c.processes-count.ensures.within.few_processes))
 
 pub duration-requires-clause-process : goal.duration-requires-clause-process
-duration-requires-clause-process c = omega (arith, length_order (process_count c.args.problem.now) c.args.order.now c.requires.order.all)
+duration-requires-clause-process c =
+    omega (arith, length_order (process_count c.args.problem.now) c.args.order.now c.requires.order.all)
 
 pub overflow_add-duration : goal.overflow_add-duration
 overflow_add-duration c =
-    let inside : c.at-process.result < process_count c.args.problem.now = omega (arith, length_order (process_count c.args.problem.now) c.args.order.now c.requires.order.all) in
+    let inside : c.at-process.result < process_count c.args.problem.now =
+    omega (arith, length_order (process_count c.args.problem.now) c.args.order.now c.requires.order.all) in
     let at : place c.args.order.now c.at-process.result + c.loop-done.done + 1 ≡ process_count c.args.problem.now =
     omega (arith, c.at-process.ensures.back, ap length c.processes-count.ensures.processes) in
-    let way = c.longest-way.ensures ∙ way_is c.args.problem.now c.round-turn.result c.at-process.result c.outputs.result.now c.as_slice.result.now c.loop-done.tails.items
+    let way = c.longest-way.ensures ∙ way_is c.args.problem.now c.round-turn.result c.at-process.result
+    c.outputs.result.now c.as_slice.result.now c.loop-done.tails.items
     c.round-turn.ensures c.as_slice.ensures.value (c.outputs.ensures.of_graph c.args.problem.now c.requires.links) in
     omega (
       arith,
       c.duration.ensures.duration,
       duration-le c.args.problem.now c.at-process.result 0 c.processes-count.ensures.within inside (omega arith),
       c.processes-count.ensures.within.few_processes,
-      longest_from-le c.args.problem.now c.processes-count.ensures.within c.args.order.now c.requires.order c.loop-done.tails.items c.loop-done.done c.at-process.result c.loop-done.invariant inside
+      longest_from-le c.args.problem.now c.processes-count.ensures.within c.args.order.now c.requires.order
+          c.loop-done.tails.items c.loop-done.done c.at-process.result c.loop-done.invariant inside
           at,
     )
 
 pub index_mut-requires : goal.index_mut-requires
-index_mut-requires c = omega (arith, c.loop-done.invariant.long, length_order (process_count c.args.problem.now) c.args.order.now c.requires.order.all)
+index_mut-requires c = omega (
+  arith,
+  c.loop-done.invariant.long,
+  length_order (process_count c.args.problem.now) c.args.order.now c.requires.order.all,
+)
 
 pub loop-done-preserved : goal.loop-done-preserved
 loop-done-preserved c =
-    let inside : c.at-process.result < process_count c.args.problem.now = omega (arith, length_order (process_count c.args.problem.now) c.args.order.now c.requires.order.all) in
+    let inside : c.at-process.result < process_count c.args.problem.now =
+    omega (arith, length_order (process_count c.args.problem.now) c.args.order.now c.requires.order.all) in
     let at : place c.args.order.now c.at-process.result + c.loop-done.done + 1 ≡ process_count c.args.problem.now =
     omega (arith, c.at-process.ensures.back, ap length c.processes-count.ensures.processes) in
-    let way = c.longest-way.ensures ∙ way_is c.args.problem.now c.round-turn.result c.at-process.result c.outputs.result.now c.as_slice.result.now c.loop-done.tails.items
+    let way = c.longest-way.ensures ∙ way_is c.args.problem.now c.round-turn.result c.at-process.result
+    c.outputs.result.now c.as_slice.result.now c.loop-done.tails.items
     c.round-turn.ensures c.as_slice.ensures.value (c.outputs.ensures.of_graph c.args.problem.now c.requires.links) in
-    subst (λ x. AreFound c.args.problem.now c.args.order.now (set c.loop-done.tails.items c.at-process.result x) (c.loop-done.done + 1)) (sym (ap₂ ◌+◌ c.duration.ensures.duration way))
-    (found_more c.args.problem.now c.processes-count.ensures.within c.args.order.now c.requires.order c.loop-done.tails.items c.loop-done.done c.at-process.result c.loop-done.invariant inside at)
+    subst (λ x. AreFound c.args.problem.now c.args.order.now (set c.loop-done.tails.items c.at-process.result x)
+    (c.loop-done.done + 1)) (sym (ap₂ ◌+◌ c.duration.ensures.duration way))
+    (found_more c.args.problem.now c.processes-count.ensures.within c.args.order.now c.requires.order
+    c.loop-done.tails.items c.loop-done.done c.at-process.result c.loop-done.invariant inside at)
 
 pub returns : goal.returns
 returns c =
     let count = ap length c.processes-count.ensures.processes in
-    all_found c.args.problem.now c.processes-count.ensures.within c.args.order.now c.requires.order c.loop-done.tails.items
-    (let e : c.loop-done.done ≡ process_count c.args.problem.now = omega arith in subst (AreFound c.args.problem.now c.args.order.now c.loop-done.tails.items) e c.loop-done.invariant)
+    all_found c.args.problem.now c.processes-count.ensures.within c.args.order.now c.requires.order
+    c.loop-done.tails.items
+    (let e : c.loop-done.done ≡ process_count c.args.problem.now = omega arith in
+    subst (AreFound c.args.problem.now c.args.order.now c.loop-done.tails.items) e c.loop-done.invariant)

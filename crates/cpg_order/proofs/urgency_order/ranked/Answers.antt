@@ -4,6 +4,9 @@ use Rattle.cpg_order.proofs.RankOrders.{in_order, ranked_from_sorted}
 use Rattle.cpg_order.proofs.urgency_order.ranked.Goals as goal
 
 pub returns : goal.returns
-returns c = subst (AreRanked c.args.tails.now) (sym (c.in_ok-order.ensures ∙ ap (map (λ r. r.process)) c.as_slice.ensures.value))
-    (ranked_from_sorted c.args.tails.now c.sort_unstable.new.self.items (subst (λ xs. IsPermutation xs c.sort_unstable.new.self.items) c.in_ok-ranks.ensures c.sort_unstable.ensures.permutation)
+returns c = subst (AreRanked c.args.tails.now)
+    (sym (c.in_ok-order.ensures ∙ ap (map (λ r. r.process)) c.as_slice.ensures.value))
+    (ranked_from_sorted c.args.tails.now c.sort_unstable.new.self.items
+    (subst (λ xs. IsPermutation xs c.sort_unstable.new.self.items) c.in_ok-ranks.ensures
+    c.sort_unstable.ensures.permutation)
     (λ k d l. in_order _ _ _ _ (c.sort_unstable.ensures.sorted k d (omega arith) l)))

@@ -4,4 +4,5 @@ use Rattle.cpg_order.specs.Ranks.{rank_of}
 use Rattle.cpg_order.proofs.urgency_order.ranks.Goals as goal
 
 pub loop-process-preserved : goal.loop-process-preserved
-loop-process-preserved c = map_below_push (rank_of c.args.tails.now) c.loop-process.ranks.items c.push.new.self.items _ c.loop-process.process c.loop-process.invariant refl c.in_ok-push.ensures.items
+loop-process-preserved c = map_below_push (rank_of c.args.tails.now) c.loop-process.ranks.items c.push.new.self.items _
+    c.loop-process.process c.loop-process.invariant refl c.in_ok-push.ensures.items

@@ -6,14 +6,19 @@ use Rattle.cpg_order.proofs.urgency_order.topological.Goals as goal
 
 pub cycle-requires-clause-stuck : goal.cycle-requires-clause-stuck
 cycle-requires-clause-stuck c = rw c.as_slice.ensures.value
-    (settled_stuck c.args.problem.now c.in_ok-settled.settled.waiting.items c.in_ok-settled.settled.ready.items c.in_ok-settled.ensures
-    (λ e l. (c.processes-count.ensures.within.edges e _ l).from) (omega (arith, ap length c.processes-count.ensures.processes)))
+    (settled_stuck c.args.problem.now c.in_ok-settled.settled.waiting.items c.in_ok-settled.settled.ready.items
+    c.in_ok-settled.ensures
+    (λ e l. (c.processes-count.ensures.within.edges e _ l).from)
+    (omega (arith, ap length c.processes-count.ensures.processes)))
 
 pub new-requires : goal.new-requires
 new-requires c = order_of_all c.args.problem.now c.processes-count.ensures.within c.in_ok-settled.settled.ready.items
-    (settled_all c.args.problem.now c.in_ok-settled.settled.waiting.items c.in_ok-settled.settled.ready.items c.in_ok-settled.ensures (omega (arith, ap length c.processes-count.ensures.processes)))
+    (settled_all c.args.problem.now c.in_ok-settled.settled.waiting.items c.in_ok-settled.settled.ready.items
+    c.in_ok-settled.ensures (omega (arith, ap length c.processes-count.ensures.processes)))
 
 pub returns-clause-order : goal.returns-clause-order
 returns-clause-order c = subst (IsTopological c.args.problem.now) (sym c.in_ok-new.ensures)
-    (settled_topological c.args.problem.now c.in_ok-settled.settled.waiting.items c.in_ok-settled.settled.ready.items c.in_ok-settled.ensures
-    (λ e l. (c.processes-count.ensures.within.edges e _ l).to) (omega (arith, ap length c.processes-count.ensures.processes)))
+    (settled_topological c.args.problem.now c.in_ok-settled.settled.waiting.items c.in_ok-settled.settled.ready.items
+    c.in_ok-settled.ensures
+    (λ e l. (c.processes-count.ensures.within.edges e _ l).to)
+    (omega (arith, ap length c.processes-count.ensures.processes)))

@@ -11,23 +11,29 @@ use Rattle.cpg_order.proofs.urgency_order.urgency.Goals as goal
 
 pub ranked-requires : goal.ranked-requires
 ranked-requires c =
-    let long = ap length c.in_ok-tails.ensures ∙ length-map-range_with_len (tail c.args.problem.now) 0 (process_count c.args.problem.now) in
+    let long = ap length c.in_ok-tails.ensures
+    ∙ length-map-range_with_len (tail c.args.problem.now) 0 (process_count c.args.problem.now) in
     omega (arith, ap length c.as_slice.ensures.value, c.in_ok-order.ensures.within.few_processes)
 
 pub new-requires : goal.new-requires
 new-requires c = order_of_all c.args.problem.now c.in_ok-order.ensures.within c.in_ok-processes.processes.items
-    (urgency_from_ranks c.args.problem.now c.in_ok-tails.tails.items c.in_ok-processes.processes.items c.in_ok-tails.ensures
-    (subst (λ xs. AreRanked xs c.in_ok-processes.processes.items) c.as_slice.ensures.value c.in_ok-processes.ensures)).all
+    (urgency_from_ranks c.args.problem.now c.in_ok-tails.tails.items c.in_ok-processes.processes.items
+    c.in_ok-tails.ensures
+    (subst (λ xs. AreRanked xs c.in_ok-processes.processes.items) c.as_slice.ensures.value
+    c.in_ok-processes.ensures)).all
 
 pub returns-clause-urgent : goal.returns-clause-urgent
 returns-clause-urgent c = subst (IsUrgencyOrder c.args.problem.now) (sym c.in_ok-new.ensures)
-    (urgency_from_ranks c.args.problem.now c.in_ok-tails.tails.items c.in_ok-processes.processes.items c.in_ok-tails.ensures
+    (urgency_from_ranks c.args.problem.now c.in_ok-tails.tails.items c.in_ok-processes.processes.items
+    c.in_ok-tails.ensures
     (subst (λ xs. AreRanked xs c.in_ok-processes.processes.items) c.as_slice.ensures.value c.in_ok-processes.ensures))
 
 pub returns-clause-topological : goal.returns-clause-topological
 returns-clause-topological c = subst (IsTopological c.args.problem.now) (sym c.in_ok-new.ensures)
-    (urgency_goes_forward c.args.problem.now (work_within c.args.problem.now c.in_ok-order.ensures.within) c.in_ok-order.order c.in_ok-order.ensures.order c.in_ok-processes.processes.items
-    (urgency_from_ranks c.args.problem.now c.in_ok-tails.tails.items c.in_ok-processes.processes.items c.in_ok-tails.ensures
+    (urgency_goes_forward c.args.problem.now (work_within c.args.problem.now c.in_ok-order.ensures.within)
+    c.in_ok-order.order c.in_ok-order.ensures.order c.in_ok-processes.processes.items
+    (urgency_from_ranks c.args.problem.now c.in_ok-tails.tails.items c.in_ok-processes.processes.items
+    c.in_ok-tails.ensures
     (subst (λ xs. AreRanked xs c.in_ok-processes.processes.items) c.as_slice.ensures.value c.in_ok-processes.ensures)))
 
 pub returns-clause-acyclic : goal.returns-clause-acyclic

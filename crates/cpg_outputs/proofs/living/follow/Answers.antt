@@ -13,19 +13,31 @@ returns-in-Ok-clause-keeps g c =
       fetched = c.follow.ensures.fetched;
       later = c.follow.ensures.later;
       rose =
-          λ fetch past is failed. absurd (closed_sound c.args.follower.now.head c.args.follower.now.table c.args.stream.now (g.S.Shelf.state c.args.shelf.now).history
-          (g.S.Shelf.state c.follow.new.shelf).history (g.O.Sink.state c.args.out.now).taken (g.O.Sink.state c.args.out.now) (g.O.Sink.state c.follow.new.out) s fetch past is failed);
+          λ fetch past is failed. absurd (closed_sound c.args.follower.now.head c.args.follower.now.table
+          c.args.stream.now (g.S.Shelf.state c.args.shelf.now).history
+          (g.S.Shelf.state c.follow.new.shelf).history (g.O.Sink.state c.args.out.now).taken
+          (g.O.Sink.state c.args.out.now) (g.O.Sink.state c.follow.new.out) s fetch past is failed);
     }
 
 pub returns-in-Ok-clause-followed : goal.returns-in-Ok-clause-followed
 returns-in-Ok-clause-followed g c =
     let s = c.in-Ok.ensures.whole in
-    record { fetch = s.fetch; named = s.named; history = s.history_is; ends = inl (s.is, refl, record { faultless = refl; taken = refl }) }
+    record {
+      fetch = s.fetch;
+      named = s.named;
+      history = s.history_is;
+      ends = inl (s.is, refl, record { faultless = refl; taken = refl });
+    }
 
 pub returns-in-Err-clause-followed : goal.returns-in-Err-clause-followed
 returns-in-Err-clause-followed g c =
     let s = c.in-Err.ensures.broken in
-    record { fetch = s.fetch; named = s.named; history = s.history_is; ends = inr (c.in-Err.broken, s.is, c.say.ensures) }
+    record {
+      fetch = s.fetch;
+      named = s.named;
+      history = s.history_is;
+      ends = inr (c.in-Err.broken, s.is, c.say.ensures);
+    }
 
 pub returns-in-Err-clause-keeps : goal.returns-in-Err-clause-keeps
 returns-in-Err-clause-keeps g c =
@@ -36,7 +48,9 @@ returns-in-Err-clause-keeps g c =
       fetched = c.follow.ensures.fetched;
       later = c.follow.ensures.later;
       rose =
-          λ fetch past is failed. failed_rose ((new.history ≡ old.history) ⊎ Rose old.faults new.faults) c.args.follower.now.head c.args.follower.now.table c.args.stream.now old.history new.history
-          (g.O.Sink.state c.args.out.now).taken (g.O.Sink.state c.args.out.now) (g.O.Sink.state c.follow.new.out) c.in-Err.broken c.in-Err.ensures.broken
+          λ fetch past is failed. failed_rose ((new.history ≡ old.history) ⊎ Rose old.faults new.faults)
+          c.args.follower.now.head c.args.follower.now.table c.args.stream.now old.history new.history
+          (g.O.Sink.state c.args.out.now).taken (g.O.Sink.state c.args.out.now)
+          (g.O.Sink.state c.follow.new.out) c.in-Err.broken c.in-Err.ensures.broken
           (λ e. inr (c.follow.ensures.rose (c.in-Err.is ∙ ap (λ (b : Broken). Err b) e))) fetch past is failed;
     }

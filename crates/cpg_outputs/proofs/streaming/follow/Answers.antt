@@ -18,7 +18,8 @@ returns-in-Ok-clause-whole g c =
     let now = (g.O.Sink.state c.args.out.now).taken in
     let history = (g.S.Shelf.state c.fetch.new.self).history in
     on_match_ok _ _ c.follow_rest.result (c.follow_rest.ensures.along now name past
-    (subst (IsAlong name past history now now) (sym c.requires.opened) (along_open name past history now f.head f.table c.in-Ok.ensures.history)))
+    (subst (IsAlong name past history now now) (sym c.requires.opened)
+    (along_open name past history now f.head f.table c.in-Ok.ensures.history)))
 
 pub returns-in-Ok-clause-broken : goal.returns-in-Ok-clause-broken
 returns-in-Ok-clause-broken g c =
@@ -28,12 +29,14 @@ returns-in-Ok-clause-broken g c =
     let now = (g.O.Sink.state c.args.out.now).taken in
     let history = (g.S.Shelf.state c.fetch.new.self).history in
     on_match_err _ _ c.follow_rest.result (c.follow_rest.ensures.along now name past
-    (subst (IsAlong name past history now now) (sym c.requires.opened) (along_open name past history now f.head f.table c.in-Ok.ensures.history)))
+    (subst (IsAlong name past history now now) (sym c.requires.opened)
+    (along_open name past history now f.head f.table c.in-Ok.ensures.history)))
 
 pub returns-in-Err-clause-broken : goal.returns-in-Err-clause-broken
 returns-in-Err-clause-broken g c =
     let f = c.args.follower.now in
-    unfetched c.args.name.now (g.S.Shelf.state c.args.shelf.now).history (g.S.Shelf.state c.fetch.new.self).history f.head f.table (g.O.Sink.state c.args.out.now) c.in-Err.ensures.history
+    unfetched c.args.name.now (g.S.Shelf.state c.args.shelf.now).history (g.S.Shelf.state c.fetch.new.self).history
+    f.head f.table (g.O.Sink.state c.args.out.now) c.in-Err.ensures.history
 
 pub returns-in-Ok-clause-fetched : goal.returns-in-Ok-clause-fetched
 returns-in-Ok-clause-fetched g c =
@@ -43,11 +46,15 @@ returns-in-Ok-clause-fetched g c =
     let mid = g.S.Shelf.state c.fetch.new.self in
     let new = g.S.Shelf.state c.follow_rest.new.shelf in
     let out = g.O.Sink.state c.args.out.now in
-    let start = subst (IsAlong name old.history mid.history out.taken out.taken) (sym c.requires.opened) (along_open name old.history mid.history out.taken f.head f.table c.in-Ok.ensures.history) in
-    let one = fetch_of (Completes f.head f.table) (λ broken s. Breaks f.head f.table s broken) name old.history new.history out.taken out (g.O.Sink.state c.follow_rest.new.out) c.follow_rest.result
+    let start = subst (IsAlong name old.history mid.history out.taken out.taken) (sym c.requires.opened)
+    (along_open name old.history mid.history out.taken f.head f.table c.in-Ok.ensures.history) in
+    let one = fetch_of (Completes f.head f.table) (λ broken s. Breaks f.head f.table s broken) name old.history
+    new.history out.taken out (g.O.Sink.state c.follow_rest.new.out) c.follow_rest.result
     (c.follow_rest.ensures.along out.taken name old.history start) in
     let names : SameNames old new = λ n. c.follow_rest.ensures.names n ∙ c.in-Ok.ensures.names n in
-    fetched_one old new names one.0 one.1 (c.follow_rest.ensures.rest (fetch_rest old mid c.in-Ok.ensures.names name c.in-Ok.ensures.history c.in-Ok.ensures.started))
+    fetched_one old new names one.0 one.1 (c.follow_rest.ensures.rest
+    (fetch_rest old mid c.in-Ok.ensures.names name c.in-Ok.ensures.history c.in-Ok.ensures.started))
 
 pub returns-in-Err-clause-fetched : goal.returns-in-Err-clause-fetched
-returns-in-Err-clause-fetched g c = fetched_none (g.S.Shelf.state c.args.shelf.now) (g.S.Shelf.state c.fetch.new.self) c.args.name.now c.in-Err.ensures.history
+returns-in-Err-clause-fetched g c = fetched_none (g.S.Shelf.state c.args.shelf.now)
+    (g.S.Shelf.state c.fetch.new.self) c.args.name.now c.in-Err.ensures.history

@@ -6,13 +6,15 @@ use Rattle.cpg_outputs.proofs.streaming.follow_pieces.Goals as goal
 pub returns-in-Err-clause-along : goal.returns-in-Err-clause-along
 returns-in-Err-clause-along g c start name past a =
     let before = c.loop-count.invariant in
-    breaks_on c.args.follower.now c.loop-count.follower name past (g.S.Shelf.state c.follow_piece.new.shelf).history start (g.O.Sink.state c.args.out.now) (g.O.Sink.state c.loop-count.out)
+    breaks_on c.args.follower.now c.loop-count.follower name past (g.S.Shelf.state c.follow_piece.new.shelf).history
+    start (g.O.Sink.state c.args.out.now) (g.O.Sink.state c.loop-count.out)
     (g.O.Sink.state c.follow_piece.new.out) c.in-Err.broken before.same before.out_kept
     (c.in-Err.ensures.along start name past (before.along start name past a))
 
 pub returns-then-count-eq0-clause-along : goal.returns-then-count-eq0-clause-along
 returns-then-count-eq0-clause-along g c start name past a =
-    subst (λ n. IsAlongAt n name past (g.S.Shelf.state c.follow_piece.new.shelf).history start (g.O.Sink.state c.follow_piece.new.out).taken c.follow_piece.new.self) c.if-count-eq0.true
+    subst (λ n. IsAlongAt n name past (g.S.Shelf.state c.follow_piece.new.shelf).history start
+    (g.O.Sink.state c.follow_piece.new.out).taken c.follow_piece.new.self) c.if-count-eq0.true
     (c.in-Ok.ensures.along start name past (c.loop-count.invariant.along start name past a))
 
 pub loop-count-preserved : goal.loop-count-preserved
@@ -22,7 +24,10 @@ loop-count-preserved g c =
     record {
       few = after.within;
       names = λ name. after.names name ∙ before.names name;
-      access = λ name. (λ may. (after.access name).0 ((before.access name).0 may), λ may. (before.access name).1 ((after.access name).1 may));
+      access = λ name. (
+        λ may. (after.access name).0 ((before.access name).0 may),
+        λ may. (before.access name).1 ((after.access name).1 may),
+      );
       rest = λ r. after.rest (before.rest r);
       same = record { head = after.same.head ∙ before.same.head; table = after.same.table ∙ before.same.table };
       along = λ start name past a. (after.along start name past (before.along start name past a)).along;

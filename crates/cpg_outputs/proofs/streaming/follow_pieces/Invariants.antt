@@ -13,7 +13,8 @@ invariant-loop-count g l = record {
   access : SameAccess (g.S.Shelf.may_fetch l.fn.shelf) (g.S.Shelf.may_fetch l.shelf);
   rest : LeavesRest (g.S.Shelf.state l.fn.shelf) → LeavesRest (g.S.Shelf.state l.shelf);
   same : IsOfSame l.fn.follower l.follower;
-  along : (start name : List ℕ) (past : List Fetch) → IsAlong name past (g.S.Shelf.state l.fn.shelf).history start (g.O.Sink.state l.fn.out).taken l.fn.follower
+  along : (start name : List ℕ) (past : List Fetch) →
+      IsAlong name past (g.S.Shelf.state l.fn.shelf).history start (g.O.Sink.state l.fn.out).taken l.fn.follower
       → IsAlong name past (g.S.Shelf.state l.shelf).history start (g.O.Sink.state l.out).taken l.follower;
   later : (g.S.Shelf.state l.fn.shelf).faults ≤ (g.S.Shelf.state l.shelf).faults;
   out_kept : (g.O.Sink.state l.out).faults ≡ (g.O.Sink.state l.fn.out).faults;

@@ -5,7 +5,8 @@ pub returns-in-Ok-clause-along : goal.returns-in-Ok-clause-along
 returns-in-Ok-clause-along g c start name past a =
     let all = c.in-Ok.ensures in
     let out = g.O.Sink.state c.follow_pieces.new.out in
-    end_of_all c.args.follower.now c.follow_pieces.new.follower name past (g.S.Shelf.state c.follow_pieces.new.shelf).history start out.taken (g.O.Sink.state c.args.out.now) out
+    end_of_all c.args.follower.now c.follow_pieces.new.follower name past
+    (g.S.Shelf.state c.follow_pieces.new.shelf).history start out.taken (g.O.Sink.state c.args.out.now) out
     (g.O.Sink.state c.end.new.out) c.end.result all.same all.out_kept (all.along start name past a) c.end.ensures.closes
 
 pub returns-in-Err-clause-along : goal.returns-in-Err-clause-along

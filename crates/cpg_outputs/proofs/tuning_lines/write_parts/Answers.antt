@@ -7,6 +7,7 @@ use Rattle.cpg_outputs.proofs.tuning_lines.write_parts.Goals as goal
 
 pub returns : goal.returns
 returns c =
-    parts_whole (iter_rest c.loop-process.process-iterator.a) (iter_rest c.loop-process.process-iterator.b) (string_bytes c.args.out.now ++ parts_lines c.args.problem.now.processes c.args.parts.now)
+    parts_whole (iter_rest c.loop-process.process-iterator.a) (iter_rest c.loop-process.process-iterator.b)
+    (string_bytes c.args.out.now ++ parts_lines c.args.problem.now.processes c.args.parts.now)
     (string_bytes c.loop-process.out) c.loop-process.invariant
     (either_empty_from_Zip c.loop-process.process-iterator c.next.new.self _ c.in-None.is c.next.ensures.steps)

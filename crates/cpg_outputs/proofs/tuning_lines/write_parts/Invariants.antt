@@ -5,4 +5,5 @@ use Rattle.cpg_outputs.proofs.tuning_lines.write_parts.Given as goal
 
 abbrev pub invariant-loop-process : goal.invariant-loop-process
 invariant-loop-process l =
-    string_bytes l.fn.out ++ parts_lines l.fn.problem.processes l.fn.parts ≡ string_bytes l.out ++ parts_lines (iter_rest l.process-iterator.a) (iter_rest l.process-iterator.b)
+    string_bytes l.fn.out ++ parts_lines l.fn.problem.processes l.fn.parts ≡ string_bytes l.out
+    ++ parts_lines (iter_rest l.process-iterator.a) (iter_rest l.process-iterator.b)

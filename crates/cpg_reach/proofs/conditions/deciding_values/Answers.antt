@@ -6,7 +6,8 @@ use Rattle.cpg_reach.proofs.Testing.{deciding_first, deciding_next, tests_fit, t
 use Rattle.cpg_reach.proofs.conditions.deciding_values.Goals as goal
 
 pub loop-process-init : goal.loop-process-init
-loop-process-init c = subst (AreDecidingUntil c.args.admitted.now.graph 0) (sym (c.in_ok-reserve.ensures.items ∙ c.new-values.ensures.items)) (deciding_first c.args.admitted.now.graph)
+loop-process-init c = subst (AreDecidingUntil c.args.admitted.now.graph 0)
+    (sym (c.in_ok-reserve.ensures.items ∙ c.new-values.ensures.items)) (deciding_first c.args.admitted.now.graph)
 
 pub guard_of-requires : goal.guard_of-requires
 guard_of-requires c =
@@ -18,7 +19,8 @@ guard_of-requires c =
     omega arith
 
 pub tested-requires : goal.tested-requires
-tested-requires c = tests_fit c.args.admitted.now.graph c.args.admitted.now.order c.args.admitted.now.guards c.guards.ensures.admitted c.guard_of.result.now
+tested-requires c = tests_fit c.args.admitted.now.graph c.args.admitted.now.order c.args.admitted.now.guards
+    c.guards.ensures.admitted c.guard_of.result.now
     (rw (← c.guards.ensures.guards) c.guard_of.ensures.below)
 
 pub loop-process-preserved : goal.loop-process-preserved
@@ -28,8 +30,10 @@ loop-process-preserved c =
     let same = ap (λ p. process_count p) c.problem.ensures.problem in
     subst (AreDecidingUntil c.args.admitted.now.graph (c.loop-process.process + 1)) (sym c.in_ok-push.ensures.items)
     (deciding_next c.args.admitted.now.graph c.loop-process.process c.loop-process.values.items c.tested.result
-    (tree_decides c.args.admitted.now.graph c.args.admitted.now.order c.args.admitted.now.guards c.guards.ensures.admitted c.loop-process.process (omega arith)
-    c.guard_of.result.now (c.guard_of.ensures.tree ∙ ap (λ g. tree_of g c.loop-process.process) c.guards.ensures.guards) c.tested.result c.tested.ensures)
+    (tree_decides c.args.admitted.now.graph c.args.admitted.now.order c.args.admitted.now.guards
+    c.guards.ensures.admitted c.loop-process.process (omega arith)
+    c.guard_of.result.now (c.guard_of.ensures.tree ∙ ap (λ g. tree_of g c.loop-process.process) c.guards.ensures.guards)
+    c.tested.result c.tested.ensures)
     c.loop-process.invariant)
 
 pub returns : goal.returns

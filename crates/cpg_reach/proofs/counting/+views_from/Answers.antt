@@ -6,7 +6,8 @@ use Rattle.cpg_reach.proofs.counting.+views_from.Goals as goal
 
 pub views_from-second-requires : goal.views_from-second-requires
 views_from-second-requires t c =
-    let below = all_parts (λ d. d < condition_count c.args.admitted.now.graph) c.in-Some.condition.now c.args.conditions.now c.in-Some.left.now c.in-Some.ensures.cases.0 c.requires.conditions in
+    let below = all_parts (λ d. d < condition_count c.args.admitted.now.graph) c.in-Some.condition.now
+    c.args.conditions.now c.in-Some.left.now c.in-Some.ensures.cases.0 c.requires.conditions in
     let shorter = c.in-Some.ensures.cases.1 in
     let at = c.decreases in (
       omega arith,
@@ -14,12 +15,15 @@ views_from-second-requires t c =
         c.requires.ways,
         (
           below.1,
-          ap (λ s. length s.values) c.set_value.ensures ∙ length-set c.views_from-first.new.scenario.values _ true ∙ ap (λ s. length s.values) c.views_from-first.ensures.same ∙ c.requires.values,
+          ap (λ s. length s.values) c.set_value.ensures ∙ length-set c.views_from-first.new.scenario.values _ true
+              ∙ ap (λ s. length s.values) c.views_from-first.ensures.same ∙ c.requires.values,
         ),
       ),
     )
 
 pub returns-clause-same : goal.returns-clause-same
-returns-clause-same t c = scenario_back c.args.scenario.now c.views_from-first.new.scenario c.set_value.new.self c.views_from-second.new.scenario c.set_value-2.new.self c.in-Some.condition.now true
+returns-clause-same t c = scenario_back c.args.scenario.now c.views_from-first.new.scenario c.set_value.new.self
+    c.views_from-second.new.scenario c.set_value-2.new.self c.in-Some.condition.now true
     c.value-was.result
-    c.views_from-first.ensures.same c.set_value.ensures c.views_from-second.ensures.same c.value-was.ensures c.set_value-2.ensures
+    c.views_from-first.ensures.same c.set_value.ensures c.views_from-second.ensures.same c.value-was.ensures
+    c.set_value-2.ensures

@@ -8,7 +8,8 @@ use Rattle.cpg_reach.proofs.counting.conditions_along.Goals.{in-Some+in_ok-push,
 pub condition_of-requires : goal.condition_of-requires
 condition_of-requires c =
     let same = c.processes-process-items.ensures.processes in
-    let w = process_within c.args.order.now c.processes-process-items.ensures.order c.loop-process.process-index (omega (arith, ap length same)) in
+    let w = process_within c.args.order.now c.processes-process-items.ensures.order c.loop-process.process-index
+    (omega (arith, ap length same)) in
     rw same (omega arith)
 
 pub loop-process-preserved : goal.loop-process-preserved
@@ -16,8 +17,12 @@ loop-process-preserved c =
     let same = c.processes-process-items.ensures.processes in
     let at = ap (λ xs. condition_of c.args.problem.now (get_or xs c.loop-process.process-index 0)) same in
     elim c.match-condition_of.branch [
-      | in-Some+in_ok-push w ↦ along_takes c.args.problem.now c.args.order.now c.loop-process.process-index w.in-Some.condition c.loop-process.conditions.items c.match-condition_of.conditions.items
-          (omega (arith, ap length same)) c.loop-process.invariant (sym at ∙ sym w.in-Some.ensures) (ap (λ v. v.items) w.conditions-is ∙ w.in_ok-push.ensures.items)
-      | in_default w ↦ ap (λ v. v.items) w.conditions-is ∙ along_skips c.args.problem.now c.args.order.now c.loop-process.process-index c.loop-process.conditions.items
-          (omega (arith, ap length same)) c.loop-process.invariant (sym at ∙ sym c.condition_of.ensures ∙ none_if c.condition_of.result w.in_default.not-Some)
+      | in-Some+in_ok-push w ↦ along_takes c.args.problem.now c.args.order.now c.loop-process.process-index
+          w.in-Some.condition c.loop-process.conditions.items c.match-condition_of.conditions.items
+          (omega (arith, ap length same)) c.loop-process.invariant (sym at ∙ sym w.in-Some.ensures)
+          (ap (λ v. v.items) w.conditions-is ∙ w.in_ok-push.ensures.items)
+      | in_default w ↦ ap (λ v. v.items) w.conditions-is
+          ∙ along_skips c.args.problem.now c.args.order.now c.loop-process.process-index c.loop-process.conditions.items
+          (omega (arith, ap length same)) c.loop-process.invariant
+          (sym at ∙ sym c.condition_of.ensures ∙ none_if c.condition_of.result w.in_default.not-Some)
     ]

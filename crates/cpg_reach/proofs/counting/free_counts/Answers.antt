@@ -5,17 +5,26 @@ use Rattle.cpg_reach.proofs.counting.free_counts.Goals as goal
 use Rattle.cpg_reach.proofs.counting.free_counts.Goals.{then-is_count_free, else-is_count_free}
 
 pub overflow_add-counts : goal.overflow_add-counts
-overflow_add-counts c = let b = count-le (is_count_free c.args.admitted.now.graph c.args.reached.now c.args.scenario.now.values) c.loop-process.process in let i = c.loop-process.invariant in
+overflow_add-counts c =
+    let b = count-le (is_count_free c.args.admitted.now.graph c.args.reached.now c.args.scenario.now.values)
+    c.loop-process.process in
+    let i = c.loop-process.invariant in
     omega arith
 
 pub loop-process-preserved : goal.loop-process-preserved
 loop-process-preserved c = elim c.if-is_count_free.branch [
-  | then-is_count_free w ↦ let n = count_next (is_count_free c.args.admitted.now.graph c.args.reached.now c.args.scenario.now.values) c.loop-process.process true (sym w.if-is_count_free.ensures) in
+  | then-is_count_free w ↦ let n = count_next (is_count_free c.args.admitted.now.graph c.args.reached.now
+      c.args.scenario.now.values) c.loop-process.process true (sym w.if-is_count_free.ensures) in
       let i = c.loop-process.invariant in let e = w.counts-is in omega arith
-  | else-is_count_free w ↦ let n = count_next (is_count_free c.args.admitted.now.graph c.args.reached.now c.args.scenario.now.values) c.loop-process.process false (sym w.if-is_count_free.ensures) in
+  | else-is_count_free w ↦ let n = count_next (is_count_free c.args.admitted.now.graph c.args.reached.now
+      c.args.scenario.now.values) c.loop-process.process false (sym w.if-is_count_free.ensures) in
       let i = c.loop-process.invariant in let e = w.counts-is in omega arith
 ]
 
 pub returns-clause-few : goal.returns-clause-few
-returns-clause-few c = let b = count-le (is_count_free c.args.admitted.now.graph c.args.reached.now c.args.scenario.now.values) c.loop-process.process in
-    let i = c.loop-process.invariant in let f = c.processes.ensures.within.few_processes in omega (arith, ap length c.processes.ensures.processes)
+returns-clause-few c =
+    let b = count-le (is_count_free c.args.admitted.now.graph c.args.reached.now c.args.scenario.now.values)
+    c.loop-process.process in
+    let i = c.loop-process.invariant in
+    let f = c.processes.ensures.within.few_processes in
+    omega (arith, ap length c.processes.ensures.processes)

@@ -4,4 +4,5 @@ use Rattle.cpg_order.specs.Counting.{is_count_free}
 use Rattle.cpg_reach.proofs.counting.free_counts.Given as goal
 
 abbrev pub invariant-loop-process : goal.invariant-loop-process
-invariant-loop-process l = l.counts ≡ count_by (is_count_free l.admitted.graph l.reached l.scenario.values) (numbers_below l.process)
+invariant-loop-process l =
+    l.counts ≡ count_by (is_count_free l.admitted.graph l.reached l.scenario.values) (numbers_below l.process)

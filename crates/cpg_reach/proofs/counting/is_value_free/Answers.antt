@@ -9,12 +9,16 @@ pub active-requires-clause-process : goal.active-requires-clause-process
 active-requires-clause-process c =
     let trees = c.guards-guards.ensures.admitted.guards.count in
     let is = ap (λ g. length g.trees) c.guards-guards.ensures.guards in
-    let process = c.process_of-process.ensures.process ∙ ap (λ g. process_of g c.args.condition) c.problem.ensures.problem in
+    let process =
+    c.process_of-process.ensures.process ∙ ap (λ g. process_of g c.args.condition) c.problem.ensures.problem in
     omega (arith, process_of_below c.args.admitted.now.graph c.args.condition c.requires.condition)
 
 pub returns : goal.returns
 returns c =
     c.active.ensures.active c.args.admitted.now.graph c.args.admitted.now.order
-    (subst (AreGuardsOf c.args.admitted.now.graph c.args.admitted.now.order) (sym c.guards-guards.ensures.guards) c.guards-guards.ensures.admitted.guards)
-    ∙ ap (λ p. active c.args.admitted.now.graph c.args.scenario.now.values p) (c.process_of-process.ensures.process ∙ ap (λ g. process_of g c.args.condition) c.problem.ensures.problem)
-    ∙ ap (λ b. b && active c.args.admitted.now.graph c.args.scenario.now.values (process_of c.args.admitted.now.graph c.args.condition)) c.if-not-has.ensures
+    (subst (AreGuardsOf c.args.admitted.now.graph c.args.admitted.now.order)
+    (sym c.guards-guards.ensures.guards) c.guards-guards.ensures.admitted.guards)
+    ∙ ap (λ p. active c.args.admitted.now.graph c.args.scenario.now.values p)
+    (c.process_of-process.ensures.process ∙ ap (λ g. process_of g c.args.condition) c.problem.ensures.problem)
+    ∙ ap (λ b. b && active c.args.admitted.now.graph c.args.scenario.now.values
+    (process_of c.args.admitted.now.graph c.args.condition)) c.if-not-has.ensures

@@ -4,4 +4,5 @@ use Rattle.cpg_reach.proofs.Empty.{empty_next}
 use Rattle.cpg_reach.proofs.reaches.empty_sets.Goals as goal
 
 pub loop-preserved : goal.loop-preserved
-loop-preserved c = subst (AreEmpty (c.loop.counter + 1)) (sym c.in_ok-push.ensures.items) (empty_next c.loop.counter c.loop.sets.items c.none.result c.loop.invariant c.none.ensures)
+loop-preserved c = subst (AreEmpty (c.loop.counter + 1)) (sym c.in_ok-push.ensures.items)
+    (empty_next c.loop.counter c.loop.sets.items c.none.result c.loop.invariant c.none.ensures)

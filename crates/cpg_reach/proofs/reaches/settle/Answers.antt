@@ -8,5 +8,6 @@ returns-clause-sent c = (
   c.add.new.self,
   refl,
   λ v. c.add.ensures v
-      ∙ ap (λ xs. is_in xs v || is_in c.args.reach v) (c.copy-sent.ensures ∙ set_at c.args.walk.now.sent.items c.args.node c.index.result.now c.requires.node c.index.ensures),
+      ∙ ap (λ xs. is_in xs v || is_in c.args.reach v) (c.copy-sent.ensures
+      ∙ set_at c.args.walk.now.sent.items c.args.node c.index.result.now c.requires.node c.index.ensures),
 )

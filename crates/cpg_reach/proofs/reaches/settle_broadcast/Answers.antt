@@ -8,38 +8,55 @@ use Rattle.cpg_reach.proofs.Walks.{no_broadcast, broadcast_settled}
 use Rattle.cpg_reach.proofs.reaches.settle_broadcast.Goals as goal
 
 pub returns-in_default : goal.returns-in_default
-returns-in_default c = no_broadcast c.args.problem.now c.args.order.now c.requires.order c.args.process c.requires.process c.args.walk.now.reaches.items c.args.walk.now.known.items
+returns-in_default c = no_broadcast c.args.problem.now c.args.order.now c.requires.order c.args.process
+    c.requires.process c.args.walk.now.reaches.items c.args.walk.now.known.items
     c.args.walk.now.sent.items
     (sym c.in_default.ensures) c.requires.walked
 
 pub broadcast_of-reach-requires-clause-items : goal.broadcast_of-reach-requires-clause-items
 broadcast_of-reach-requires-clause-items c = ap length c.as_slice.ensures.value
     ∙ (walked_some c.args.problem.now c.args.order.now c.requires.order (place c.args.order.now c.args.process + 1)
-    (place c.args.order.now c.args.process * phases c.args.problem.now + 2) c.args.walk.now.reaches.items c.args.walk.now.known.items c.args.walk.now.sent.items c.requires.walked).0
+    (place c.args.order.now c.args.process * phases c.args.problem.now + 2) c.args.walk.now.reaches.items
+    c.args.walk.now.known.items c.args.walk.now.sent.items c.requires.walked).0
 
 pub broadcast_of-reach-requires-clause-nodes : goal.broadcast_of-reach-requires-clause-nodes
 broadcast_of-reach-requires-clause-nodes c = ap length c.as_slice-2.ensures.value
     ∙ (walked_some c.args.problem.now c.args.order.now c.requires.order (place c.args.order.now c.args.process + 1)
-    (place c.args.order.now c.args.process * phases c.args.problem.now + 2) c.args.walk.now.reaches.items c.args.walk.now.known.items c.args.walk.now.sent.items c.requires.walked).2
+    (place c.args.order.now c.args.process * phases c.args.problem.now + 2) c.args.walk.now.reaches.items
+    c.args.walk.now.known.items c.args.walk.now.sent.items c.requires.walked).2
 
 pub settle-requires-clause-item : goal.settle-requires-clause-item
 settle-requires-clause-item c =
     let w = walked_some c.args.problem.now c.args.order.now c.requires.order (place c.args.order.now c.args.process + 1)
-    (place c.args.order.now c.args.process * phases c.args.problem.now + 2) c.args.walk.now.reaches.items c.args.walk.now.known.items c.args.walk.now.sent.items c.requires.walked in
-    omega (arith, w.0, ap length c.processes.ensures.processes, ap length c.edges.ensures.edges, condition_of_below c.args.problem.now c.args.process c.in-Some.condition (sym c.in-Some.ensures))
+    (place c.args.order.now c.args.process * phases c.args.problem.now + 2) c.args.walk.now.reaches.items
+    c.args.walk.now.known.items c.args.walk.now.sent.items c.requires.walked in
+    omega (
+      arith,
+      w.0,
+      ap length c.processes.ensures.processes,
+      ap length c.edges.ensures.edges,
+      condition_of_below c.args.problem.now c.args.process c.in-Some.condition (sym c.in-Some.ensures),
+    )
 
 pub settle-requires-clause-node : goal.settle-requires-clause-node
 settle-requires-clause-node c =
     let w = walked_some c.args.problem.now c.args.order.now c.requires.order (place c.args.order.now c.args.process + 1)
-    (place c.args.order.now c.args.process * phases c.args.problem.now + 2) c.args.walk.now.reaches.items c.args.walk.now.known.items c.args.walk.now.sent.items c.requires.walked in
+    (place c.args.order.now c.args.process * phases c.args.problem.now + 2) c.args.walk.now.reaches.items
+    c.args.walk.now.known.items c.args.walk.now.sent.items c.requires.walked in
     omega (arith, w.2, c.node_of.ensures.within)
 
 pub returns : goal.returns
 returns c =
-    let item : length c.processes.result.now + length c.edges.result.now + c.in-Some.condition ≡ broadcast_item c.args.problem.now c.in-Some.condition =
-    ap₂ (λ n m. n + m + c.in-Some.condition) (ap length c.processes.ensures.processes) (ap length c.edges.ensures.edges) in
-    broadcast_settled c.args.problem.now c.args.order.now c.requires.order c.args.process c.in-Some.condition c.args.walk.now.reaches.items c.as_slice.result.now c.args.walk.now.known.items
+    let item : length c.processes.result.now + length c.edges.result.now + c.in-Some.condition
+    ≡ broadcast_item c.args.problem.now c.in-Some.condition =
+    ap₂ (λ n m. n + m + c.in-Some.condition) (ap length c.processes.ensures.processes)
+    (ap length c.edges.ensures.edges) in
+    broadcast_settled c.args.problem.now c.args.order.now c.requires.order c.args.process c.in-Some.condition
+    c.args.walk.now.reaches.items c.as_slice.result.now c.args.walk.now.known.items
     c.args.walk.now.sent.items c.as_slice-2.result.now
-    c.settle.new.walk.reaches.items c.settle.new.walk.known.items c.settle.new.walk.sent.items c.as_slice.ensures.value c.as_slice-2.ensures.value (sym c.in-Some.ensures) c.requires.walked
-    c.node_of.result c.node_of.ensures.node c.node_of.ensures.within c.broadcast_of-reach.result c.settle.ensures.sent.0 c.broadcast_of-reach.ensures
-    (c.settle.ensures.reaches ∙ ap (λ i. set c.args.walk.now.reaches.items i c.broadcast_of-reach.result) item) c.settle.ensures.known c.settle.ensures.sent.1 c.settle.ensures.sent.2
+    c.settle.new.walk.reaches.items c.settle.new.walk.known.items c.settle.new.walk.sent.items c.as_slice.ensures.value
+    c.as_slice-2.ensures.value (sym c.in-Some.ensures) c.requires.walked
+    c.node_of.result c.node_of.ensures.node c.node_of.ensures.within c.broadcast_of-reach.result c.settle.ensures.sent.0
+    c.broadcast_of-reach.ensures
+    (c.settle.ensures.reaches ∙ ap (λ i. set c.args.walk.now.reaches.items i c.broadcast_of-reach.result) item)
+    c.settle.ensures.known c.settle.ensures.sent.1 c.settle.ensures.sent.2

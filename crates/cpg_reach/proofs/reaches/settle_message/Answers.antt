@@ -9,40 +9,52 @@ use Rattle.cpg_reach.proofs.reaches.settle_message.Goals as goal
 
 pub returns-then-edges-edge : goal.returns-then-edges-edge
 returns-then-edges-edge c =
-    let at : get_or c.edges.result.now c.args.edge no_edge ≡ edge_at c.args.problem.now c.args.edge = ap (λ es. get_or es c.args.edge no_edge) c.edges.ensures.edges in
-    no_message c.args.problem.now c.args.order.now c.requires.order c.args.process c.args.edge c.requires.process c.requires.edge c.args.walk.now.reaches.items c.args.walk.now.known.items
+    let at : get_or c.edges.result.now c.args.edge no_edge ≡ edge_at c.args.problem.now c.args.edge =
+    ap (λ es. get_or es c.args.edge no_edge) c.edges.ensures.edges in
+    no_message c.args.problem.now c.args.order.now c.requires.order c.args.process c.args.edge c.requires.process
+    c.requires.edge c.args.walk.now.reaches.items c.args.walk.now.known.items
     c.args.walk.now.sent.items
     (λ e. c.if-edges-edge.true (ap (λ x. x.from) at ∙ e)) c.requires.walked
 
 pub message_of-reach-requires-clause-items : goal.message_of-reach-requires-clause-items
 message_of-reach-requires-clause-items c = ap length c.as_slice.ensures.value
     ∙ (walked_some c.args.problem.now c.args.order.now c.requires.order (place c.args.order.now c.args.process + 1)
-    (place c.args.order.now c.args.process * phases c.args.problem.now + 3 + c.args.edge) c.args.walk.now.reaches.items c.args.walk.now.known.items c.args.walk.now.sent.items c.requires.walked).0
+    (place c.args.order.now c.args.process * phases c.args.problem.now + 3 + c.args.edge) c.args.walk.now.reaches.items
+    c.args.walk.now.known.items c.args.walk.now.sent.items c.requires.walked).0
 
 pub message_of-reach-requires-clause-nodes : goal.message_of-reach-requires-clause-nodes
 message_of-reach-requires-clause-nodes c = ap length c.as_slice-2.ensures.value
     ∙ (walked_some c.args.problem.now c.args.order.now c.requires.order (place c.args.order.now c.args.process + 1)
-    (place c.args.order.now c.args.process * phases c.args.problem.now + 3 + c.args.edge) c.args.walk.now.reaches.items c.args.walk.now.known.items c.args.walk.now.sent.items c.requires.walked).2
+    (place c.args.order.now c.args.process * phases c.args.problem.now + 3 + c.args.edge) c.args.walk.now.reaches.items
+    c.args.walk.now.known.items c.args.walk.now.sent.items c.requires.walked).2
 
 pub settle-requires-clause-item : goal.settle-requires-clause-item
 settle-requires-clause-item c =
     let w = walked_some c.args.problem.now c.args.order.now c.requires.order (place c.args.order.now c.args.process + 1)
-    (place c.args.order.now c.args.process * phases c.args.problem.now + 3 + c.args.edge) c.args.walk.now.reaches.items c.args.walk.now.known.items c.args.walk.now.sent.items c.requires.walked in
+    (place c.args.order.now c.args.process * phases c.args.problem.now + 3 + c.args.edge) c.args.walk.now.reaches.items
+    c.args.walk.now.known.items c.args.walk.now.sent.items c.requires.walked in
     omega (arith, w.0, ap length c.processes.ensures.processes, c.requires.edge)
 
 pub settle-requires-clause-node : goal.settle-requires-clause-node
 settle-requires-clause-node c =
     let w = walked_some c.args.problem.now c.args.order.now c.requires.order (place c.args.order.now c.args.process + 1)
-    (place c.args.order.now c.args.process * phases c.args.problem.now + 3 + c.args.edge) c.args.walk.now.reaches.items c.args.walk.now.known.items c.args.walk.now.sent.items c.requires.walked in
+    (place c.args.order.now c.args.process * phases c.args.problem.now + 3 + c.args.edge) c.args.walk.now.reaches.items
+    c.args.walk.now.known.items c.args.walk.now.sent.items c.requires.walked in
     omega (arith, w.2, c.node_of.ensures.within)
 
 pub returns : goal.returns
 returns c =
-    let at : get_or c.edges.result.now c.args.edge no_edge ≡ edge_at c.args.problem.now c.args.edge = ap (λ es. get_or es c.args.edge no_edge) c.edges.ensures.edges in
-    let item : length c.processes.result.now + c.args.edge ≡ message_item c.args.problem.now c.args.edge = ap (λ n. n + c.args.edge) (ap length c.processes.ensures.processes) in
-    message_settled c.args.problem.now c.args.order.now c.requires.order c.args.process c.args.edge c.args.walk.now.reaches.items c.as_slice.result.now c.args.walk.now.known.items
+    let at : get_or c.edges.result.now c.args.edge no_edge ≡ edge_at c.args.problem.now c.args.edge =
+    ap (λ es. get_or es c.args.edge no_edge) c.edges.ensures.edges in
+    let item : length c.processes.result.now + c.args.edge ≡ message_item c.args.problem.now c.args.edge =
+    ap (λ n. n + c.args.edge) (ap length c.processes.ensures.processes) in
+    message_settled c.args.problem.now c.args.order.now c.requires.order c.args.process c.args.edge
+    c.args.walk.now.reaches.items c.as_slice.result.now c.args.walk.now.known.items
     c.args.walk.now.sent.items c.as_slice-2.result.now
-    c.settle.new.walk.reaches.items c.settle.new.walk.known.items c.settle.new.walk.sent.items c.as_slice.ensures.value c.as_slice-2.ensures.value c.requires.edge
+    c.settle.new.walk.reaches.items c.settle.new.walk.known.items c.settle.new.walk.sent.items c.as_slice.ensures.value
+    c.as_slice-2.ensures.value c.requires.edge
     (ap (λ x. x.from) (sym at) ∙ c.if-edges-edge.false) c.requires.walked
-    c.node_of.result c.node_of.ensures.node c.node_of.ensures.within c.message_of-reach.result c.settle.ensures.sent.0 c.message_of-reach.ensures
-    (c.settle.ensures.reaches ∙ ap (λ i. set c.args.walk.now.reaches.items i c.message_of-reach.result) item) c.settle.ensures.known c.settle.ensures.sent.1 c.settle.ensures.sent.2
+    c.node_of.result c.node_of.ensures.node c.node_of.ensures.within c.message_of-reach.result c.settle.ensures.sent.0
+    c.message_of-reach.ensures
+    (c.settle.ensures.reaches ∙ ap (λ i. set c.args.walk.now.reaches.items i c.message_of-reach.result) item)
+    c.settle.ensures.known c.settle.ensures.sent.1 c.settle.ensures.sent.2

@@ -5,4 +5,5 @@ use Rattle.cpg_reach.specs.Walked.{IsWalkedTo}
 use Rattle.cpg_reach.proofs.reaches.settle_process.Given as goal
 
 abbrev pub invariant-loop-edge : goal.invariant-loop-edge
-invariant-loop-edge l = IsWalkedTo l.problem l.order (place l.order l.process + 1) (place l.order l.process * phases l.problem + 3 + l.edge) l.walk
+invariant-loop-edge l = IsWalkedTo l.problem l.order (place l.order l.process + 1)
+    (place l.order l.process * phases l.problem + 3 + l.edge) l.walk

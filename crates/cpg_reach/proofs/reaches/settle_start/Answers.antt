@@ -9,45 +9,56 @@ use Rattle.cpg_reach.proofs.reaches.settle_start.Goals as goal
 pub start_of-reach-requires-clause-items : goal.start_of-reach-requires-clause-items
 start_of-reach-requires-clause-items c = ap length c.as_slice.ensures.value
     ∙ (walked_some c.args.problem.now c.args.order.now c.requires.order (place c.args.order.now c.args.process)
-    (place c.args.order.now c.args.process * phases c.args.problem.now) c.args.walk.now.reaches.items c.args.walk.now.known.items c.args.walk.now.sent.items c.requires.walked).0
+    (place c.args.order.now c.args.process * phases c.args.problem.now) c.args.walk.now.reaches.items
+    c.args.walk.now.known.items c.args.walk.now.sent.items c.requires.walked).0
 
 pub start_of-reach-requires-clause-nodes : goal.start_of-reach-requires-clause-nodes
 start_of-reach-requires-clause-nodes c = ap length c.as_slice-2.ensures.value
     ∙ (walked_some c.args.problem.now c.args.order.now c.requires.order (place c.args.order.now c.args.process)
-    (place c.args.order.now c.args.process * phases c.args.problem.now) c.args.walk.now.reaches.items c.args.walk.now.known.items c.args.walk.now.sent.items c.requires.walked).1
+    (place c.args.order.now c.args.process * phases c.args.problem.now) c.args.walk.now.reaches.items
+    c.args.walk.now.known.items c.args.walk.now.sent.items c.requires.walked).1
 
 pub index-requires : goal.index-requires
 index-requires c =
     let w = walked_some c.args.problem.now c.args.order.now c.requires.order (place c.args.order.now c.args.process)
-    (place c.args.order.now c.args.process * phases c.args.problem.now) c.args.walk.now.reaches.items c.args.walk.now.known.items c.args.walk.now.sent.items c.requires.walked in
+    (place c.args.order.now c.args.process * phases c.args.problem.now) c.args.walk.now.reaches.items
+    c.args.walk.now.known.items c.args.walk.now.sent.items c.requires.walked in
     omega (arith, w.1, c.node_of-node.ensures.within)
 
 pub add_heard-requires-clause-items : goal.add_heard-requires-clause-items
 add_heard-requires-clause-items c = ap length c.as_slice-3.ensures.value
     ∙ (walked_some c.args.problem.now c.args.order.now c.requires.order (place c.args.order.now c.args.process)
-    (place c.args.order.now c.args.process * phases c.args.problem.now) c.args.walk.now.reaches.items c.args.walk.now.known.items c.args.walk.now.sent.items c.requires.walked).0
+    (place c.args.order.now c.args.process * phases c.args.problem.now) c.args.walk.now.reaches.items
+    c.args.walk.now.known.items c.args.walk.now.sent.items c.requires.walked).0
 
 pub index_mut-requires : goal.index_mut-requires
 index_mut-requires c =
     let w = walked_some c.args.problem.now c.args.order.now c.requires.order (place c.args.order.now c.args.process)
-    (place c.args.order.now c.args.process * phases c.args.problem.now) c.args.walk.now.reaches.items c.args.walk.now.known.items c.args.walk.now.sent.items c.requires.walked in
+    (place c.args.order.now c.args.process * phases c.args.problem.now) c.args.walk.now.reaches.items
+    c.args.walk.now.known.items c.args.walk.now.sent.items c.requires.walked in
     omega (arith, w.1, c.node_of-node.ensures.within)
 
 pub index_mut-requires-2 : goal.index_mut-requires-2
 index_mut-requires-2 c =
     let w = walked_some c.args.problem.now c.args.order.now c.requires.order (place c.args.order.now c.args.process)
-    (place c.args.order.now c.args.process * phases c.args.problem.now) c.args.walk.now.reaches.items c.args.walk.now.known.items c.args.walk.now.sent.items c.requires.walked in
+    (place c.args.order.now c.args.process * phases c.args.problem.now) c.args.walk.now.reaches.items
+    c.args.walk.now.known.items c.args.walk.now.sent.items c.requires.walked in
     omega (arith, w.0, c.requires.process)
 
 pub returns : goal.returns
 returns c =
     let w = walked_some c.args.problem.now c.args.order.now c.requires.order (place c.args.order.now c.args.process)
-    (place c.args.order.now c.args.process * phases c.args.problem.now) c.args.walk.now.reaches.items c.args.walk.now.known.items c.args.walk.now.sent.items c.requires.walked in
-    start_settled c.args.problem.now c.args.order.now c.requires.order c.args.process c.requires.process c.args.walk.now.reaches.items c.as_slice.result.now c.as_slice-3.result.now
+    (place c.args.order.now c.args.process * phases c.args.problem.now) c.args.walk.now.reaches.items
+    c.args.walk.now.known.items c.args.walk.now.sent.items c.requires.walked in
+    start_settled c.args.problem.now c.args.order.now c.requires.order c.args.process c.requires.process
+    c.args.walk.now.reaches.items c.as_slice.result.now c.as_slice-3.result.now
     c.args.walk.now.known.items c.as_slice-2.result.now c.args.walk.now.sent.items
-    c.as_slice.ensures.value c.as_slice-3.ensures.value c.as_slice-2.ensures.value c.requires.walked c.node_of-node.result c.node_of-node.ensures.node c.node_of-node.ensures.within
-    c.start_of-reach.result c.copy-known.result c.add_heard.new.reach c.add.new.self c.insert.new.self c.start_of-reach.ensures
-    (c.copy-known.ensures ∙ set_at c.args.walk.now.known.items c.node_of-node.result c.index.result.now (omega (arith, w.1, c.node_of-node.ensures.within)) c.index.ensures)
+    c.as_slice.ensures.value c.as_slice-3.ensures.value c.as_slice-2.ensures.value c.requires.walked
+    c.node_of-node.result c.node_of-node.ensures.node c.node_of-node.ensures.within
+    c.start_of-reach.result c.copy-known.result c.add_heard.new.reach c.add.new.self c.insert.new.self
+    c.start_of-reach.ensures
+    (c.copy-known.ensures ∙ set_at c.args.walk.now.known.items c.node_of-node.result c.index.result.now
+    (omega (arith, w.1, c.node_of-node.ensures.within)) c.index.ensures)
     c.add_heard.ensures c.add.ensures c.insert.ensures
 
 pub insert-requires : goal.insert-requires

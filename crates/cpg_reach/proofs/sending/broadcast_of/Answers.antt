@@ -8,17 +8,30 @@ use Rattle.cpg_reach.proofs.sending.broadcast_of.Goals as goal
 pub returns-then-nodes-le1 : goal.returns-then-nodes-le1
 returns-then-nodes-le1 c = nothing_sent c.args.problem.now c.args.reaches.now c.args.sent.now c.none.result
     (send_by c.args.problem.now c.args.reaches.now c.args.sent.now (Broadcast c.args.condition)) c.none.ensures
-    (one_node c.args.problem.now c.args.reaches.now c.args.sent.now c.args.condition (let l = c.if-nodes-le1.true in omega (arith, ap length c.nodes.ensures.nodes)))
+    (one_node c.args.problem.now c.args.reaches.now c.args.sent.now c.args.condition (let l = c.if-nodes-le1.true in
+    omega (arith, ap length c.nodes.ensures.nodes)))
 
 pub node_of-node-requires : goal.node_of-node-requires
-node_of-node-requires c = omega (arith, process_of_below c.args.problem.now c.args.condition c.requires.condition, c.process_of-process.ensures.process)
+node_of-node-requires c = omega (
+  arith,
+  process_of_below c.args.problem.now c.args.condition c.requires.condition,
+  c.process_of-process.ensures.process,
+)
 
 pub after_end-requires-clause-process : goal.after_end-requires-clause-process
-after_end-requires-clause-process c = omega (arith, process_of_below c.args.problem.now c.args.condition c.requires.condition, c.process_of-process.ensures.process, c.requires.items)
+after_end-requires-clause-process c = omega (
+  arith,
+  process_of_below c.args.problem.now c.args.condition c.requires.condition,
+  c.process_of-process.ensures.process,
+  c.requires.items,
+)
 
 pub after_end-requires-clause-variable : goal.after_end-requires-clause-variable
-after_end-requires-clause-variable c = omega (arith, c.nodes.ensures.within.few_processes, c.process_of-process.ensures.within)
+after_end-requires-clause-variable c =
+    omega (arith, c.nodes.ensures.within.few_processes, c.process_of-process.ensures.within)
 
 pub returns : goal.returns
-returns c = broadcast_sent c.args.problem.now c.args.reaches.now c.args.sent.now c.args.condition c.process_of-process.result c.node_of-node.result c.after_end.result
-    (let l = c.if-nodes-le1.false in omega (arith, ap length c.nodes.ensures.nodes)) c.process_of-process.ensures.process c.node_of-node.ensures.node c.after_end.ensures
+returns c = broadcast_sent c.args.problem.now c.args.reaches.now c.args.sent.now c.args.condition
+    c.process_of-process.result c.node_of-node.result c.after_end.result
+    (let l = c.if-nodes-le1.false in omega (arith, ap length c.nodes.ensures.nodes))
+    c.process_of-process.ensures.process c.node_of-node.ensures.node c.after_end.ensures

@@ -7,4 +7,5 @@ use Rattle.cpg_reach.specs.Walked.{heard_by}
 use Rattle.cpg_reach.proofs.starting.add_heard.Given as goal
 
 abbrev pub invariant-loop-condition : goal.invariant-loop-condition
-invariant-loop-condition l = Adds l.fn.reach (heard_by l.problem l.reaches l.node (filter (λ c. is_in (get_or l.deciding l.process []) (value_variable c)) (numbers_below l.condition))) l.reach
+invariant-loop-condition l = Adds l.fn.reach (heard_by l.problem l.reaches l.node
+    (filter (λ c. is_in (get_or l.deciding l.process []) (value_variable c)) (numbers_below l.condition))) l.reach

@@ -3,10 +3,20 @@ use Rattle.cpg_base.proofs.Items.{process_of_below}
 use Rattle.cpg_reach.proofs.starting.add_hearing.Goals as goal
 
 pub node_of-requires : goal.node_of-requires
-node_of-requires c = omega (arith, process_of_below c.args.problem.now c.args.condition c.requires.condition, c.process_of-process.ensures.process)
+node_of-requires c = omega (
+  arith,
+  process_of_below c.args.problem.now c.args.condition c.requires.condition,
+  c.process_of-process.ensures.process,
+)
 
 pub add_end-requires-clause-process : goal.add_end-requires-clause-process
-add_end-requires-clause-process c = omega (arith, process_of_below c.args.problem.now c.args.condition c.requires.condition, c.process_of-process.ensures.process, c.requires.items)
+add_end-requires-clause-process c = omega (
+  arith,
+  process_of_below c.args.problem.now c.args.condition c.requires.condition,
+  c.process_of-process.ensures.process,
+  c.requires.items,
+)
 
 pub add_end-requires-clause-variable : goal.add_end-requires-clause-variable
-add_end-requires-clause-variable c = omega (arith, c.processes.ensures.within.few_processes, c.process_of-process.ensures.within)
+add_end-requires-clause-variable c =
+    omega (arith, c.processes.ensures.within.few_processes, c.process_of-process.ensures.within)

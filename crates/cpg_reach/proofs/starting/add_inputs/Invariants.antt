@@ -7,4 +7,5 @@ use Rattle.cpg_reach.specs.Variables.{Adds}
 use Rattle.cpg_reach.proofs.starting.add_inputs.Given as goal
 
 abbrev pub invariant-loop-edge : goal.invariant-loop-edge
-invariant-loop-edge l = Adds l.fn.reach (flat_map (input_reach l.problem l.reaches) (filter (λ e. target l.problem e == l.process) (numbers_below l.edge))) l.reach
+invariant-loop-edge l = Adds l.fn.reach (flat_map (input_reach l.problem l.reaches)
+    (filter (λ e. target l.problem e == l.process) (numbers_below l.edge))) l.reach

@@ -6,10 +6,13 @@ pub loop-counts-init : goal.loop-counts-init
 loop-counts-init c = raised_first c.args.faults c.args.table.now c.requires.ways
 
 pub overflow_add-table : goal.overflow_add-table
-overflow_add-table c = let b = sum_fits c.args.faults c.loop-counts.table c.loop-counts.counts c.requires.few (omega arith) (omega arith) c.loop-counts.invariant in omega arith
+overflow_add-table c = let b = sum_fits c.args.faults c.loop-counts.table c.loop-counts.counts c.requires.few
+    (omega arith) (omega arith) c.loop-counts.invariant in
+    omega arith
 
 pub loop-counts-preserved : goal.loop-counts-preserved
-loop-counts-preserved c = raised_next c.args.faults c.loop-counts.table c.loop-counts.counts (omega arith) (omega arith) c.loop-counts.invariant
+loop-counts-preserved c = raised_next c.args.faults c.loop-counts.table c.loop-counts.counts (omega arith)
+    (omega arith) c.loop-counts.invariant
 
 pub returns : goal.returns
 returns c = raised_all c.args.faults c.loop-counts.table c.loop-counts.counts (omega arith) c.loop-counts.invariant

@@ -5,8 +5,11 @@ use Rattle.cpg_reach.proofs.Widths.{has_views}
 use Rattle.cpg_reach.proofs.width.views.Goals as goal
 
 pub of-requires : goal.of-requires
-of-requires c = length_order (process_count c.args.admitted.now.graph) c.args.order.now c.requires.order.all ∙ ap (λ g. process_count g) (sym c.problem-problem.ensures.problem)
+of-requires c = length_order (process_count c.args.admitted.now.graph) c.args.order.now c.requires.order.all
+    ∙ ap (λ g. process_count g) (sym c.problem-problem.ensures.problem)
 
 pub returns : goal.returns
-returns c = has_views c.args.admitted.now.graph c.args.order.now c.requires.order c.args.admitted.now.guards c.args.admitted.now.order c.problem-problem.ensures.admitted
-    c.in_ok-reaches.reaches.items c.in_ok-reaches.ensures c.args.item c.views-views.result c.index.result.now c.requires.item c.index.ensures c.views-views.ensures.views
+returns c = has_views c.args.admitted.now.graph c.args.order.now c.requires.order c.args.admitted.now.guards
+    c.args.admitted.now.order c.problem-problem.ensures.admitted
+    c.in_ok-reaches.reaches.items c.in_ok-reaches.ensures c.args.item c.views-views.result c.index.result.now
+    c.requires.item c.index.ensures c.views-views.ensures.views

@@ -6,9 +6,12 @@ use Rattle.cpg_reader.proofs.Limits.{few_processes, small_edges, all_at}
 use Rattle.cpg_reader.proofs.building.edges_of.Goals as goal
 
 pub edge_of-requires-clause-few : goal.edge_of-requires-clause-few
-edge_of-requires-clause-few c = few_processes (raw_view c.args.raw.now) c.args.processes.now c.requires.limits c.requires.processes
+edge_of-requires-clause-few c =
+    few_processes (raw_view c.args.raw.now) c.args.processes.now c.requires.limits c.requires.processes
 
 pub edge_of-requires-clause-bytes : goal.edge_of-requires-clause-bytes
 edge_of-requires-clause-bytes c =
-    all_at (λ (x : RawEdge). natural x.bytes ≤ 65535) c.args.raw.now.edges.items c.deref-edge-items.result.now c.loop-index.index c.edge-item.result
-    (small_edges (raw_view c.args.raw.now) c.requires.limits) c.deref-edge-items.ensures.value c.loop-index-test.true c.edge-item.is
+    all_at (λ (x : RawEdge). natural x.bytes ≤ 65535) c.args.raw.now.edges.items c.deref-edge-items.result.now
+    c.loop-index.index c.edge-item.result
+    (small_edges (raw_view c.args.raw.now) c.requires.limits) c.deref-edge-items.ensures.value
+    c.loop-index-test.true c.edge-item.is

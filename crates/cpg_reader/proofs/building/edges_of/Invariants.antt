@@ -5,4 +5,5 @@ use Rattle.cpg_reader.proofs.Each.{after}
 use Rattle.cpg_reader.proofs.building.edges_of.Given as goal
 
 abbrev pub invariant-loop-index : goal.invariant-loop-index
-invariant-loop-index l = after l.edges.items (each (edge_of l.fn.processes) l.index (drop l.index l.fn.raw.edges.items)) ≡ each (edge_of l.fn.processes) 0 l.fn.raw.edges.items
+invariant-loop-index l = after l.edges.items (each (edge_of l.fn.processes) l.index (drop l.index l.fn.raw.edges.items))
+    ≡ each (edge_of l.fn.processes) 0 l.fn.raw.edges.items

@@ -5,4 +5,6 @@ use Rattle.cpg_reader.proofs.Each.{after}
 use Rattle.cpg_reader.proofs.building.numbers_of.Given as goal
 
 abbrev pub invariant-loop-name : goal.invariant-loop-name
-invariant-loop-name l = after l.numbers.items (each (ordered l.fn.processes) l.name-index (drop l.name-index l.fn.order)) ≡ each (ordered l.fn.processes) 0 l.fn.order
+invariant-loop-name l =
+    after l.numbers.items (each (ordered l.fn.processes) l.name-index (drop l.name-index l.fn.order))
+    ≡ each (ordered l.fn.processes) 0 l.fn.order

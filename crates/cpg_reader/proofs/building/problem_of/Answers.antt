@@ -8,9 +8,11 @@ use Rattle.cpg_reader.proofs.building.problem_of.Goals as goal
 pub of-problem-requires : goal.of-problem-requires
 of-problem-requires c =
     let deadline : c.natural-deadline.result ≡ natural c.args.raw.deadline = search rules in
-    rw (c.faults_of-faults.ensures, deadline) (unordered-within _ (graph-within (raw_view c.args.raw) _ c.requires c.in_ok-parts.ensures))
+    rw (c.faults_of-faults.ensures, deadline)
+    (unordered-within _ (graph-within (raw_view c.args.raw) _ c.requires c.in_ok-parts.ensures))
 
 pub with_order-requires : goal.with_order-requires
 with_order-requires c =
-    rw c.of-problem.ensures (of_mapped (λ v. v.items) (IsOrderWithin (length c.in_ok-parts.parts.processes.items)) c.in_ok-parts.parts.order
+    rw c.of-problem.ensures
+    (of_mapped (λ v. v.items) (IsOrderWithin (length c.in_ok-parts.parts.processes.items)) c.in_ok-parts.parts.order
     (graph-within (raw_view c.args.raw) _ c.requires c.in_ok-parts.ensures).order)

@@ -6,9 +6,12 @@ use Rattle.cpg_reader.proofs.Limits.{few_nodes, small_processes, all_at}
 use Rattle.cpg_reader.proofs.building.processes_of.Goals as goal
 
 pub process_of-requires-clause-few : goal.process_of-requires-clause-few
-process_of-requires-clause-few c = few_nodes (raw_view c.args.raw.now) c.args.nodes.now c.requires.limits c.requires.nodes
+process_of-requires-clause-few c =
+    few_nodes (raw_view c.args.raw.now) c.args.nodes.now c.requires.limits c.requires.nodes
 
 pub process_of-requires-clause-parts : goal.process_of-requires-clause-parts
 process_of-requires-clause-parts c =
-    all_at (λ (x : RawProcess). natural x.parts ≤ 65535) c.args.raw.now.processes.items c.deref-process-items.result.now c.loop-index.index c.process-item.result
-    (small_processes (raw_view c.args.raw.now) c.requires.limits) c.deref-process-items.ensures.value c.loop-index-test.true c.process-item.is
+    all_at (λ (x : RawProcess). natural x.parts ≤ 65535) c.args.raw.now.processes.items c.deref-process-items.result.now
+    c.loop-index.index c.process-item.result
+    (small_processes (raw_view c.args.raw.now) c.requires.limits) c.deref-process-items.ensures.value
+    c.loop-index-test.true c.process-item.is

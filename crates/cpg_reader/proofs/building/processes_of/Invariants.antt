@@ -5,4 +5,6 @@ use Rattle.cpg_reader.proofs.Each.{after}
 use Rattle.cpg_reader.proofs.building.processes_of.Given as goal
 
 abbrev pub invariant-loop-index : goal.invariant-loop-index
-invariant-loop-index l = after l.processes.items (each (process_of l.fn.nodes) l.index (drop l.index l.fn.raw.processes.items)) ≡ each (process_of l.fn.nodes) 0 l.fn.raw.processes.items
+invariant-loop-index l =
+    after l.processes.items (each (process_of l.fn.nodes) l.index (drop l.index l.fn.raw.processes.items))
+    ≡ each (process_of l.fn.nodes) 0 l.fn.raw.processes.items

@@ -10,5 +10,7 @@ slot_of-requires-clause-few c = few_nodes (raw_view c.args.raw.now) c.args.nodes
 
 pub slot_of-requires-clause-bytes : goal.slot_of-requires-clause-bytes
 slot_of-requires-clause-bytes c =
-    all_at (λ (x : RawSlot). natural x.bytes ≤ 65535) c.args.raw.now.slots.items c.deref-slot-items.result.now c.loop-index.index c.slot-item.result
-    (small_slots (raw_view c.args.raw.now) c.requires.limits) c.deref-slot-items.ensures.value c.loop-index-test.true c.slot-item.is
+    all_at (λ (x : RawSlot). natural x.bytes ≤ 65535) c.args.raw.now.slots.items c.deref-slot-items.result.now
+    c.loop-index.index c.slot-item.result
+    (small_slots (raw_view c.args.raw.now) c.requires.limits) c.deref-slot-items.ensures.value
+    c.loop-index-test.true c.slot-item.is

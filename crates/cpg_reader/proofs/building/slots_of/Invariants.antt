@@ -5,4 +5,5 @@ use Rattle.cpg_reader.proofs.Each.{after}
 use Rattle.cpg_reader.proofs.building.slots_of.Given as goal
 
 abbrev pub invariant-loop-index : goal.invariant-loop-index
-invariant-loop-index l = after l.slots.items (each (slot_of l.fn.nodes) l.index (drop l.index l.fn.raw.slots.items)) ≡ each (slot_of l.fn.nodes) 0 l.fn.raw.slots.items
+invariant-loop-index l = after l.slots.items (each (slot_of l.fn.nodes) l.index (drop l.index l.fn.raw.slots.items))
+    ≡ each (slot_of l.fn.nodes) 0 l.fn.raw.slots.items

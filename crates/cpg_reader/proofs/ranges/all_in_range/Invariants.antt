@@ -3,4 +3,5 @@ use Rattle.cpg_reader.specs.Ranges.{all_in_range}
 use Rattle.cpg_reader.proofs.ranges.all_in_range.Given as goal
 
 abbrev pub invariant-loop-index : goal.invariant-loop-index
-invariant-loop-index g l = all_in_range l.table g.T.Numbered.numbers 0 l.fn.elements ≡ all_in_range l.table g.T.Numbered.numbers l.index (drop l.index l.fn.elements)
+invariant-loop-index g l = all_in_range l.table g.T.Numbered.numbers 0 l.fn.elements
+    ≡ all_in_range l.table g.T.Numbered.numbers l.index (drop l.index l.fn.elements)

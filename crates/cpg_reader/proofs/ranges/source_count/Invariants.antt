@@ -3,4 +3,5 @@ use Rattle.cpg_reader.specs.Ranges.{different, sources}
 use Rattle.cpg_reader.proofs.ranges.source_count.Given as goal
 
 abbrev pub invariant-loop-edge : goal.invariant-loop-edge
-invariant-loop-edge l = different [] (sources l.edges) ≡ different (map (λ k. k.now) l.sources.keys) (sources (drop l.edge-index l.edges))
+invariant-loop-edge l =
+    different [] (sources l.edges) ≡ different (map (λ k. k.now) l.sources.keys) (sources (drop l.edge-index l.edges))

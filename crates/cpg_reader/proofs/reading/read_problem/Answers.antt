@@ -4,7 +4,9 @@ use Rattle.cpg_reader.proofs.DocumentLaws.{problem_of-read, problem_of-refused, 
 use Rattle.cpg_reader.proofs.reading.read_problem.Goals as goal
 
 pub returns-in-Ok : goal.returns-in-Ok
-returns-in-Ok c memory = answer-is _ _ c.read_members.ensures memory ∙ sym (problem_of-read c.args.bytes.now _ c.in-Ok.ensures.ok.0 c.in-Ok.ensures.ok.1)
+returns-in-Ok c memory = answer-is _ _ c.read_members.ensures memory
+    ∙ sym (problem_of-read c.args.bytes.now _ c.in-Ok.ensures.ok.0 c.in-Ok.ensures.ok.1)
 
 pub returns-else-is_memory : goal.returns-else-is_memory
-returns-else-is_memory c memory = sym (problem_of-refused c.args.bytes.now (c.in-Err.ensures.refused (λ h. false≢true (c.if-is_memory.ensures.1 h))))
+returns-else-is_memory c memory =
+    sym (problem_of-refused c.args.bytes.now (c.in-Err.ensures.refused (λ h. false≢true (c.if-is_memory.ensures.1 h))))

@@ -4,4 +4,5 @@ use Rattle.cpg_reader.specs.Rows.{are_listed}
 use Rattle.cpg_reader.proofs.row.are_listed.Given as goal
 
 abbrev pub invariant-loop-text : goal.invariant-loop-text
-invariant-loop-text l = are_listed l.keys (members_view l.members.entries) ≡ are_listed l.keys (members_view l.text-iterator)
+invariant-loop-text l =
+    are_listed l.keys (members_view l.members.entries) ≡ are_listed l.keys (members_view l.text-iterator)

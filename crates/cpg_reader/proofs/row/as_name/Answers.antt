@@ -4,4 +4,5 @@ use Rattle.cpg_reader.proofs.row.as_name.Goals as goal
 pub returns-in-Some : goal.returns-in-Some
 returns-in-Some c =
     let is_text = rw c.in-Some.is at c.as_str.ensures in
-    rw (← is_text) (named_ok c.new.result c.in-Some.text.now c.new.ensures.name c.new.ensures.taken c.new.ensures.refused)
+    rw (← is_text)
+    (named_ok c.new.result c.in-Some.text.now c.new.ensures.name c.new.ensures.taken c.new.ensures.refused)

@@ -8,12 +8,14 @@ pub loop-element-preserved : goal.loop-element-preserved
 loop-element-preserved c =
     let one = rw c.in-Some.is at c.in_ok-name.ensures in
     rw c.in_ok-push.ensures.items
-    (goes_on as_name c.deref-element-items.result.now c.loop-element.element-index c.element-item.result c.loop-element.names.items _
+    (goes_on as_name c.deref-element-items.result.now c.loop-element.element-index c.element-item.result
+    c.loop-element.names.items _
     c.loop-element-test.true c.element-item.is c.loop-element.invariant c.in-Some.name one)
 
 pub returns-in_default : goal.returns-in_default
 returns-in_default c =
     let none = rw c.in_default.is at c.in_ok-name.ensures in
-    stops as_name c.deref-element-items.result.now c.loop-element.element-index c.element-item.result c.loop-element.names.items _
+    stops as_name c.deref-element-items.result.now c.loop-element.element-index c.element-item.result
+    c.loop-element.names.items _
     c.loop-element-test.true c.element-item.is c.loop-element.invariant none
     ∙ ap (λ vs. items_as as_name (items_view vs)) c.deref-element-items.ensures.value

@@ -5,4 +5,5 @@ use Rattle.cpg_reader.proofs.Items.{after}
 use Rattle.cpg_reader.proofs.row.names_in.Given as goal
 
 abbrev pub invariant-loop-element : goal.invariant-loop-element
-invariant-loop-element l = items_as as_name (items_view l.element-items) ≡ after l.names.items (items_as as_name (items_view (drop l.element-index l.element-items)))
+invariant-loop-element l = items_as as_name (items_view l.element-items)
+    ≡ after l.names.items (items_as as_name (items_view (drop l.element-index l.element-items)))

@@ -9,12 +9,17 @@ use Rattle.cpg_reader.proofs.row.tables_in.Goals as goal
 pub loop-element-preserved : goal.loop-element-preserved
 loop-element-preserved c =
     let one = rw c.in-Some.is at c.as_table.ensures in
-    rw (c.in_ok-push.ensures.items, map-append (λ t. table_view t.now) c.loop-element.tables.items (c.in-Some.table ∷ []))
-    (goes_on as_table c.deref-element-items.result.now c.loop-element.element-index c.element-item.result (map (λ t. table_view t.now) c.loop-element.tables.items) _
+    rw (
+      c.in_ok-push.ensures.items,
+      map-append (λ t. table_view t.now) c.loop-element.tables.items (c.in-Some.table ∷ []),
+    )
+    (goes_on as_table c.deref-element-items.result.now c.loop-element.element-index c.element-item.result
+    (map (λ t. table_view t.now) c.loop-element.tables.items) _
     c.loop-element-test.true c.element-item.is c.loop-element.invariant (table_view c.in-Some.table.now) one)
 
 pub returns-in_default : goal.returns-in_default
 returns-in_default c =
-    stops as_table c.deref-element-items.result.now c.loop-element.element-index c.element-item.result (map (λ t. table_view t.now) c.loop-element.tables.items) _
+    stops as_table c.deref-element-items.result.now c.loop-element.element-index c.element-item.result
+    (map (λ t. table_view t.now) c.loop-element.tables.items) _
     c.loop-element-test.true c.element-item.is c.loop-element.invariant c.in_default.ensures
     ∙ ap (λ vs. items_as as_table (items_view vs)) c.deref-element-items.ensures.value

@@ -6,4 +6,6 @@ use Rattle.cpg_reader.proofs.Items.{after}
 use Rattle.cpg_reader.proofs.row.tables_in.Given as goal
 
 abbrev pub invariant-loop-element : goal.invariant-loop-element
-invariant-loop-element l = items_as as_table (items_view l.element-items) ≡ after (map (λ t. table_view t.now) l.tables.items) (items_as as_table (items_view (drop l.element-index l.element-items)))
+invariant-loop-element l =
+    items_as as_table (items_view l.element-items) ≡ after (map (λ t. table_view t.now) l.tables.items)
+    (items_as as_table (items_view (drop l.element-index l.element-items)))

@@ -8,7 +8,8 @@ use Rattle.cpg_reader.proofs.shape.raw_problem.Goals as goal
 pub returns-in_err-tops : goal.returns-in_err-tops
 returns-in_err-tops c =
     let p = err_from_is_err_and c.from_residual.result c.from_residual.ensures.1 in
-    rw (p.1, p.2, graph-parts (table_view c.args.members.now)) (Refuses-along c.in_err-tops.field-0.0 _ _ (λ f e. rw e refl) c.in_err-tops.ensures)
+    rw (p.1, p.2, graph-parts (table_view c.args.members.now))
+    (Refuses-along c.in_err-tops.field-0.0 _ _ (λ f e. rw e refl) c.in_err-tops.ensures)
 
 pub returns : goal.returns
 returns c = rw (graph-parts (table_view c.args.members.now), c.in_ok-tops.ensures) c.read_elements.ensures

@@ -6,5 +6,8 @@ use Rattle.cpg_reader.proofs.shape.rows.Given as goal
 
 abbrev pub invariant-loop-index : goal.invariant-loop-index
 invariant-loop-index g l =
-    after l.rows.items (each (λ i t. g.T.Element.reads (record { table = l.fn.table; index = i; members = table_view t.now })) l.index (drop l.index l.fn.elements))
-    ≡ each (λ i t. g.T.Element.reads (record { table = l.fn.table; index = i; members = table_view t.now })) 0 l.fn.elements
+    after l.rows.items
+    (each (λ i t. g.T.Element.reads (record { table = l.fn.table; index = i; members = table_view t.now })) l.index
+    (drop l.index l.fn.elements))
+    ≡ each (λ i t.
+    g.T.Element.reads (record { table = l.fn.table; index = i; members = table_view t.now })) 0 l.fn.elements

@@ -5,4 +5,5 @@ use Rattle.cpg_reader.specs.WrittenTree.{edge_members}
 use Rattle.cpg_reader.proofs.writing.edge_tables.Given as goal
 
 abbrev pub invariant-loop-edge : goal.invariant-loop-edge
-invariant-loop-edge l = map view l.made.items ≡ map (λ e. table (edge_members l.problem.processes e)) (take l.edge-index l.edge-items)
+invariant-loop-edge l =
+    map view l.made.items ≡ map (λ e. table (edge_members l.problem.processes e)) (take l.edge-index l.edge-items)

@@ -10,7 +10,9 @@ pub returns-in-Ok : goal.returns-in-Ok
 returns-in-Ok c =
     let g = c.args.problem.now in
     let is : table_view c.in_ok-table.table ≡ graph_members g = c.in_ok-table.ensures.table in
-    let shallow : members_depth (table_view c.in_ok-table.table) ≤ 80 = subst (λ ms. members_depth ms ≤ 80) (sym is) (graph_shallow g) in
-    text_back g c.faults-faults.ensures.within c.in_ok-table.ensures.nodes c.in_ok-table.ensures.processes (string_bytes c.in-Ok.text)
+    let shallow : members_depth (table_view c.in_ok-table.table) ≤ 80 =
+    subst (λ ms. members_depth ms ≤ 80) (sym is) (graph_shallow g) in
+    text_back g c.faults-faults.ensures.within c.in_ok-table.ensures.nodes c.in_ok-table.ensures.processes
+    (string_bytes c.in-Ok.text)
     (IsUtf8-string_bytes c.in-Ok.text)
     (c.in-Ok.ensures.reads_back shallow ∙ ap (λ ms. Some ms) is)

@@ -7,4 +7,7 @@ use Rattle.cpg_reader.specs.WrittenTree.{node_members}
 use Rattle.cpg_reader.proofs.writing.node_tables.Given as goal
 
 abbrev pub invariant-loop-name : goal.invariant-loop-name
-invariant-loop-name l = record { made : map view l.made.items ≡ map (λ n. table (node_members n)) (take l.name-index l.name-items); named : All IsName (take l.name-index l.name-items) }
+invariant-loop-name l = record {
+  made : map view l.made.items ≡ map (λ n. table (node_members n)) (take l.name-index l.name-items);
+  named : All IsName (take l.name-index l.name-items);
+}

@@ -4,4 +4,5 @@ use Rattle.toml.specs.View.{view}
 use Rattle.cpg_reader.proofs.writing.order_names.Given as goal
 
 abbrev pub invariant-loop-process : goal.invariant-loop-process
-invariant-loop-process l = map view l.names.items ≡ map (λ p. string (get_or (map (λ q. q.name) l.processes) p [])) (take l.process-index l.fn.order)
+invariant-loop-process l = map view l.names.items
+    ≡ map (λ p. string (get_or (map (λ q. q.name) l.processes) p [])) (take l.process-index l.fn.order)

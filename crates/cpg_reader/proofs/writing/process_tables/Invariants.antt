@@ -8,6 +8,7 @@ use Rattle.cpg_reader.proofs.writing.process_tables.Given as goal
 
 abbrev pub invariant-loop-process : goal.invariant-loop-process
 invariant-loop-process l = record {
-  made : map view l.made.items ≡ map (λ p. table (process_members l.problem.nodes p)) (take l.process-index l.process-items);
+  made : map view l.made.items
+      ≡ map (λ p. table (process_members l.problem.nodes p)) (take l.process-index l.process-items);
   named : All (λ p. IsName p.name) (take l.process-index l.process-items);
 }

@@ -5,5 +5,6 @@ use Rattle.cpg_reader.proofs.Members.{members_view-insert}
 use Rattle.cpg_reader.proofs.written_tables.with.Goals as goal
 
 pub returns : goal.returns
-returns c = ap members_view c.in_ok-insert.ensures.entries ∙ members_view-insert c.args.table.entries c.in_ok-key.key c.args.value
+returns c = ap members_view c.in_ok-insert.ensures.entries
+    ∙ members_view-insert c.args.table.entries c.in_ok-key.key c.args.value
     ∙ ap (λ k. with_member k (view c.args.value) (members_view c.args.table.entries)) c.in_ok-key.ensures.ok

@@ -6,4 +6,5 @@ use Rattle.cpg_refusal.proofs.refusals.write_alternatives.Goals as goal
 pub returns : goal.returns
 returns c =
     let rest = case_text c.args.problem.now c.args.process c.args.scenario.now in
-    c.in_ok-write_case.ensures ∙ ap (λ b. b ++ rest) c.in_ok-push_str.ensures.bytes ∙ append_assoc (string_bytes c.args.out.now) (codes "7 alternatives ") rest
+    c.in_ok-write_case.ensures ∙ ap (λ b. b ++ rest) c.in_ok-push_str.ensures.bytes
+    ∙ append_assoc (string_bytes c.args.out.now) (codes "7 alternatives ") rest

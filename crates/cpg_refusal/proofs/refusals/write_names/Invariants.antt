@@ -3,5 +3,6 @@ use Rattle.cpg_base.specs.Called.{name_of}
 use Rattle.cpg_refusal.proofs.refusals.write_names.Given as goal
 
 abbrev pub invariant-loop-process : goal.invariant-loop-process
-invariant-loop-process l = string_bytes l.fn.out ++ flat_map (λ p. codes " " ++ name_of l.problem p) l.walk ≡ string_bytes l.out ++ flat_map (λ p. codes " " ++ name_of l.problem p)
+invariant-loop-process l = string_bytes l.fn.out ++ flat_map (λ p. codes " " ++ name_of l.problem p) l.walk
+    ≡ string_bytes l.out ++ flat_map (λ p. codes " " ++ name_of l.problem p)
     (drop l.process-index l.walk)

@@ -15,7 +15,8 @@ use Rattle.cpg_row_trees.proofs.gathering.+gather_each.Goals as goal
 pub returns-in_ok-there-in-Value-clause-found : goal.returns-in_ok-there-in-Value-clause-found
 returns-in_ok-there-in-Value-clause-found g t c =
     of_true c.in_ok-there-in-Value.there c.in_ok-there-in-Value.ensures.found
-    (λ among n are. holds_leaf (λ (x : Option ℕ) (s : Scenario). g.J.Test.guarantees c.args.test.now x s × IsAmong c.add_place.new.found.items x) c.args.space.now c.in-Value.place n
+    (λ among n are. holds_leaf (λ (x : Option ℕ) (s : Scenario). g.J.Test.guarantees c.args.test.now x s ×
+    IsAmong c.add_place.new.found.items x) c.args.space.now c.in-Value.place n
     (flat-same n (Leaf c.in-Value.place) (sym are ∙ c.in-Value.ensures.shows))
     (λ s lies. (from_true c.passes.result c.if-not-passes.false c.passes.ensures s lies, among)))
 
@@ -23,18 +24,22 @@ pub returns-then-not-is_open_below-clause-found : goal.returns-then-not-is_open_
 returns-then-not-is_open_below-clause-found g t c =
     let shows = c.in-Cut.ensures.shows in
     of_true c.in_ok-all-in-Cut.all c.in_ok-all-in-Cut.ensures.found
-    (λ all n are. holds_above (λ (x : Option ℕ) (s : Scenario). g.J.Test.guarantees c.args.test.now x s × IsAmong c.gather_each.new.found.items x) c.args.space.now c.in-Cut.variable c.in-Cut.cut
+    (λ all n are. holds_above (λ (x : Option ℕ) (s : Scenario). g.J.Test.guarantees c.args.test.now x s ×
+    IsAmong c.gather_each.new.found.items x) c.args.space.now c.in-Cut.variable c.in-Cut.cut
     shows.0
-    shows.1 n (flat-same n (Fork c.in-Cut.variable c.in-Cut.cut shows.0 shows.1) (sym are ∙ shows.4)) (all shows.1 shows.3)
+    shows.1 n (flat-same n (Fork c.in-Cut.variable c.in-Cut.cut shows.0 shows.1) (sym are ∙ shows.4))
+    (all shows.1 shows.3)
     (from_false c.is_open_below.result c.if-not-is_open_below.true c.is_open_below.ensures.none))
 
 pub returns-then-not-is_open_above-clause-found : goal.returns-then-not-is_open_above-clause-found
 returns-then-not-is_open_above-clause-found g t c =
     let shows = c.in-Cut.ensures.shows in
     of_true c.in_ok-all-in-Cut-2.all c.in_ok-all-in-Cut-2.ensures.found
-    (λ all n are. holds_below (λ (x : Option ℕ) (s : Scenario). g.J.Test.guarantees c.args.test.now x s × IsAmong c.gather_each-then-not-is_open_above.new.found.items x) c.args.space.now
+    (λ all n are. holds_below (λ (x : Option ℕ) (s : Scenario). g.J.Test.guarantees c.args.test.now x s ×
+    IsAmong c.gather_each-then-not-is_open_above.new.found.items x) c.args.space.now
     c.in-Cut.variable
-    c.in-Cut.cut shows.0 shows.1 n (flat-same n (Fork c.in-Cut.variable c.in-Cut.cut shows.0 shows.1) (sym are ∙ shows.4)) (all shows.0 shows.2)
+    c.in-Cut.cut shows.0 shows.1 n
+    (flat-same n (Fork c.in-Cut.variable c.in-Cut.cut shows.0 shows.1) (sym are ∙ shows.4)) (all shows.0 shows.2)
     (from_false c.is_open_above.result c.if-not-is_open_above.true c.is_open_above.ensures.none))
 
 pub returns-else-not-high-clause-found : goal.returns-else-not-high-clause-found
@@ -49,9 +54,12 @@ returns-else-not-high-clause-found g t c n are =
     let some = c.gather_each-in-Cut.new.found.items in
     let all = c.gather_each-in-Cut-2.new.found.items in
     let same : c.gather_each-in-Cut.new.space ≡ under = OnTrue_at c.if-not-low.false c.in_ok-low-in-Cut.ensures.same in
-    let back : again ≡ space = above_again space under c.gather_each-in-Cut.new.space again v same c.close_above-most.result c.reopen_above.ensures c.close_above-most.ensures.back in
+    let back : again ≡ space = above_again space under c.gather_each-in-Cut.new.space again v same
+    c.close_above-most.result c.reopen_above.ensures c.close_above-most.ensures.back in
     let goes_over = goes_again space again over v cut back c.close_below-was.ensures.lies in
     let low = OnTrue_at c.if-not-low.false c.in_ok-low-in-Cut.ensures.found shows.0 shows.2 in
     let high = OnTrue_at c.if-not-high.false c.in_ok-high-in-Cut.ensures.found shows.1 shows.3 in
-    holds_fork (λ (x : Option ℕ) (s : Scenario). g.J.Test.guarantees c.args.test.now x s × IsAmong all x) space v cut shows.0 shows.1 n (flat-same n (Fork v cut shows.0 shows.1) (sym are ∙ shows.4))
-    (λ s lies h. let r = low s (c.close_above-most.ensures.lies s lies h) in (r.0, among_more some all c.in_ok-high-in-Cut.ensures.kept _ r.1)) (λ s lies h. high s (goes_over s lies h))
+    holds_fork (λ (x : Option ℕ) (s : Scenario). g.J.Test.guarantees c.args.test.now x s × IsAmong all x) space v cut
+    shows.0 shows.1 n (flat-same n (Fork v cut shows.0 shows.1) (sym are ∙ shows.4))
+    (λ s lies h. let r = low s (c.close_above-most.ensures.lies s lies h) in
+    (r.0, among_more some all c.in_ok-high-in-Cut.ensures.kept _ r.1)) (λ s lies h. high s (goes_over s lies h))

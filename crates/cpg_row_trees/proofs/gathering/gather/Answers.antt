@@ -7,12 +7,16 @@ use Rattle.cpg_tree.proofs.Passes.{of_true}
 use Rattle.cpg_row_trees.proofs.gathering.gather.Goals as goal
 
 pub returns-in_ok-there-in-Value-clause-found : goal.returns-in_ok-there-in-Value-clause-found
-returns-in_ok-there-in-Value-clause-found g c = of_true c.in_ok-there-in-Value.there c.in_ok-there-in-Value.ensures.found (λ found n are s lies.
+returns-in_ok-there-in-Value-clause-found g c =
+    of_true c.in_ok-there-in-Value.there c.in_ok-there-in-Value.ensures.found (λ found n are s lies.
     let part = c.part_in-part.ensures.part n are in
     subst (λ (x : Option ℕ). g.J.Test.guarantees c.args.test.now x s × IsAmong c.gather_one.new.found.items x)
-    (subst (λ (m : TreeNode (Option ℕ)). value_at m s ≡ value_at n s) (flat-same part.0 (Leaf c.in-Value.place) (sym part.1 ∙ c.in-Value.ensures.shows)) (part.2.same.value s lies)) (found s lies))
+    (subst (λ (m : TreeNode (Option ℕ)). value_at m s ≡ value_at n s) (flat-same part.0 (Leaf c.in-Value.place)
+    (sym part.1 ∙ c.in-Value.ensures.shows)) (part.2.same.value s lies)) (found s lies))
 
 pub returns-in_ok-all-in-Cut-clause-found : goal.returns-in_ok-all-in-Cut-clause-found
-returns-in_ok-all-in-Cut-clause-found g c = of_true c.in_ok-all-in-Cut.all c.in_ok-all-in-Cut.ensures.found (λ found n are s lies.
+returns-in_ok-all-in-Cut-clause-found g c =
+    of_true c.in_ok-all-in-Cut.all c.in_ok-all-in-Cut.ensures.found (λ found n are s lies.
     let part = c.part_in-part.ensures.part n are in
-    subst (λ (x : Option ℕ). g.J.Test.guarantees c.args.test.now x s × IsAmong c.gather_in_all.new.found.items x) (part.2.same.value s lies) (found part.0 part.1 s lies))
+    subst (λ (x : Option ℕ). g.J.Test.guarantees c.args.test.now x s × IsAmong c.gather_in_all.new.found.items x)
+    (part.2.same.value s lies) (found part.0 part.1 s lies))

@@ -1,4 +1,5 @@
-use Rattle.std.proofs.Common.{ℕ, arith, rules, refl, map, ap, take, Bor, List, Option, None, Some, ◌≡◌, ◌++◌, ◌∙◌, sym, subst}
+use Rattle.std.proofs.Common.{ℕ, arith, rules, refl, map, ap, take, Bor, List, Option, None, Some, ◌≡◌, ◌++◌, ◌∙◌, sym}
+use Rattle.std.proofs.Common.{subst}
 use Rattle.std.proofs.lemmas.Bool.{OnTrue_at}
 use Rattle.cpg_cube.specs.declared.literal.Literal.{Literal}
 use Rattle.cpg_tree.specs.TreeNode.{TreeNode, Leaf}
@@ -11,7 +12,8 @@ use Rattle.cpg_row_trees.specs.Listed.{IsOwnOn}
 use Rattle.cpg_row_trees.specs.Slices.{AddsSliceTree, IsOwn}
 use Rattle.cpg_row_trees.proofs.PlaceHintLaws.{cube_here, within_lent}
 use Rattle.cpg_row_trees.proofs.ListedLaws.{at_some, ranges_under, ranges_over, on_under, on_over, listed_parted}
-use Rattle.cpg_row_trees.proofs.SliceLaws.{finds_here, finds_nowhere, slice_tree_leaf, above_again, below_again, over_again, goes_again}
+use Rattle.cpg_row_trees.proofs.SliceLaws.{finds_here, finds_nowhere, slice_tree_leaf, above_again, below_again}
+use Rattle.cpg_row_trees.proofs.SliceLaws.{over_again, goes_again}
 use Rattle.cpg_row_trees.proofs.listed.+build_listed.Goals as goal
 
 pub build_listed_fork-build_listed-requires : goal.build_listed_fork-build_listed-requires
@@ -22,8 +24,10 @@ build_listed_fork-build_listed-requires t c =
     let cut = c.args.part.cut.most in (
       omega (arith, c.decreases),
       (
-        ranges_under c.args.k space under v cut (search rules) c.requires.ranges c.requires.open c.see_lists-is_seen.ensures.highs c.close_above-most.ensures.is c.close_above-most.ensures.lies,
-        on_under c.args.k space under v cut (search rules) c.requires.ranges c.requires.open c.see_lists-is_seen.ensures.highs
+        ranges_under c.args.k space under v cut (search rules) c.requires.ranges c.requires.open
+            c.see_lists-is_seen.ensures.highs c.close_above-most.ensures.is c.close_above-most.ensures.lies,
+        on_under c.args.k space under v cut
+            (search rules) c.requires.ranges c.requires.open c.see_lists-is_seen.ensures.highs
             c.close_above-most.ensures.is c.close_above-most.ensures.lies _ c.requires.own,
       ),
     )
@@ -37,16 +41,21 @@ build_listed_fork-build_listed_above-requires t c =
     let under : Space = c.close_above-most.new.self in
     let over : Space = c.close_below-was.new.self in
     let again : Space = c.reopen_above.new.self in
-    let same : c.build_listed.new.space ≡ under = at_some (λ to. c.build_listed.new.space ≡ under) c.in_ok-below.below c.in-Some.border c.in-Some.is c.in_ok-below.ensures.same in
-    let low = at_some (λ to. AddsSliceTree cubes c.args.k under c.args.place to c.args.growth.now c.build_listed.new.growth)
+    let same : c.build_listed.new.space ≡ under = at_some (λ to. c.build_listed.new.space ≡ under) c.in_ok-below.below
+    c.in-Some.border c.in-Some.is c.in_ok-below.ensures.same in
+    let low =
+    at_some (λ to. AddsSliceTree cubes c.args.k under c.args.place to c.args.growth.now c.build_listed.new.growth)
     c.in_ok-below.below c.in-Some.border c.in-Some.is c.in_ok-below.ensures.added in
-    let back : again ≡ space = above_again space under c.build_listed.new.space again v same c.close_above-most.result c.reopen_above.ensures c.close_above-most.ensures.back in
+    let back : again ≡ space = above_again space under c.build_listed.new.space again v same c.close_above-most.result
+    c.reopen_above.ensures c.close_above-most.ensures.back in
     let is_over = over_again space again over v cut back c.close_below-was.ensures.is in
     let goes_over = goes_again space again over v cut back c.close_below-was.ensures.lies in (
       omega (arith, c.decreases, low.fewer),
       (
-        ranges_over c.args.k space over v cut (search rules) c.requires.ranges c.requires.open c.see_lists-is_seen.ensures.lows is_over goes_over,
-        on_over c.args.k space over v cut (search rules) c.requires.ranges c.requires.open c.see_lists-is_seen.ensures.lows is_over goes_over _ c.requires.own,
+        ranges_over c.args.k space over v cut
+            (search rules) c.requires.ranges c.requires.open c.see_lists-is_seen.ensures.lows is_over goes_over,
+        on_over c.args.k space over v cut (search rules) c.requires.ranges c.requires.open
+            c.see_lists-is_seen.ensures.lows is_over goes_over _ c.requires.own,
       ),
     )
 
@@ -59,24 +68,33 @@ build_listed_fork-returns t c =
     let under : Space = c.close_above-most.new.self in
     let over : Space = c.close_below-was.new.self in
     let again : Space = c.reopen_above.new.self in
-    let same : c.build_listed.new.space ≡ under = at_some (λ to. c.build_listed.new.space ≡ under) c.in_ok-below.below c.in-Some.border c.in-Some.is c.in_ok-below.ensures.same in
-    let low = at_some (λ to. AddsSliceTree cubes c.args.k under c.args.place to c.args.growth.now c.build_listed.new.growth)
+    let same : c.build_listed.new.space ≡ under = at_some (λ to. c.build_listed.new.space ≡ under) c.in_ok-below.below
+    c.in-Some.border c.in-Some.is c.in_ok-below.ensures.same in
+    let low =
+    at_some (λ to. AddsSliceTree cubes c.args.k under c.args.place to c.args.growth.now c.build_listed.new.growth)
     c.in_ok-below.below c.in-Some.border c.in-Some.is c.in_ok-below.ensures.added in
-    let back : again ≡ space = above_again space under c.build_listed.new.space again v same c.close_above-most.result c.reopen_above.ensures c.close_above-most.ensures.back in
+    let back : again ≡ space = above_again space under c.build_listed.new.space again v same c.close_above-most.result
+    c.reopen_above.ensures c.close_above-most.ensures.back in
     let is_over = over_again space again over v cut back c.close_below-was.ensures.is in
     let goes_over = goes_again space again over v cut back c.close_below-was.ensures.lies in
     let new : TreeGrowth = record { items = c.fork_of.new.out; left = c.build_listed_above.new.growth.left } in
     let same_over : c.build_listed_above.new.space ≡ over = at_some (λ to. c.build_listed_above.new.space ≡ over)
     c.in_ok-above.above c.in-Some-above.to c.in-Some-above.is c.in_ok-above.ensures.same in
-    let high = at_some (λ to. AddsSliceTree cubes c.args.k over c.in-Some.border to c.build_listed.new.growth c.build_listed_above.new.growth)
+    let high = at_some (λ to.
+    AddsSliceTree cubes c.args.k over c.in-Some.border to c.build_listed.new.growth c.build_listed_above.new.growth)
     c.in_ok-above.above c.in-Some-above.to c.in-Some-above.is
     c.in_ok-above.ensures.added in
     record {
-      added = listed_parted cubes c.args.k space under over c.args.place c.in-Some.border c.in-Some-above.to v cut (search rules) c.see_lists-is_seen.ensures.lows c.see_lists-is_seen.ensures.highs
-          c.requires.ranges c.requires.open c.close_above-most.ensures.is is_over c.close_above-most.ensures.lies goes_over
-          c.len-start.result c.len-middle.result c.args.growth.now c.build_listed.new.growth c.build_listed_above.new.growth new c.in_ok-fork_of.ensures.made refl
-          (c.len-start.ensures ∙ c.args.growth.now.items.ok.0) (c.len-middle.ensures ∙ c.build_listed.new.growth.items.ok.0) low high;
-      same = below_again again over c.build_listed_above.new.space c.reopen_below.new.self v same_over c.close_below-was.result c.reopen_below.ensures c.close_below-was.ensures.back ∙ back;
+      added = listed_parted cubes c.args.k space under over c.args.place c.in-Some.border c.in-Some-above.to v cut
+          (search rules) c.see_lists-is_seen.ensures.lows c.see_lists-is_seen.ensures.highs
+          c.requires.ranges c.requires.open c.close_above-most.ensures.is is_over
+          c.close_above-most.ensures.lies goes_over
+          c.len-start.result c.len-middle.result c.args.growth.now c.build_listed.new.growth
+          c.build_listed_above.new.growth new c.in_ok-fork_of.ensures.made refl
+          (c.len-start.ensures ∙ c.args.growth.now.items.ok.0)
+          (c.len-middle.ensures ∙ c.build_listed.new.growth.items.ok.0) low high;
+      same = below_again again over c.build_listed_above.new.space c.reopen_below.new.self v same_over
+          c.close_below-was.result c.reopen_below.ensures c.close_below-was.ensures.back ∙ back;
     }
 
 pub build_listed_above-build_listed-requires : goal.build_listed_above-build_listed-requires
@@ -85,7 +103,8 @@ build_listed_above-build_listed-requires t c =
       omega (arith, c.decreases),
       (
         c.requires.ranges,
-        subst (λ (ls : List Literal). IsOwnOn c.args.k c.args.space.now ls c.args.part.cut.variable) (sym next.same) c.requires.own,
+        subst (λ (ls : List Literal). IsOwnOn c.args.k c.args.space.now ls c.args.part.cut.variable)
+            (sym next.same) c.requires.own,
       ),
     )
 
@@ -95,14 +114,17 @@ build_listed_above-returns-clause-added t c =
     let leaf : TreeNode (Option ℕ) = Leaf None in
     slice_tree_leaf cubes c.args.k c.args.space.now c.args.place c.args.place None c.args.growth.now c.add_leaf.new.self
     (finds_nowhere cubes c.args.k c.args.space.now c.args.place c.args.place (omega arith))
-    (c.in_ok-add_leaf.ensures.items ∙ ap (λ (xs : List (TreeItem (Option ℕ))). xs ++ flat leaf) c.may_grow.ensures.items)
+    (c.in_ok-add_leaf.ensures.items
+    ∙ ap (λ (xs : List (TreeItem (Option ℕ))). xs ++ flat leaf) c.may_grow.ensures.items)
     (omega (arith, c.in_ok-add_leaf.ensures.left, OnTrue_at c.if-not-may_grow.false c.may_grow.ensures.left))
 
 pub build_listed-top_on-requires : goal.build_listed-top_on-requires
 build_listed-top_on-requires t c =
     let look = c.in-Some.ensures.lookup in
     let at = cube_here c.args.cubes.now c.args.place c.in-Some.cube.now look.3.0 look.1 in
-    subst (λ (ls : List Literal). IsOwnOn c.args.k c.args.space.now (take c.args.part.depth ls) c.args.part.cut.variable) (at ∙ sym c.literals-literals.ensures.literals) c.requires.own
+    subst
+    (λ (ls : List Literal). IsOwnOn c.args.k c.args.space.now (take c.args.part.depth ls) c.args.part.cut.variable)
+    (at ∙ sym c.literals-literals.ensures.literals) c.requires.own
 
 pub build_listed-build_listed_fork-requires : goal.build_listed-build_listed_fork-requires
 build_listed-build_listed_fork-requires t c =
@@ -113,21 +135,26 @@ build_listed-build_listed_fork-requires t c =
         c.in-Fork.ensures.0,
         (
           c.requires.ranges,
-          subst (λ (ls : List Literal). IsOwnOn c.args.k c.args.space.now (take c.in-Fork.next.depth ls) c.in-Fork.next.cut.variable)
+          subst (λ (ls : List Literal).
+              IsOwnOn c.args.k c.args.space.now (take c.in-Fork.next.depth ls) c.in-Fork.next.cut.variable)
               (c.literals-literals.ensures.literals ∙ sym at) c.in-Fork.ensures.1,
         ),
       ),
     )
 
-pub build_listed-returns-in_ok-add_leaf-in-Own-clause-added : goal.build_listed-returns-in_ok-add_leaf-in-Own-clause-added
+pub build_listed-returns-in_ok-add_leaf-in-Own-clause-added :
+    goal.build_listed-returns-in_ok-add_leaf-in-Own-clause-added
 build_listed-returns-in_ok-add_leaf-in-Own-clause-added t c =
     let look = c.in-Some.ensures.lookup in
     let cubes : List (List Literal) = map (λ (b : Bor (List Literal)). b.now) c.args.cubes.now in
     let at = cube_here c.args.cubes.now c.args.place c.in-Some.cube.now look.3.0 look.1 in
     let leaf : TreeNode (Option ℕ) = Leaf (Some c.args.place) in
-    slice_tree_leaf cubes c.args.k c.args.space.now c.args.place c.saturating_add.result (Some c.args.place) c.args.growth.now c.add_leaf.new.self
-    (finds_here cubes c.args.k c.args.space.now c.args.place c.saturating_add.result (within_lent c.args.cubes.now c.args.place c.in-Some.cube.now look.3.0 look.1)
+    slice_tree_leaf cubes c.args.k c.args.space.now c.args.place c.saturating_add.result
+    (Some c.args.place) c.args.growth.now c.add_leaf.new.self
+    (finds_here cubes c.args.k c.args.space.now c.args.place c.saturating_add.result
+    (within_lent c.args.cubes.now c.args.place c.in-Some.cube.now look.3.0 look.1)
     (omega (arith, c.saturating_add.ensures))
     (subst (IsOwn c.args.k c.args.space.now) (c.literals-literals.ensures.literals ∙ sym at) c.in-Own.ensures))
-    (c.in_ok-add_leaf-in-Own.ensures.items ∙ ap (λ (xs : List (TreeItem (Option ℕ))). xs ++ flat leaf) c.may_grow.ensures.items)
+    (c.in_ok-add_leaf-in-Own.ensures.items
+    ∙ ap (λ (xs : List (TreeItem (Option ℕ))). xs ++ flat leaf) c.may_grow.ensures.items)
     (omega (arith, c.in_ok-add_leaf-in-Own.ensures.left, OnTrue_at c.if-not-may_grow.false c.may_grow.ensures.left))

@@ -13,12 +13,15 @@ build_listed_fork-requires c =
     record {
       «open» = c.in-Fork.ensures.0;
       ranges = c.requires.ranges;
-      own = subst (λ (ls : List Literal). IsOwnOn c.args.k c.args.space.now (take c.in-Fork.part.depth ls) c.in-Fork.part.cut.variable)
+      own = subst (λ (ls : List Literal).
+          IsOwnOn c.args.k c.args.space.now (take c.in-Fork.part.depth ls) c.in-Fork.part.cut.variable)
           (c.literals-literals.ensures.literals ∙ sym at) c.in-Fork.ensures.1;
     }
 
 pub returns : goal.returns
 returns c =
     let cubes : List (List Literal) = map (λ (b : Bor (List Literal)). b.now) c.args.cubes.now in
-    let adds = λ (n : ℕ). AddsSliceTree cubes c.args.k c.args.space.now 0 n c.args.growth.now c.build_listed_fork.new.growth in
-    subst adds (omega (arith, c.if-end-count.false)) (at_some adds c.in_ok-all.all c.in-Some-all.to c.in-Some-all.is c.in_ok-all.ensures.added)
+    let adds =
+    λ (n : ℕ). AddsSliceTree cubes c.args.k c.args.space.now 0 n c.args.growth.now c.build_listed_fork.new.growth in
+    subst adds (omega (arith, c.if-end-count.false))
+    (at_some adds c.in_ok-all.all c.in-Some-all.to c.in-Some-all.is c.in_ok-all.ensures.added)

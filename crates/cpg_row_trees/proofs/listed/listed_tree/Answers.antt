@@ -17,14 +17,20 @@ build_all_listed-requires c = record {
 
 pub grown-requires : goal.grown-requires
 grown-requires c =
-    let finds = (OnTrue_at c.if-not-has_tree.false c.in_ok-has_tree.ensures).finds in
-    (finds.0, all_added c.in_ok-growth.growth.items.items c.build_all_listed.new.growth.items.items finds.0 c.in_ok-growth.ensures.items finds.1)
+    let finds = (OnTrue_at c.if-not-has_tree.false c.in_ok-has_tree.ensures).finds in (
+      finds.0,
+      all_added c.in_ok-growth.growth.items.items c.build_all_listed.new.growth.items.items finds.0
+          c.in_ok-growth.ensures.items finds.1,
+    )
 
 pub returns : goal.returns
 returns c s few =
     let cubes : List (List Literal) = map (λ (b : Bor (List Literal)). b.now) c.args.cubes.now in
     let finds = (OnTrue_at c.if-not-has_tree.false c.in_ok-has_tree.ensures).finds in
-    let is = all_added c.in_ok-growth.growth.items.items c.build_all_listed.new.growth.items.items finds.0 c.in_ok-growth.ensures.items finds.1 in
-    subst (λ (x : Option ℕ). IsPlaceOfMatch cubes x s) (sym (ap (λ (p : PlacesState). place_at p s) c.grown.ensures ∙ place_is c.build_all_listed.new.growth.items.items finds.0 s is))
-    (is_place_of_match cubes c.args.k c.whole-space.result s few (c.whole-space.ensures.lies s few) (length c.args.cubes.now)
+    let is = all_added c.in_ok-growth.growth.items.items c.build_all_listed.new.growth.items.items finds.0
+    c.in_ok-growth.ensures.items finds.1 in
+    subst (λ (x : Option ℕ). IsPlaceOfMatch cubes x s) (sym (ap (λ (p : PlacesState). place_at p s) c.grown.ensures
+    ∙ place_is c.build_all_listed.new.growth.items.items finds.0 s is))
+    (is_place_of_match cubes c.args.k c.whole-space.result s few (c.whole-space.ensures.lies s few)
+    (length c.args.cubes.now)
     (omega (arith, length-map c.args.cubes.now (λ (b : Bor (List Literal)). b.now))) finds.0 finds.2)

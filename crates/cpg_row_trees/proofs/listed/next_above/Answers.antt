@@ -11,6 +11,7 @@ returns c =
     let front = λ (ls : List Literal). take c.args.part.depth ls in
     of_true c.is_next.result c.is_next.ensures (λ same. record {
       there = within_lent c.args.cubes.now c.args.place c.in-Some.cube.now look.3.0 look.1;
-      same = ap front (cube_here c.args.cubes.now c.args.place c.in-Some.cube.now look.3.0 look.1) ∙ ap front (sym c.literals.ensures.literals) ∙ same ∙ ap front c.literals-2.ensures.literals ∙
+      same = ap front (cube_here c.args.cubes.now c.args.place c.in-Some.cube.now look.3.0 look.1)
+          ∙ ap front (sym c.literals.ensures.literals) ∙ same ∙ ap front c.literals-2.ensures.literals ∙
           ap front (sym (cube_here c.args.cubes.now c.args.from c.in-Some-get.other.now other.3.0 other.1));
     })

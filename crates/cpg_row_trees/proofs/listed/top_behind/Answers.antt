@@ -3,8 +3,10 @@ use Rattle.cpg_row_trees.proofs.ListedLaws.{own_on, own_more, own_all}
 use Rattle.cpg_row_trees.proofs.listed.top_behind.Goals as goal
 
 pub loop-at-preserved : goal.loop-at-preserved
-loop-at-preserved c = own_more c.args.k c.args.space.now c.args.literals.now c.loop-at.at (record { variable = 0; low = 0; high = 0 }) c.loop-at-test.true
+loop-at-preserved c = own_more c.args.k c.args.space.now c.args.literals.now c.loop-at.at
+    (record { variable = 0; low = 0; high = 0 }) c.loop-at-test.true
     (own_on c.args.k c.args.space.now _ _ c.loop-at.invariant) c.in-Known.ensures
 
 pub returns : goal.returns
-returns c = own_all c.args.k c.args.space.now c.args.literals.now c.loop-at.at (omega (arith, c.loop-at-test.false)) c.loop-at.invariant
+returns c = own_all c.args.k c.args.space.now c.args.literals.now c.loop-at.at
+    (omega (arith, c.loop-at-test.false)) c.loop-at.invariant

@@ -5,5 +5,6 @@ use Rattle.cpg_row_trees.proofs.listed.top_on.Goals as goal
 pub top_behind-requires-clause-own : goal.top_behind-requires-clause-own
 top_behind-requires-clause-own c =
     let look = c.in-Some.ensures.lookup in
-    own_next c.args.k c.args.space.now c.args.literals.now c.args.part.depth c.in-Some.literal.now c.args.part.cut.variable look.3.0 look.1
+    own_next c.args.k c.args.space.now c.args.literals.now c.args.part.depth c.in-Some.literal.now
+    c.args.part.cut.variable look.3.0 look.1
     (omega (arith, c.if-literal-part.false)) c.requires c.in-Known.ensures

@@ -15,7 +15,8 @@ use Rattle.cpg_row_trees.proofs.PlaceHintLaws.{place_tree_parted, place_tree_lea
 use Rattle.cpg_row_trees.proofs.places.+build_place_tree.Goals as goal
 
 pub build_forked_places-parted-requires : goal.build_forked_places-parted-requires
-build_forked_places-parted-requires t c = subst (λ (x : PlaceCut). IsOpenCut c.args.space.now x.variable x.most) (sym c.span_of-span.ensures) c.requires
+build_forked_places-parted-requires t c =
+    subst (λ (x : PlaceCut). IsOpenCut c.args.space.now x.variable x.most) (sym c.span_of-span.ensures) c.requires
 
 pub build_forked_places-build_place_tree-requires : goal.build_forked_places-build_place_tree-requires
 build_forked_places-build_place_tree-requires t c = omega (arith, c.decreases, c.left_after-growth.ensures)
@@ -34,8 +35,10 @@ build_forked_places-returns t c =
     let under : Space = c.close_above-most.new.self in
     let over : Space = c.close_below-was.new.self in
     let again : Space = c.reopen_above.new.self in
-    let same : c.build_place_tree.new.space ≡ under = OnTrue_at c.if-not-has_below.false c.in_ok-has_below.ensures.same in
-    let back : again ≡ space = above_again space under c.build_place_tree.new.space again v same c.close_above-most.result c.reopen_above.ensures (c.close_above-most.ensures.back ∙ kept) in
+    let same : c.build_place_tree.new.space ≡ under =
+    OnTrue_at c.if-not-has_below.false c.in_ok-has_below.ensures.same in
+    let back : again ≡ space = above_again space under c.build_place_tree.new.space again v same
+    c.close_above-most.result c.reopen_above.ensures (c.close_above-most.ensures.back ∙ kept) in
     let goes_over = goes_again space again over v cut back c.close_below-was.ensures.lies in
     let cubes : List (List Literal) = map (λ (b : Bor (List Literal)). b.now) c.args.cubes.now in
     let low = places_of c.in_ok-sides.sides.low.items in
@@ -43,26 +46,37 @@ build_forked_places-returns t c =
     let all = places_of c.args.hints.items in
     let rest : TreeGrowth = record { items = c.args.growth.now.items; left = c.left_after-growth.result } in
     let new : TreeGrowth = record { items = c.fork_of.new.out; left = c.build_place_tree-2.new.growth.left } in
-    let same_over : c.build_place_tree-2.new.space ≡ over = OnTrue_at c.if-not-has_above.false c.in_ok-has_above.ensures.same in
+    let same_over : c.build_place_tree-2.new.space ≡ over =
+    OnTrue_at c.if-not-has_above.false c.in_ok-has_above.ensures.same in
     let keeps_below : KeepsWhere cubes (λ s. number_of s v ≤ cut) all low =
-    subst (λ (x : PlaceCut). KeepsWhere cubes (λ s. number_of s x.variable ≤ x.most) all low) c.span_of-span.ensures (rw c.as_slice.ensures.value at c.in_ok-sides.ensures.low) in
+    subst (λ (x : PlaceCut). KeepsWhere cubes (λ s. number_of s x.variable ≤ x.most) all low) c.span_of-span.ensures
+    (rw c.as_slice.ensures.value at c.in_ok-sides.ensures.low) in
     let keeps_above : KeepsWhere cubes (λ s. IsInSpace space s × (cut < number_of s v)) all high =
-    subst (λ (x : PlaceCut). KeepsWhere cubes (λ s. IsInSpace space s × (x.most < number_of s x.variable)) all high) c.span_of-span.ensures
+    subst (λ (x : PlaceCut). KeepsWhere cubes (λ s. IsInSpace space s × (x.most < number_of s x.variable)) all high)
+    c.span_of-span.ensures
     (rw c.as_slice.ensures.value at c.in_ok-sides.ensures.high) in
     record {
-      added = place_tree_parted cubes space under over all low high v cut c.len-start.result c.len-middle.result c.args.growth.now rest c.build_place_tree.new.growth
+      added = place_tree_parted cubes space under over all low high v cut c.len-start.result c.len-middle.result
+          c.args.growth.now rest c.build_place_tree.new.growth
           c.build_place_tree-2.new.growth new
           c.in_ok-fork_of.ensures.made refl c.left_after-growth.ensures refl
-          (c.len-start.ensures ∙ c.args.growth.now.items.ok.0) (c.len-middle.ensures ∙ c.build_place_tree.new.growth.items.ok.0) keeps_below keeps_above
-          (OnTrue_at c.if-not-has_below.false c.in_ok-has_below.ensures.added) (OnTrue_at c.if-not-has_above.false c.in_ok-has_above.ensures.added)
-          (λ s lies. c.close_above-most.ensures.lies s (subst (λ (r : Space). IsInSpace r s) (sym kept) lies)) goes_over;
-      same = below_again again over c.build_place_tree-2.new.space c.reopen_below.new.self v same_over c.close_below-was.result c.reopen_below.ensures c.close_below-was.ensures.back ∙ back;
+          (c.len-start.ensures ∙ c.args.growth.now.items.ok.0)
+          (c.len-middle.ensures ∙ c.build_place_tree.new.growth.items.ok.0) keeps_below keeps_above
+          (OnTrue_at c.if-not-has_below.false c.in_ok-has_below.ensures.added)
+          (OnTrue_at c.if-not-has_above.false c.in_ok-has_above.ensures.added)
+          (λ s lies. c.close_above-most.ensures.lies s (subst (λ (r : Space). IsInSpace r s) (sym kept) lies))
+          goes_over;
+      same = below_again again over c.build_place_tree-2.new.space c.reopen_below.new.self v same_over
+          c.close_below-was.result c.reopen_below.ensures c.close_below-was.ensures.back ∙ back;
     }
 
-pub build_place_tree-returns-in_ok-add_leaf-in-Leaf-clause-added : goal.build_place_tree-returns-in_ok-add_leaf-in-Leaf-clause-added
+pub build_place_tree-returns-in_ok-add_leaf-in-Leaf-clause-added :
+    goal.build_place_tree-returns-in_ok-add_leaf-in-Leaf-clause-added
 build_place_tree-returns-in_ok-add_leaf-in-Leaf-clause-added t c =
     let cubes : List (List Literal) = map (λ (b : Bor (List Literal)). b.now) c.args.cubes.now in
     let leaf : TreeNode (Option ℕ) = Leaf c.in-Leaf.place in
-    place_tree_leaf cubes c.args.space.now (places_of c.args.hints.items) c.in-Leaf.place c.args.growth.now c.add_leaf.new.self (rw c.as_slice.ensures.value at c.in-Leaf.ensures)
-    (c.in_ok-add_leaf-in-Leaf.ensures.items ∙ ap (λ (xs : List (TreeItem (Option ℕ))). xs ++ flat leaf) c.may_grow.ensures.items)
+    place_tree_leaf cubes c.args.space.now (places_of c.args.hints.items) c.in-Leaf.place c.args.growth.now
+    c.add_leaf.new.self (rw c.as_slice.ensures.value at c.in-Leaf.ensures)
+    (c.in_ok-add_leaf-in-Leaf.ensures.items
+    ∙ ap (λ (xs : List (TreeItem (Option ℕ))). xs ++ flat leaf) c.may_grow.ensures.items)
     (omega (arith, c.in_ok-add_leaf-in-Leaf.ensures.left, OnTrue_at c.if-not-may_grow.false c.may_grow.ensures.left))

@@ -16,13 +16,18 @@ returns-then-not-affords c =
     let cubes : List (List Literal) = map (λ (b : Bor (List Literal)). b.now) c.args.cubes.now in
     let look = c.in-Some.ensures.lookup in
     let at = cube_here c.args.cubes.now c.args.place c.in-Some.cube.now look.3.0 look.1 in
-    kept_out (λ s. IsInSpace c.args.space.now s × IsMatched cubes s c.args.place) c.args.place c.args.hints.now.items (λ s h.
-    both_ways (matches c.literals-literals.result.now s) (from_false c.affords.result c.if-not-affords.true c.affords.ensures s h.0)
-    (subst (λ xs. matches xs s ≡ true) (sym c.literals-literals.ensures.literals) (subst (λ xs. matches xs s ≡ true) at h.1.matched)))
+    kept_out (λ s. IsInSpace c.args.space.now s × IsMatched cubes s c.args.place) c.args.place
+    c.args.hints.now.items (λ s h.
+    both_ways (matches c.literals-literals.result.now s)
+    (from_false c.affords.result c.if-not-affords.true c.affords.ensures s h.0)
+    (subst (λ xs. matches xs s ≡ true) (sym c.literals-literals.ensures.literals)
+    (subst (λ xs. matches xs s ≡ true) at h.1.matched)))
 
 pub returns : goal.returns
 returns c =
     let cubes : List (List Literal) = map (λ (b : Bor (List Literal)). b.now) c.args.cubes.now in
     let fits : Scenario → Type 0 = λ s. IsInSpace c.args.space.now s × IsMatched cubes s c.args.place in
-    subst (λ (es : List PlaceHint). KeepsPlace fits c.args.place c.args.hints.now.items es) (sym c.in_ok-push.ensures.items)
-    (kept_in fits c.args.place c.args.hints.now.items (record { place = c.args.place; held = 0; spare = c.saturating_sub.result }) refl)
+    subst (λ (es : List PlaceHint). KeepsPlace fits c.args.place c.args.hints.now.items es)
+    (sym c.in_ok-push.ensures.items)
+    (kept_in fits c.args.place c.args.hints.now.items
+    (record { place = c.args.place; held = 0; spare = c.saturating_sub.result }) refl)

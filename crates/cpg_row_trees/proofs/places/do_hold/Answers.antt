@@ -6,8 +6,10 @@ use Rattle.cpg_row_trees.proofs.Holding.{matches_more}
 use Rattle.cpg_row_trees.proofs.places.do_hold.Goals as goal
 
 pub loop-literal-preserved : goal.loop-literal-preserved
-loop-literal-preserved c s lies = matches_more s c.args.literals.now c.loop-literal.literal-index (record { variable = 0; low = 0; high = 0 }) c.loop-literal-test.true
+loop-literal-preserved c s lies = matches_more s c.args.literals.now c.loop-literal.literal-index
+    (record { variable = 0; low = 0; high = 0 }) c.loop-literal-test.true
     (c.loop-literal.invariant s lies) (from_true c.implies.result c.if-not-implies.false c.implies.ensures s lies)
 
 pub returns : goal.returns
-returns c = λ s lies. subst (λ xs. matches xs s ≡ true) (take_all c.loop-literal.literal-index c.args.literals.now c.loop-literal-test.false) (c.loop-literal.invariant s lies)
+returns c = λ s lies. subst (λ xs. matches xs s ≡ true) (take_all c.loop-literal.literal-index c.args.literals.now
+    c.loop-literal-test.false) (c.loop-literal.invariant s lies)

@@ -9,13 +9,17 @@ use Rattle.cpg_row_trees.proofs.PlaceHintLaws.{keeps_none, keeps_one}
 use Rattle.cpg_row_trees.proofs.places.hints_of.Goals as goal
 
 pub loop-place-init : goal.loop-place-init
-loop-place-init c = keeps_none (map (λ (b : Bor (List Literal)). b.now) c.args.cubes.now) (IsInSpace c.args.space.now) (places_of c.in_ok-hints.hints.items)
+loop-place-init c = keeps_none (map (λ (b : Bor (List Literal)). b.now) c.args.cubes.now) (IsInSpace c.args.space.now)
+    (places_of c.in_ok-hints.hints.items)
 
 pub loop-place-preserved : goal.loop-place-preserved
 loop-place-preserved c =
     let cubes : List (List Literal) = map (λ (b : Bor (List Literal)). b.now) c.args.cubes.now in
-    subst (λ (xs : List ℕ). KeepsWhere cubes (IsInSpace c.args.space.now) xs (places_of c.admit.new.hints.items)) (sym (below_push c.loop-place.place))
-    (keeps_one cubes (IsInSpace c.args.space.now) c.loop-place.place (numbers_below c.loop-place.place) c.loop-place.hints.items c.admit.new.hints.items c.in_ok-admit.ensures c.loop-place.invariant)
+    subst (λ (xs : List ℕ). KeepsWhere cubes (IsInSpace c.args.space.now) xs (places_of c.admit.new.hints.items))
+    (sym (below_push c.loop-place.place))
+    (keeps_one cubes (IsInSpace c.args.space.now) c.loop-place.place (numbers_below c.loop-place.place)
+    c.loop-place.hints.items c.admit.new.hints.items c.in_ok-admit.ensures c.loop-place.invariant)
 
 pub returns : goal.returns
-returns c s i lies m = c.loop-place.invariant s i lies (Contains-numbers _ i (omega (arith, m.there, c.loop-place-test.false, length-map c.args.cubes.now (λ (b : Bor (List Literal)). b.now)))) m
+returns c s i lies m = c.loop-place.invariant s i lies (Contains-numbers _ i (omega
+    (arith, m.there, c.loop-place-test.false, length-map c.args.cubes.now (λ (b : Bor (List Literal)). b.now)))) m

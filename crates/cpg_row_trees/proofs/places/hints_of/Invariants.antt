@@ -5,4 +5,5 @@ use Rattle.cpg_row_trees.specs.PlaceHints.{KeepsWhere, places_of}
 use Rattle.cpg_row_trees.proofs.places.hints_of.Given as goal
 
 abbrev pub invariant-loop-place : goal.invariant-loop-place
-invariant-loop-place l = KeepsWhere (map (λ b. b.now) l.cubes) (IsInSpace l.space) (numbers_below l.place) (places_of l.hints.items)
+invariant-loop-place l =
+    KeepsWhere (map (λ b. b.now) l.cubes) (IsInSpace l.space) (numbers_below l.place) (places_of l.hints.items)

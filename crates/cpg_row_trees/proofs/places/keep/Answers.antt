@@ -13,9 +13,15 @@ returns-clause-low c =
     let look = c.in-Some.ensures.lookup in
     let at = cube_here c.args.cubes.now c.args.hint.place c.in-Some.cube.now look.3.0 look.1 in
     let v = c.args.span.cut.variable in
-    kept_for (λ s. (number_of s v ≤ c.args.span.cut.most) × (c.variable_range-range.result.low ≤ number_of s v)) c.args.hint.place
-    (λ s. (number_of s v ≤ c.args.span.cut.most) × IsMatched cubes s c.args.hint.place) c.args.low.now.items c.keep_below.new.low.items
-    (λ s h. (h.0, c.variable_range-range.ensures.low s (subst (λ xs. matches xs s ≡ true) (sym c.literals-literals.ensures.literals) (subst (λ xs. matches xs s ≡ true) at h.1.matched))))
+    kept_for (λ s. (number_of s v ≤ c.args.span.cut.most) × (c.variable_range-range.result.low ≤ number_of s v))
+    c.args.hint.place
+    (λ s. (number_of s v ≤ c.args.span.cut.most) × IsMatched cubes s c.args.hint.place) c.args.low.now.items
+    c.keep_below.new.low.items
+    (λ s h. (
+      h.0,
+      c.variable_range-range.ensures.low s (subst (λ xs. matches xs s ≡ true) (sym c.literals-literals.ensures.literals)
+          (subst (λ xs. matches xs s ≡ true) at h.1.matched)),
+    ))
     c.in_ok-keep_below.ensures
 
 pub returns-clause-high : goal.returns-clause-high
@@ -24,7 +30,13 @@ returns-clause-high c =
     let look = c.in-Some.ensures.lookup in
     let at = cube_here c.args.cubes.now c.args.hint.place c.in-Some.cube.now look.3.0 look.1 in
     let v = c.args.span.cut.variable in
-    kept_for (λ s. (IsInSpace c.args.space.now s × (c.args.span.cut.most < number_of s v)) × (matches c.literals-literals.result.now s ≡ true)) c.args.hint.place
-    (λ s. (IsInSpace c.args.space.now s × (c.args.span.cut.most < number_of s v)) × IsMatched cubes s c.args.hint.place) c.args.high.now.items c.keep_above.new.high.items
-    (λ s h. (h.0, subst (λ xs. matches xs s ≡ true) (sym c.literals-literals.ensures.literals) (subst (λ xs. matches xs s ≡ true) at h.1.matched)))
+    kept_for (λ s. (IsInSpace c.args.space.now s × (c.args.span.cut.most < number_of s v)) ×
+    (matches c.literals-literals.result.now s ≡ true)) c.args.hint.place
+    (λ s. (IsInSpace c.args.space.now s × (c.args.span.cut.most < number_of s v)) × IsMatched cubes s c.args.hint.place)
+    c.args.high.now.items c.keep_above.new.high.items
+    (λ s h. (
+      h.0,
+      subst (λ xs. matches xs s ≡ true) (sym c.literals-literals.ensures.literals)
+          (subst (λ xs. matches xs s ≡ true) at h.1.matched),
+    ))
     c.in_ok-keep_above.ensures.kept

@@ -12,18 +12,30 @@ use Rattle.cpg_row_trees.proofs.places.keep_above.Goals as goal
 pub returns-then-range-saturating_add-clause-kept : goal.returns-then-range-saturating_add-clause-kept
 returns-then-range-saturating_add-clause-kept c =
     let v = c.args.span.cut.variable in
-    kept_out (λ s. (IsInSpace c.args.space.now s × (c.args.span.cut.most < number_of s v)) × (matches c.args.literals.now s ≡ true)) c.args.hint.place c.args.high.now.items (λ s h.
-    omega (arith, h.0.1, c.if-range-saturating_add.true, c.saturating_add.ensures, c.requires.range.high s h.1 (omega (arith, c.if-range-saturating_add.true, c.saturating_add.ensures))))
+    kept_out (λ s. (IsInSpace c.args.space.now s × (c.args.span.cut.most < number_of s v)) ×
+    (matches c.args.literals.now s ≡ true)) c.args.hint.place c.args.high.now.items (λ s h.
+    omega (
+      arith,
+      h.0.1,
+      c.if-range-saturating_add.true,
+      c.saturating_add.ensures,
+      c.requires.range.high s h.1 (omega (arith, c.if-range-saturating_add.true, c.saturating_add.ensures)),
+    ))
 
 pub returns-then-not-do_suffice_above-clause-kept : goal.returns-then-not-do_suffice_above-clause-kept
 returns-then-not-do_suffice_above-clause-kept c =
     let v = c.args.span.cut.variable in
-    kept_out (λ s. (IsInSpace c.args.space.now s × (c.args.span.cut.most < number_of s v)) × (matches c.args.literals.now s ≡ true)) c.args.hint.place c.args.high.now.items (λ s h.
-    both_ways (matches c.args.literals.now s) (from_false c.do_suffice_above.result c.if-not-do_suffice_above.true c.do_suffice_above.ensures.none s h.0.0 h.0.1) h.1)
+    kept_out (λ s. (IsInSpace c.args.space.now s × (c.args.span.cut.most < number_of s v)) ×
+    (matches c.args.literals.now s ≡ true)) c.args.hint.place c.args.high.now.items (λ s h.
+    both_ways (matches c.args.literals.now s) (from_false c.do_suffice_above.result c.if-not-do_suffice_above.true
+    c.do_suffice_above.ensures.none s h.0.0 h.0.1) h.1)
 
 pub returns-clause-kept : goal.returns-clause-kept
 returns-clause-kept c =
     let v = c.args.span.cut.variable in
-    let fits : Scenario → Type 0 = λ s. (IsInSpace c.args.space.now s × (c.args.span.cut.most < number_of s v)) × (matches c.args.literals.now s ≡ true) in
-    subst (λ (es : List PlaceHint). KeepsPlace fits c.args.hint.place c.args.high.now.items es) (sym c.in_ok-push.ensures.items)
-    (kept_in fits c.args.hint.place c.args.high.now.items (record { place = c.args.hint.place; held = c.held_with.result; spare = c.saturating_sub.result }) refl)
+    let fits : Scenario → Type 0 = λ s. (IsInSpace c.args.space.now s × (c.args.span.cut.most < number_of s v)) ×
+    (matches c.args.literals.now s ≡ true) in
+    subst (λ (es : List PlaceHint). KeepsPlace fits c.args.hint.place c.args.high.now.items es)
+    (sym c.in_ok-push.ensures.items)
+    (kept_in fits c.args.hint.place c.args.high.now.items
+    (record { place = c.args.hint.place; held = c.held_with.result; spare = c.saturating_sub.result }) refl)

@@ -8,11 +8,14 @@ use Rattle.cpg_row_trees.proofs.places.keep_below.Goals as goal
 pub returns-then-range-span : goal.returns-then-range-span
 returns-then-range-span c =
     let v = c.args.span.cut.variable in
-    kept_out (λ s. (number_of s v ≤ c.args.span.cut.most) × (c.args.range.low ≤ number_of s v)) c.args.hint.place c.args.low.now.items (λ s h. omega (arith, h.0, h.1, c.if-range-span.true))
+    kept_out (λ s. (number_of s v ≤ c.args.span.cut.most) × (c.args.range.low ≤ number_of s v)) c.args.hint.place
+    c.args.low.now.items (λ s h. omega (arith, h.0, h.1, c.if-range-span.true))
 
 pub returns : goal.returns
 returns c =
     let v = c.args.span.cut.variable in
     let fits : Scenario → Type 0 = λ s. (number_of s v ≤ c.args.span.cut.most) × (c.args.range.low ≤ number_of s v) in
-    subst (λ (es : List PlaceHint). KeepsPlace fits c.args.hint.place c.args.low.now.items es) (sym c.in_ok-push.ensures.items)
-    (kept_in fits c.args.hint.place c.args.low.now.items (record { place = c.args.hint.place; held = c.held_with.result; spare = c.args.hint.spare }) refl)
+    subst (λ (es : List PlaceHint). KeepsPlace fits c.args.hint.place c.args.low.now.items es)
+    (sym c.in_ok-push.ensures.items)
+    (kept_in fits c.args.hint.place c.args.low.now.items
+    (record { place = c.args.hint.place; held = c.held_with.result; spare = c.args.hint.spare }) refl)

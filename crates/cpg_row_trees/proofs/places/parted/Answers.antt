@@ -16,7 +16,8 @@ loop-hint-init c =
     let v = c.args.span.cut.variable in
     record {
       low = keeps_none cubes (λ s. number_of s v ≤ c.args.span.cut.most) (places_of c.in_ok-low.low.items);
-      high = keeps_none cubes (λ s. IsInSpace c.args.space.now s × (c.args.span.cut.most < number_of s v)) (places_of c.in_ok-high.high.items);
+      high = keeps_none cubes (λ s. IsInSpace c.args.space.now s × (c.args.span.cut.most < number_of s v))
+          (places_of c.in_ok-high.high.items);
       same = refl;
     }
 
@@ -26,28 +27,35 @@ loop-hint-preserved c =
     let v = c.args.span.cut.variable in
     let none : PlaceHint = record { place = 0; held = 0; spare = 0 } in
     record {
-      low = keeps_more cubes (λ s. number_of s v ≤ c.args.span.cut.most) c.args.hints.now c.loop-hint.low.items c.keep.new.low.items c.loop-hint.hint-index none c.loop-hint-test.true
+      low = keeps_more cubes (λ s. number_of s v ≤ c.args.span.cut.most) c.args.hints.now c.loop-hint.low.items
+          c.keep.new.low.items c.loop-hint.hint-index none c.loop-hint-test.true
           c.in_ok-keep.ensures.low c.loop-hint.invariant.low;
-      high = keeps_more cubes (λ s. IsInSpace c.args.space.now s × (c.args.span.cut.most < number_of s v)) c.args.hints.now c.loop-hint.high.items c.keep.new.high.items c.loop-hint.hint-index none
+      high = keeps_more cubes (λ s. IsInSpace c.args.space.now s × (c.args.span.cut.most < number_of s v))
+          c.args.hints.now c.loop-hint.high.items c.keep.new.high.items c.loop-hint.hint-index none
           c.loop-hint-test.true
-          (subst (λ (r : Space). KeepsPlace (λ s. (IsInSpace r s × (c.args.span.cut.most < number_of s v)) × IsMatched cubes s (get_or c.args.hints.now c.loop-hint.hint-index none).place)
-          (get_or c.args.hints.now c.loop-hint.hint-index none).place c.loop-hint.high.items c.keep.new.high.items) c.loop-hint.invariant.same c.in_ok-keep.ensures.high)
+          (subst (λ (r : Space). KeepsPlace (λ s. (IsInSpace r s × (c.args.span.cut.most < number_of s v)) ×
+          IsMatched cubes s (get_or c.args.hints.now c.loop-hint.hint-index none).place)
+          (get_or c.args.hints.now c.loop-hint.hint-index none).place c.loop-hint.high.items c.keep.new.high.items)
+          c.loop-hint.invariant.same c.in_ok-keep.ensures.high)
           c.loop-hint.invariant.high;
       same = c.in_ok-keep.ensures.same ∙ c.loop-hint.invariant.same;
     }
 
 pub keep-requires : goal.keep-requires
-keep-requires c = subst (λ (r : Space). IsOpenCut r c.args.span.cut.variable c.args.span.cut.most) (sym c.loop-hint.invariant.same) c.requires
+keep-requires c = subst (λ (r : Space). IsOpenCut r c.args.span.cut.variable c.args.span.cut.most)
+    (sym c.loop-hint.invariant.same) c.requires
 
 pub returns-clause-low : goal.returns-clause-low
 returns-clause-low c =
     let cubes : List (List Literal) = map (λ (b : Bor (List Literal)). b.now) c.args.cubes.now in
-    subst (λ (es : List PlaceHint). KeepsWhere cubes (λ s. number_of s c.args.span.cut.variable ≤ c.args.span.cut.most) (places_of es) (places_of c.loop-hint.low.items))
+    subst (λ (es : List PlaceHint). KeepsWhere cubes (λ s. number_of s c.args.span.cut.variable ≤ c.args.span.cut.most)
+    (places_of es) (places_of c.loop-hint.low.items))
     (take_all c.loop-hint.hint-index c.args.hints.now c.loop-hint-test.false) c.loop-hint.invariant.low
 
 pub returns-clause-high : goal.returns-clause-high
 returns-clause-high c =
     let cubes : List (List Literal) = map (λ (b : Bor (List Literal)). b.now) c.args.cubes.now in
-    subst (λ (es : List PlaceHint). KeepsWhere cubes (λ s. IsInSpace c.args.space.now s × (c.args.span.cut.most < number_of s c.args.span.cut.variable)) (places_of es)
+    subst (λ (es : List PlaceHint). KeepsWhere cubes (λ s. IsInSpace c.args.space.now s ×
+    (c.args.span.cut.most < number_of s c.args.span.cut.variable)) (places_of es)
     (places_of c.loop-hint.high.items))
     (take_all c.loop-hint.hint-index c.args.hints.now c.loop-hint-test.false) c.loop-hint.invariant.high

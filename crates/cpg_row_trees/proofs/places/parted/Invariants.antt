@@ -6,7 +6,10 @@ use Rattle.cpg_row_trees.proofs.places.parted.Given as goal
 
 abbrev pub invariant-loop-hint : goal.invariant-loop-hint
 invariant-loop-hint l = record {
-  low : KeepsWhere (map (λ b. b.now) l.cubes) (λ s. number_of s l.span.cut.variable ≤ l.span.cut.most) (places_of (take l.hint-index l.hints)) (places_of l.low.items);
-  high : KeepsWhere (map (λ b. b.now) l.cubes) (λ s. IsInSpace l.fn.space s × (l.span.cut.most < number_of s l.span.cut.variable)) (places_of (take l.hint-index l.hints)) (places_of l.high.items);
+  low : KeepsWhere (map (λ b. b.now) l.cubes) (λ s. number_of s l.span.cut.variable ≤ l.span.cut.most)
+      (places_of (take l.hint-index l.hints)) (places_of l.low.items);
+  high : KeepsWhere (map (λ b. b.now) l.cubes)
+      (λ s. IsInSpace l.fn.space s × (l.span.cut.most < number_of s l.span.cut.variable))
+      (places_of (take l.hint-index l.hints)) (places_of l.high.items);
   same : l.space ≡ l.fn.space;
 }

@@ -12,14 +12,20 @@ use Rattle.cpg_row_trees.proofs.places.place_tree_by.Goals as goal
 
 pub grown-requires : goal.grown-requires
 grown-requires c =
-    let found = (OnTrue_at c.if-not-has_tree.false c.in_ok-has_tree.ensures.added).found in
-    (found.0, all_added c.in_ok-growth.growth.items.items c.build_place_tree.new.growth.items.items found.0 c.in_ok-growth.ensures.items found.1)
+    let found = (OnTrue_at c.if-not-has_tree.false c.in_ok-has_tree.ensures.added).found in (
+      found.0,
+      all_added c.in_ok-growth.growth.items.items c.build_place_tree.new.growth.items.items found.0
+          c.in_ok-growth.ensures.items found.1,
+    )
 
 pub returns : goal.returns
 returns c s few =
     let cubes : List (List Literal) = map (λ (b : Bor (List Literal)). b.now) c.args.cubes.now in
     let found = (OnTrue_at c.if-not-has_tree.false c.in_ok-has_tree.ensures.added).found in
-    let is = all_added c.in_ok-growth.growth.items.items c.build_place_tree.new.growth.items.items found.0 c.in_ok-growth.ensures.items found.1 in
+    let is = all_added c.in_ok-growth.growth.items.items c.build_place_tree.new.growth.items.items found.0
+    c.in_ok-growth.ensures.items found.1 in
     let lies = c.whole-space.ensures.lies s few in
-    subst (λ (x : Option ℕ). IsPlaceOfMatch cubes x s) (sym (ap (λ (p : PlacesState). place_at p s) c.grown.ensures ∙ place_is c.build_place_tree.new.growth.items.items found.0 s is))
-    (found_of_all cubes (places_of c.in_ok-hints.hints.items) s (λ i m. c.in_ok-hints.ensures s i lies m) (value_at found.0 s) (found.2 s lies))
+    subst (λ (x : Option ℕ). IsPlaceOfMatch cubes x s) (sym (ap (λ (p : PlacesState). place_at p s) c.grown.ensures
+    ∙ place_is c.build_place_tree.new.growth.items.items found.0 s is))
+    (found_of_all cubes (places_of c.in_ok-hints.hints.items) s (λ i m. c.in_ok-hints.ensures s i lies m)
+    (value_at found.0 s) (found.2 s lies))

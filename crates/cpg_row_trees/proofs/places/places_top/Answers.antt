@@ -12,7 +12,9 @@ returns c s lies =
       is = record {
         there = within_lent c.args.cubes.now c.in-Some.first.now.place c.in-Some-get.cube.now look.3.0 look.1;
         matched = subst (λ xs. matches xs s ≡ true) (sym at)
-            (subst (λ xs. matches xs s ≡ true) c.literals-literals.ensures.literals (from_true c.do_hold.result c.if-not-do_hold.false c.do_hold.ensures s lies));
+            (subst (λ xs. matches xs s ≡ true) c.literals-literals.ensures.literals
+            (from_true c.do_hold.result c.if-not-do_hold.false c.do_hold.ensures s lies));
       };
-      only = λ j h m. only_first c.args.hints.now c.in-Some.rest.now c.in-Some.first.now j c.in-Some.ensures.cases.0 (sym c.is_empty.ensures ∙ c.if-not-is_empty.false) h;
+      only = λ j h m. only_first c.args.hints.now c.in-Some.rest.now c.in-Some.first.now j c.in-Some.ensures.cases.0
+          (sym c.is_empty.ensures ∙ c.if-not-is_empty.false) h;
     }

@@ -5,12 +5,16 @@ use Rattle.cpg_row_trees.proofs.PlaceHintLaws.{range_implied}
 use Rattle.cpg_row_trees.proofs.places.variable_range.Goals as goal
 
 pub returns-in-Some : goal.returns-in-Some
-returns-in-Some c = subst (λ (r : VariableRange). IsVariableRange c.args.literals.now c.args.variable r) (sym c.literal_range.ensures)
-    (range_implied c.args.literals.now c.in-Some.first c.args.variable true c.in-Some.ensures.on c.in-Some.ensures.implied)
+returns-in-Some c =
+    subst (λ (r : VariableRange). IsVariableRange c.args.literals.now c.args.variable r) (sym c.literal_range.ensures)
+    (range_implied c.args.literals.now c.in-Some.first c.args.variable true c.in-Some.ensures.on
+    c.in-Some.ensures.implied)
 
 pub returns-then-literal-variable : goal.returns-then-literal-variable
-returns-then-literal-variable c = subst (λ (r : VariableRange). IsVariableRange c.args.literals.now c.args.variable r) (sym c.literal_range-then-literal-variable.ensures)
-    (range_implied c.args.literals.now c.in-Some-literal_on.literal c.args.variable false c.if-literal-variable.true c.in-Some-literal_on.ensures)
+returns-then-literal-variable c = subst (λ (r : VariableRange). IsVariableRange c.args.literals.now c.args.variable r)
+    (sym c.literal_range-then-literal-variable.ensures)
+    (range_implied c.args.literals.now c.in-Some-literal_on.literal c.args.variable false c.if-literal-variable.true
+    c.in-Some-literal_on.ensures)
 
 pub returns-else-literal-variable : goal.returns-else-literal-variable
 returns-else-literal-variable c = record { low = λ s m. omega arith; high = λ s m below. absurd (omega (arith, below)) }

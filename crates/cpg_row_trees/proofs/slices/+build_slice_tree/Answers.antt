@@ -8,18 +8,23 @@ use Rattle.cpg_tree.specs.declared.space.Space.{Space}
 use Rattle.cpg_cube.specs.Cube.{holds, matches}
 use Rattle.cpg_row_trees.specs.declared.places.TreeGrowth.{TreeGrowth}
 use Rattle.cpg_row_trees.specs.Slices.{left_by}
-use Rattle.cpg_row_trees.proofs.SliceLaws.{under_reached, over_reached, own_under, own_over, slice_tree_leaf, slice_tree_parted, above_again, below_again, over_again, goes_again}
+use Rattle.cpg_row_trees.proofs.SliceLaws.{under_reached, over_reached, own_under, own_over, slice_tree_leaf}
+use Rattle.cpg_row_trees.proofs.SliceLaws.{slice_tree_parted, above_again, below_again, over_again, goes_again}
 use Rattle.cpg_row_trees.proofs.slices.+build_slice_tree.Goals as goal
 
 pub build_forked_slice-build_slice_tree-requires : goal.build_forked_slice-build_slice_tree-requires
 build_forked_slice-build_slice_tree-requires t c = (
   omega (arith, c.decreases),
   (
-    under_reached c.args.k c.args.space.now c.close_above-most.new.self c.args.part.cut.variable c.args.part.cut.most c.args.slice.narrow c.in-Some.narrow
-        (search rules) c.sides_of-sides.ensures.highs c.requires.reached c.requires.open c.in-Some.ensures c.close_above-most.ensures.is c.close_above-most.ensures.lies,
-    own_under c.args.k c.args.space.now c.close_above-most.new.self c.args.part.cut.variable c.args.part.cut.most c.args.slice.narrow c.in-Some.narrow
+    under_reached c.args.k c.args.space.now c.close_above-most.new.self c.args.part.cut.variable c.args.part.cut.most
+        c.args.slice.narrow c.in-Some.narrow
+        (search rules) c.sides_of-sides.ensures.highs c.requires.reached c.requires.open c.in-Some.ensures
+        c.close_above-most.ensures.is c.close_above-most.ensures.lies,
+    own_under c.args.k c.args.space.now c.close_above-most.new.self c.args.part.cut.variable c.args.part.cut.most
+        c.args.slice.narrow c.in-Some.narrow
         (search rules) c.requires.reached c.requires.open c.in-Some.ensures
-        c.args.path.now.items c.enter.new.path.items c.requires.own c.sides_of-sides.ensures.highs c.close_above-most.ensures.is c.close_above-most.ensures.lies c.sides_of-sides.result.below
+        c.args.path.now.items c.enter.new.path.items c.requires.own c.sides_of-sides.ensures.highs
+        c.close_above-most.ensures.is c.close_above-most.ensures.lies c.sides_of-sides.result.below
         c.sides_of-sides.ensures.sides.below c.in_ok-under.ensures.both,
   ),
 )
@@ -32,19 +37,27 @@ build_forked_slice-build_slice_tree-requires-2 t c =
     let under : Space = c.close_above-most.new.self in
     let over : Space = c.close_below-was.new.self in
     let again : Space = c.reopen_above.new.self in
-    let same : c.build_slice_tree.new.space ≡ under = OnTrue_at c.if-not-has_below.false c.in_ok-has_below.ensures.same in
-    let back : again ≡ space = above_again space under c.build_slice_tree.new.space again v same c.close_above-most.result c.reopen_above.ensures c.close_above-most.ensures.back in
+    let same : c.build_slice_tree.new.space ≡ under =
+    OnTrue_at c.if-not-has_below.false c.in_ok-has_below.ensures.same in
+    let back : again ≡ space = above_again space under c.build_slice_tree.new.space again v same
+    c.close_above-most.result c.reopen_above.ensures c.close_above-most.ensures.back in
     let is_over = over_again space again over v cut back c.close_below-was.ensures.is in
     let goes_over = goes_again space again over v cut back c.close_below-was.ensures.lies in
     let below = OnTrue_at c.if-not-has_below.false c.in_ok-has_below.ensures.added in
-    let same_path : c.build_slice_tree.new.path.items ≡ c.enter.new.path.items = OnTrue_at c.if-not-has_below.false c.in_ok-has_below.ensures.path in
-    let left : c.leave.new.path.items ≡ c.args.path.now.items = c.leave.ensures ∙ ap (left_by c.in_ok-under.under) same_path ∙ c.in_ok-under.ensures.back in (
+    let same_path : c.build_slice_tree.new.path.items ≡ c.enter.new.path.items =
+    OnTrue_at c.if-not-has_below.false c.in_ok-has_below.ensures.path in
+    let left : c.leave.new.path.items ≡ c.args.path.now.items =
+    c.leave.ensures ∙ ap (left_by c.in_ok-under.under) same_path ∙ c.in_ok-under.ensures.back in (
       omega (arith, c.decreases, below.fewer),
       (
-        over_reached c.args.k space over v cut c.args.slice.narrow c.in-Some.narrow (search rules) c.sides_of-sides.ensures.lows c.requires.reached c.requires.open c.in-Some.ensures is_over goes_over,
-        own_over c.args.k space over v cut c.args.slice.narrow c.in-Some.narrow (search rules) c.requires.reached c.requires.open c.in-Some.ensures
-            c.args.path.now.items c.enter-2.new.path.items c.requires.own c.sides_of-sides.ensures.lows is_over goes_over c.sides_of-sides.result.above c.sides_of-sides.ensures.sides.above
-            (λ s. c.in_ok-over.ensures.both s ∙ ap (λ (ls : List Literal). matches ls s && holds s c.sides_of-sides.result.above) left),
+        over_reached c.args.k space over v cut c.args.slice.narrow c.in-Some.narrow (search rules)
+            c.sides_of-sides.ensures.lows c.requires.reached c.requires.open c.in-Some.ensures is_over goes_over,
+        own_over c.args.k space over v cut c.args.slice.narrow c.in-Some.narrow
+            (search rules) c.requires.reached c.requires.open c.in-Some.ensures
+            c.args.path.now.items c.enter-2.new.path.items c.requires.own c.sides_of-sides.ensures.lows is_over
+            goes_over c.sides_of-sides.result.above c.sides_of-sides.ensures.sides.above
+            (λ s. c.in_ok-over.ensures.both s
+            ∙ ap (λ (ls : List Literal). matches ls s && holds s c.sides_of-sides.result.above) left),
       ),
     )
 
@@ -56,41 +69,58 @@ build_forked_slice-returns t c =
     let under : Space = c.close_above-most.new.self in
     let over : Space = c.close_below-was.new.self in
     let again : Space = c.reopen_above.new.self in
-    let same : c.build_slice_tree.new.space ≡ under = OnTrue_at c.if-not-has_below.false c.in_ok-has_below.ensures.same in
-    let back : again ≡ space = above_again space under c.build_slice_tree.new.space again v same c.close_above-most.result c.reopen_above.ensures c.close_above-most.ensures.back in
+    let same : c.build_slice_tree.new.space ≡ under =
+    OnTrue_at c.if-not-has_below.false c.in_ok-has_below.ensures.same in
+    let back : again ≡ space = above_again space under c.build_slice_tree.new.space again v same
+    c.close_above-most.result c.reopen_above.ensures c.close_above-most.ensures.back in
     let is_over = over_again space again over v cut back c.close_below-was.ensures.is in
     let goes_over = goes_again space again over v cut back c.close_below-was.ensures.lies in
     let cubes : List (List Literal) = map (λ (b : Bor (List Literal)). b.now) c.args.cubes.now in
     let new : TreeGrowth = record { items = c.fork_of.new.out; left = c.build_slice_tree-2.new.growth.left } in
-    let same_over : c.build_slice_tree-2.new.space ≡ over = OnTrue_at c.if-not-has_above.false c.in_ok-has_above.ensures.same in
-    let same_path : c.build_slice_tree.new.path.items ≡ c.enter.new.path.items = OnTrue_at c.if-not-has_below.false c.in_ok-has_below.ensures.path in
-    let left : c.leave.new.path.items ≡ c.args.path.now.items = c.leave.ensures ∙ ap (left_by c.in_ok-under.under) same_path ∙ c.in_ok-under.ensures.back in
-    let same_above : c.build_slice_tree-2.new.path.items ≡ c.enter-2.new.path.items = OnTrue_at c.if-not-has_above.false c.in_ok-has_above.ensures.path in
+    let same_over : c.build_slice_tree-2.new.space ≡ over =
+    OnTrue_at c.if-not-has_above.false c.in_ok-has_above.ensures.same in
+    let same_path : c.build_slice_tree.new.path.items ≡ c.enter.new.path.items =
+    OnTrue_at c.if-not-has_below.false c.in_ok-has_below.ensures.path in
+    let left : c.leave.new.path.items ≡ c.args.path.now.items =
+    c.leave.ensures ∙ ap (left_by c.in_ok-under.under) same_path ∙ c.in_ok-under.ensures.back in
+    let same_above : c.build_slice_tree-2.new.path.items ≡ c.enter-2.new.path.items =
+    OnTrue_at c.if-not-has_above.false c.in_ok-has_above.ensures.path in
     record {
-      added = slice_tree_parted cubes c.args.k space under over c.args.slice.from c.border_of-border.result c.args.slice.to v cut c.args.slice.narrow c.in-Some.narrow
-          (search rules) c.sides_of-sides.ensures.lows c.sides_of-sides.ensures.highs c.requires.reached c.requires.open c.in-Some.ensures c.close_above-most.ensures.is is_over
+      added = slice_tree_parted cubes c.args.k space under over c.args.slice.from c.border_of-border.result
+          c.args.slice.to v cut c.args.slice.narrow c.in-Some.narrow
+          (search rules) c.sides_of-sides.ensures.lows c.sides_of-sides.ensures.highs c.requires.reached c.requires.open
+          c.in-Some.ensures c.close_above-most.ensures.is is_over
           c.close_above-most.ensures.lies goes_over
-          c.len-start.result c.len-middle.result c.args.growth.now c.build_slice_tree.new.growth c.build_slice_tree-2.new.growth new c.in_ok-fork_of.ensures.made refl
-          (c.len-start.ensures ∙ c.args.growth.now.items.ok.0) (c.len-middle.ensures ∙ c.build_slice_tree.new.growth.items.ok.0)
-          (OnTrue_at c.if-not-has_below.false c.in_ok-has_below.ensures.added) (OnTrue_at c.if-not-has_above.false c.in_ok-has_above.ensures.added);
+          c.len-start.result c.len-middle.result c.args.growth.now c.build_slice_tree.new.growth
+          c.build_slice_tree-2.new.growth new c.in_ok-fork_of.ensures.made refl
+          (c.len-start.ensures ∙ c.args.growth.now.items.ok.0)
+          (c.len-middle.ensures ∙ c.build_slice_tree.new.growth.items.ok.0)
+          (OnTrue_at c.if-not-has_below.false c.in_ok-has_below.ensures.added)
+          (OnTrue_at c.if-not-has_above.false c.in_ok-has_above.ensures.added);
       path = c.leave-2.ensures ∙ ap (left_by c.in_ok-over.over) same_above ∙ c.in_ok-over.ensures.back ∙ left;
-      same = below_again again over c.build_slice_tree-2.new.space c.reopen_below.new.self v same_over c.close_below-was.result c.reopen_below.ensures c.close_below-was.ensures.back ∙ back;
+      same = below_again again over c.build_slice_tree-2.new.space c.reopen_below.new.self v same_over
+          c.close_below-was.result c.reopen_below.ensures c.close_below-was.ensures.back ∙ back;
     }
 
 pub build_forked_slice-leave-requires : goal.build_forked_slice-leave-requires
 build_forked_slice-leave-requires t c =
-    let same_path : c.build_slice_tree.new.path.items ≡ c.enter.new.path.items = OnTrue_at c.if-not-has_below.false c.in_ok-has_below.ensures.path in
+    let same_path : c.build_slice_tree.new.path.items ≡ c.enter.new.path.items =
+    OnTrue_at c.if-not-has_below.false c.in_ok-has_below.ensures.path in
     omega (arith, ap (λ (ls : List Literal). length ls) same_path, c.in_ok-under.ensures.some)
 
 pub build_forked_slice-leave-requires-2 : goal.build_forked_slice-leave-requires-2
 build_forked_slice-leave-requires-2 t c =
-    let same_above : c.build_slice_tree-2.new.path.items ≡ c.enter-2.new.path.items = OnTrue_at c.if-not-has_above.false c.in_ok-has_above.ensures.path in
+    let same_above : c.build_slice_tree-2.new.path.items ≡ c.enter-2.new.path.items =
+    OnTrue_at c.if-not-has_above.false c.in_ok-has_above.ensures.path in
     omega (arith, ap (λ (ls : List Literal). length ls) same_above, c.in_ok-over.ensures.some)
 
-pub build_slice_tree-returns-in_ok-add_leaf-in-Leaf-clause-added : goal.build_slice_tree-returns-in_ok-add_leaf-in-Leaf-clause-added
+pub build_slice_tree-returns-in_ok-add_leaf-in-Leaf-clause-added :
+    goal.build_slice_tree-returns-in_ok-add_leaf-in-Leaf-clause-added
 build_slice_tree-returns-in_ok-add_leaf-in-Leaf-clause-added t c =
     let cubes : List (List Literal) = map (λ (b : Bor (List Literal)). b.now) c.args.cubes.now in
     let leaf : TreeNode (Option ℕ) = Leaf c.in-Leaf.place in
-    slice_tree_leaf cubes c.args.k c.args.space.now c.args.slice.from c.args.slice.to c.in-Leaf.place c.args.growth.now c.add_leaf.new.self c.in-Leaf.ensures
-    (c.in_ok-add_leaf-in-Leaf.ensures.items ∙ ap (λ (xs : List (TreeItem (Option ℕ))). xs ++ flat leaf) c.may_grow.ensures.items)
+    slice_tree_leaf cubes c.args.k c.args.space.now c.args.slice.from c.args.slice.to c.in-Leaf.place c.args.growth.now
+    c.add_leaf.new.self c.in-Leaf.ensures
+    (c.in_ok-add_leaf-in-Leaf.ensures.items
+    ∙ ap (λ (xs : List (TreeItem (Option ℕ))). xs ++ flat leaf) c.may_grow.ensures.items)
     (omega (arith, c.in_ok-add_leaf-in-Leaf.ensures.left, OnTrue_at c.if-not-may_grow.false c.may_grow.ensures.left))

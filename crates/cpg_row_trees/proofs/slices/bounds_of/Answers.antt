@@ -4,7 +4,8 @@ use Rattle.cpg_row_trees.proofs.SliceLaws.{bounds_more}
 use Rattle.cpg_row_trees.proofs.slices.bounds_of.Goals as goal
 
 pub loop-literal-preserved : goal.loop-literal-preserved
-loop-literal-preserved c = bounds_more c.args.k c.args.space.now c.args.literals.now c.loop-literal.literal-index c.loop-literal.found
+loop-literal-preserved c =
+    bounds_more c.args.k c.args.space.now c.args.literals.now c.loop-literal.literal-index c.loop-literal.found
     (record { variable = 0; low = 0; high = 0 }) c.loop-literal-test.true c.loop-literal.invariant
     (λ s lies. from_true c.is_bound.result c.if-not-is_bound.false c.is_bound.ensures.hold s lies)
     (from_true c.is_bound.result c.if-not-is_bound.false c.is_bound.ensures.inside)

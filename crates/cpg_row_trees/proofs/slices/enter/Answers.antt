@@ -8,7 +8,8 @@ use Rattle.cpg_row_trees.proofs.slices.enter.Goals as goal
 pub returns-in-Some : goal.returns-in-Some
 returns-in-Some c = entered_last c.args.path.now.items c.put_last.new.path.items c.args.literal c.in-Some.last
     (subst (λ (ls : List Literal). IsLastOn ls c.args.literal.variable c.in-Some.last) c.as_slice.ensures.value
-    (subst (λ (o : Option Literal). IfSome o (IsLastOn c.as_slice.result.now c.args.literal.variable)) c.in-Some.is c.last_on.ensures))
+    (subst (λ (o : Option Literal). IfSome o (IsLastOn c.as_slice.result.now c.args.literal.variable)) c.in-Some.is
+    c.last_on.ensures))
     (c.put_last.ensures ∙ ap (λ (m : Literal). left_by (Some m) c.args.path.now.items) c.met_by.ensures)
 
 pub returns-in_ok-push-in-None : goal.returns-in_ok-push-in-None

@@ -7,5 +7,6 @@ use Rattle.cpg_row_trees.proofs.slices.is_filled.Goals as goal
 pub returns : goal.returns
 returns c =
     let l = c.args.literal.now in
-    OnTrue_from (nat_le (get_or c.args.space.now.high l.variable 0) l.high) _ (λ e s lies. holds-from s l (omega (arith, c.if-space-literal.false, lies.low l.variable (search rules)))
+    OnTrue_from (nat_le (get_or c.args.space.now.high l.variable 0) l.high) _
+    (λ e s lies. holds-from s l (omega (arith, c.if-space-literal.false, lies.low l.variable (search rules)))
     (omega (arith, lies.high l.variable (search rules), leb-true (get_or c.args.space.now.high l.variable 0) l.high e)))

@@ -8,6 +8,8 @@ use Rattle.cpg_row_trees.proofs.slices.is_their_own.Goals as goal
 pub returns-in-Some : goal.returns-in-Some
 returns-in-Some c =
     let bounds : AreSpaceBounds c.args.k c.args.space.now c.args.literals.now c.in-Some.found = subst
-    (λ (o : Option ℕ). IfSome o (AreSpaceBounds c.args.k c.args.space.now c.args.literals.now)) c.in-Some.is c.bounds_of.ensures in
+    (λ (o : Option ℕ). IfSome o (AreSpaceBounds c.args.k c.args.space.now c.args.literals.now)) c.in-Some.is
+    c.bounds_of.ensures in
     OnTrue_from (nat_le c.args.narrow c.in-Some.found) _
-    (λ e. own c.args.k c.args.space.now c.args.literals.now c.args.narrow c.in-Some.found c.requires.rising c.requires.reached bounds (leb-true c.args.narrow c.in-Some.found e))
+    (λ e. own c.args.k c.args.space.now c.args.literals.now c.args.narrow c.in-Some.found c.requires.rising
+    c.requires.reached bounds (leb-true c.args.narrow c.in-Some.found e))

@@ -8,24 +8,29 @@ use Rattle.cpg_row_trees.proofs.SliceLaws.{finds_here}
 use Rattle.cpg_row_trees.proofs.slices.slice_top.Goals as goal
 
 pub is_their_own-requires-clause-rising : goal.is_their_own-requires-clause-rising
-is_their_own-requires-clause-rising c = subst IsRising (sym c.literals-literals.ensures.literals) c.literals-literals.ensures.rising
+is_their_own-requires-clause-rising c =
+    subst IsRising (sym c.literals-literals.ensures.literals) c.literals-literals.ensures.rising
 
 pub returns-then-is_their_own : goal.returns-then-is_their_own
 returns-then-is_their_own c =
     let look = c.in-Some.ensures.lookup in
     let cubes : List (List Literal) = map (λ (b : Bor (List Literal)). b.now) c.args.cubes.now in
     let at = cube_here c.args.cubes.now c.args.slice.from c.in-Some.cube.now look.3.0 look.1 in
-    finds_here cubes c.args.k c.args.space.now c.args.slice.from c.args.slice.to (within_lent c.args.cubes.now c.args.slice.from c.in-Some.cube.now look.3.0 look.1)
+    finds_here cubes c.args.k c.args.space.now c.args.slice.from c.args.slice.to
+    (within_lent c.args.cubes.now c.args.slice.from c.in-Some.cube.now look.3.0 look.1)
     (omega (arith, c.if-slice-eq1.true))
     (subst (IsOwn c.args.k c.args.space.now) (sym at)
-    (subst (IsOwn c.args.k c.args.space.now) c.literals-literals.ensures.literals (from_true c.is_their_own.result c.if-is_their_own.true c.is_their_own.ensures)))
+    (subst (IsOwn c.args.k c.args.space.now) c.literals-literals.ensures.literals
+    (from_true c.is_their_own.result c.if-is_their_own.true c.is_their_own.ensures)))
 
 pub returns-then-are_same_literals : goal.returns-then-are_same_literals
 returns-then-are_same_literals c =
     let look = c.in-Some.ensures.lookup in
     let cubes : List (List Literal) = map (λ (b : Bor (List Literal)). b.now) c.args.cubes.now in
     let at = cube_here c.args.cubes.now c.args.slice.from c.in-Some.cube.now look.3.0 look.1 in
-    finds_here cubes c.args.k c.args.space.now c.args.slice.from c.args.slice.to (within_lent c.args.cubes.now c.args.slice.from c.in-Some.cube.now look.3.0 look.1)
+    finds_here cubes c.args.k c.args.space.now c.args.slice.from c.args.slice.to
+    (within_lent c.args.cubes.now c.args.slice.from c.in-Some.cube.now look.3.0 look.1)
     (omega (arith, c.if-slice-eq1.true))
     (subst (IsOwn c.args.k c.args.space.now) (sym at)
-    (subst (IsOwn c.args.k c.args.space.now) (from_true c.are_same_literals.result c.if-are_same_literals.true c.are_same_literals.ensures ∙ c.literals-literals.ensures.literals) c.requires.own))
+    (subst (IsOwn c.args.k c.args.space.now) (from_true c.are_same_literals.result c.if-are_same_literals.true
+    c.are_same_literals.ensures ∙ c.literals-literals.ensures.literals) c.requires.own))

@@ -13,19 +13,26 @@ use Rattle.cpg_row_trees.proofs.slices.slice_tree_by.Goals as goal
 pub build_slice_tree-requires : goal.build_slice_tree-requires
 build_slice_tree-requires c = record {
   reached = whole_reached c.args.k c.whole-space.result c.whole-space.ensures.is c.whole-space.ensures.lies;
-  own = subst (λ (ls : List Literal). IsOwn c.args.k c.whole-space.result ls) (sym c.new-path.ensures.items) (whole_own c.args.k c.whole-space.result c.whole-space.ensures.lies);
+  own = subst (λ (ls : List Literal). IsOwn c.args.k c.whole-space.result ls) (sym c.new-path.ensures.items)
+      (whole_own c.args.k c.whole-space.result c.whole-space.ensures.lies);
 }
 
 pub grown-requires : goal.grown-requires
 grown-requires c =
-    let finds = (OnTrue_at c.if-not-has_tree.false c.in_ok-has_tree.ensures.added).finds in
-    (finds.0, all_added c.in_ok-growth.growth.items.items c.build_slice_tree.new.growth.items.items finds.0 c.in_ok-growth.ensures.items finds.1)
+    let finds = (OnTrue_at c.if-not-has_tree.false c.in_ok-has_tree.ensures.added).finds in (
+      finds.0,
+      all_added c.in_ok-growth.growth.items.items c.build_slice_tree.new.growth.items.items finds.0
+          c.in_ok-growth.ensures.items finds.1,
+    )
 
 pub returns : goal.returns
 returns c s few =
     let cubes : List (List Literal) = map (λ (b : Bor (List Literal)). b.now) c.args.cubes.now in
     let finds = (OnTrue_at c.if-not-has_tree.false c.in_ok-has_tree.ensures.added).finds in
-    let is = all_added c.in_ok-growth.growth.items.items c.build_slice_tree.new.growth.items.items finds.0 c.in_ok-growth.ensures.items finds.1 in
-    subst (λ (x : Option ℕ). IsPlaceOfMatch cubes x s) (sym (ap (λ (p : PlacesState). place_at p s) c.grown.ensures ∙ place_is c.build_slice_tree.new.growth.items.items finds.0 s is))
-    (is_place_of_match cubes c.args.k c.whole-space.result s few (c.whole-space.ensures.lies s few) (length c.args.cubes.now)
+    let is = all_added c.in_ok-growth.growth.items.items c.build_slice_tree.new.growth.items.items finds.0
+    c.in_ok-growth.ensures.items finds.1 in
+    subst (λ (x : Option ℕ). IsPlaceOfMatch cubes x s) (sym (ap (λ (p : PlacesState). place_at p s) c.grown.ensures
+    ∙ place_is c.build_slice_tree.new.growth.items.items finds.0 s is))
+    (is_place_of_match cubes c.args.k c.whole-space.result s few (c.whole-space.ensures.lies s few)
+    (length c.args.cubes.now)
     (omega (arith, length-map c.args.cubes.now (λ (b : Bor (List Literal)). b.now))) finds.0 finds.2)

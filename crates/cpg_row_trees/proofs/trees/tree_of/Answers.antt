@@ -6,12 +6,15 @@ use Rattle.cpg_row_trees.proofs.trees.tree_of.Goals as goal
 
 pub of-requires : goal.of-requires
 of-requires c =
-    let same : map (λ (b : Bor (List Literal)). b.now) c.as_slice.result.now ≡ map (λ (d : Column). d.cube) c.args.columns.now =
+    let same : map (λ (b : Bor (List Literal)). b.now) c.as_slice.result.now
+    ≡ map (λ (d : Column). d.cube) c.args.columns.now =
     ap (map (λ (b : Bor (List Literal)). b.now)) c.as_slice.ensures.value ∙ c.in_ok-cubes.ensures in
     omega (arith, c.requires, as_long c.as_slice.result.now c.args.columns.now same)
 
 pub returns : goal.returns
 returns c =
-    let same : map (λ (b : Bor (List Literal)). b.now) c.as_slice.result.now ≡ map (λ (d : Column). d.cube) c.args.columns.now =
+    let same : map (λ (b : Bor (List Literal)). b.now) c.as_slice.result.now
+    ≡ map (λ (d : Column). d.cube) c.args.columns.now =
     ap (map (λ (b : Bor (List Literal)). b.now)) c.as_slice.ensures.value ∙ c.in_ok-cubes.ensures in
-    row_tree_of c.as_slice.result.now c.args.columns.now same c.args.problem.now c.faults.result c.in_ok-places.places c.faults.ensures.faults c.in_ok-places.ensures
+    row_tree_of c.as_slice.result.now c.args.columns.now same c.args.problem.now c.faults.result c.in_ok-places.places
+    c.faults.ensures.faults c.in_ok-places.ensures

@@ -13,10 +13,13 @@ use Rattle.cpg_row_trees.proofs.walk.+do_pass_both.Goals as goal
 pub do_pass_both-returns-in-Value-clause-passed : goal.do_pass_both-returns-in-Value-clause-passed
 do_pass_both-returns-in-Value-clause-passed g t c =
     of_true c.do_pass_at.result c.do_pass_at.ensures.passed
-    (λ all n m are seconds. holds_leaf (λ (x : Option ℕ) (s : Scenario). g.J.PairTest.guarantees c.args.test.now x (value_at m s) s) c.args.space.now c.in-Value.place n
+    (λ all n m are seconds.
+    holds_leaf (λ (x : Option ℕ) (s : Scenario). g.J.PairTest.guarantees c.args.test.now x (value_at m s) s)
+    c.args.space.now c.in-Value.place n
     (flat-same n (Leaf c.in-Value.place) (sym are ∙ c.in-Value.ensures.shows)) (all m seconds))
 
-pub do_pass_both-returns-then-not-is_open_below-clause-passed : goal.do_pass_both-returns-then-not-is_open_below-clause-passed
+pub do_pass_both-returns-then-not-is_open_below-clause-passed :
+    goal.do_pass_both-returns-then-not-is_open_below-clause-passed
 do_pass_both-returns-then-not-is_open_below-clause-passed g t c =
     let shows = c.in-Cut.ensures.shows in
     let space : Space = c.args.space.now in
@@ -24,11 +27,14 @@ do_pass_both-returns-then-not-is_open_below-clause-passed g t c =
     (λ all n m are seconds.
     let part = c.part_in-part.ensures.part m seconds in
     holds_beside (g.J.PairTest.guarantees c.args.test.now) space n part.0 m part.2.same.value
-    (holds_above (λ (x : Option ℕ) (s : Scenario). g.J.PairTest.guarantees c.args.test.now x (value_at part.0 s) s) space c.in-Cut.variable c.in-Cut.cut shows.0 shows.1 n
-    (flat-same n (Fork c.in-Cut.variable c.in-Cut.cut shows.0 shows.1) (sym are ∙ shows.4)) (all shows.1 part.0 shows.3 part.1)
+    (holds_above (λ (x : Option ℕ) (s : Scenario). g.J.PairTest.guarantees c.args.test.now x (value_at part.0 s) s)
+    space c.in-Cut.variable c.in-Cut.cut shows.0 shows.1 n
+    (flat-same n (Fork c.in-Cut.variable c.in-Cut.cut shows.0 shows.1) (sym are ∙ shows.4))
+    (all shows.1 part.0 shows.3 part.1)
     (from_false c.is_open_below.result c.if-not-is_open_below.true c.is_open_below.ensures.none)))
 
-pub do_pass_both-returns-then-not-is_open_above-clause-passed : goal.do_pass_both-returns-then-not-is_open_above-clause-passed
+pub do_pass_both-returns-then-not-is_open_above-clause-passed :
+    goal.do_pass_both-returns-then-not-is_open_above-clause-passed
 do_pass_both-returns-then-not-is_open_above-clause-passed g t c =
     let shows = c.in-Cut.ensures.shows in
     let space : Space = c.args.space.now in
@@ -36,11 +42,14 @@ do_pass_both-returns-then-not-is_open_above-clause-passed g t c =
     (λ all n m are seconds.
     let part = c.part_in-part.ensures.part m seconds in
     holds_beside (g.J.PairTest.guarantees c.args.test.now) space n part.0 m part.2.same.value
-    (holds_below (λ (x : Option ℕ) (s : Scenario). g.J.PairTest.guarantees c.args.test.now x (value_at part.0 s) s) space c.in-Cut.variable c.in-Cut.cut shows.0 shows.1 n
-    (flat-same n (Fork c.in-Cut.variable c.in-Cut.cut shows.0 shows.1) (sym are ∙ shows.4)) (all shows.0 part.0 shows.2 part.1)
+    (holds_below (λ (x : Option ℕ) (s : Scenario). g.J.PairTest.guarantees c.args.test.now x (value_at part.0 s) s)
+    space c.in-Cut.variable c.in-Cut.cut shows.0 shows.1 n
+    (flat-same n (Fork c.in-Cut.variable c.in-Cut.cut shows.0 shows.1) (sym are ∙ shows.4))
+    (all shows.0 part.0 shows.2 part.1)
     (from_false c.is_open_above.result c.if-not-is_open_above.true c.is_open_above.ensures.none)))
 
-pub do_pass_both-returns-else-not-do_pass_beside-2-clause-passed : goal.do_pass_both-returns-else-not-do_pass_beside-2-clause-passed
+pub do_pass_both-returns-else-not-do_pass_beside-2-clause-passed :
+    goal.do_pass_both-returns-else-not-do_pass_beside-2-clause-passed
 do_pass_both-returns-else-not-do_pass_beside-2-clause-passed g t c n m are seconds =
     let shows = c.in-Cut.ensures.shows in
     let part = c.part_in-part.ensures.part m seconds in
@@ -50,18 +59,25 @@ do_pass_both-returns-else-not-do_pass_beside-2-clause-passed g t c n m are secon
     let under : Space = c.close_above-most.new.self in
     let over : Space = c.close_below-was.new.self in
     let again : Space = c.reopen_above.new.self in
-    let same : c.do_pass_beside.new.space ≡ under = from_true c.do_pass_beside.result c.if-not-do_pass_beside.false c.do_pass_beside.ensures.same in
-    let back : again ≡ space = above_again space under c.do_pass_beside.new.space again v same c.close_above-most.result c.reopen_above.ensures c.close_above-most.ensures.back in
+    let same : c.do_pass_beside.new.space ≡ under =
+    from_true c.do_pass_beside.result c.if-not-do_pass_beside.false c.do_pass_beside.ensures.same in
+    let back : again ≡ space = above_again space under c.do_pass_beside.new.space again v same c.close_above-most.result
+    c.reopen_above.ensures c.close_above-most.ensures.back in
     let goes_over = goes_again space again over v cut back c.close_below-was.ensures.lies in
-    let low = from_true c.do_pass_beside.result c.if-not-do_pass_beside.false c.do_pass_beside.ensures.passed shows.0 part.0 shows.2 part.1 in
-    let high = from_true c.do_pass_beside-in-Cut.result c.if-not-do_pass_beside-2.false c.do_pass_beside-in-Cut.ensures.passed shows.1 part.0 shows.3 part.1 in
+    let low = from_true c.do_pass_beside.result c.if-not-do_pass_beside.false c.do_pass_beside.ensures.passed shows.0
+    part.0 shows.2 part.1 in
+    let high = from_true c.do_pass_beside-in-Cut.result c.if-not-do_pass_beside-2.false
+    c.do_pass_beside-in-Cut.ensures.passed shows.1 part.0 shows.3 part.1 in
     holds_beside (g.J.PairTest.guarantees c.args.test.now) space n part.0 m part.2.same.value
-    (holds_fork (λ (x : Option ℕ) (s : Scenario). g.J.PairTest.guarantees c.args.test.now x (value_at part.0 s) s) space v cut shows.0 shows.1 n
+    (holds_fork (λ (x : Option ℕ) (s : Scenario). g.J.PairTest.guarantees c.args.test.now x (value_at part.0 s) s) space
+    v cut shows.0 shows.1 n
     (flat-same n (Fork v cut shows.0 shows.1) (sym are ∙ shows.4))
     (λ s lies h. low s (c.close_above-most.ensures.lies s lies h)) (λ s lies h. high s (goes_over s lies h)))
 
 pub do_pass_beside-returns-in-Value-clause-passed : goal.do_pass_beside-returns-in-Value-clause-passed
 do_pass_beside-returns-in-Value-clause-passed g t c =
     of_true c.do_pass_at.result c.do_pass_at.ensures.passed
-    (λ all n m are seconds. holds_leaf (λ (x : Option ℕ) (s : Scenario). g.J.PairTest.guarantees c.args.test.now x (value_at m s) s) c.args.space.now c.in-Value.place n
+    (λ all n m are seconds.
+    holds_leaf (λ (x : Option ℕ) (s : Scenario). g.J.PairTest.guarantees c.args.test.now x (value_at m s) s)
+    c.args.space.now c.in-Value.place n
     (flat-same n (Leaf c.in-Value.place) (sym are ∙ c.in-Value.ensures.shows)) (all m seconds))

@@ -12,26 +12,32 @@ use Rattle.cpg_row_trees.proofs.walk.+do_pass_each.Goals as goal
 pub do_pass_each-returns-in-Value-clause-passed : goal.do_pass_each-returns-in-Value-clause-passed
 do_pass_each-returns-in-Value-clause-passed g t c =
     of_true c.passes.result c.passes.ensures
-    (λ all n are. holds_leaf (λ (x : Option ℕ) (s : Scenario). g.J.Test.guarantees c.args.test.now x s) c.args.space.now c.in-Value.place n
+    (λ all n are. holds_leaf (λ (x : Option ℕ) (s : Scenario). g.J.Test.guarantees c.args.test.now x s) c.args.space.now
+    c.in-Value.place n
     (flat-same n (Leaf c.in-Value.place) (sym are ∙ c.in-Value.ensures.shows)) all)
 
-pub do_pass_each-returns-then-not-is_open_below-clause-passed : goal.do_pass_each-returns-then-not-is_open_below-clause-passed
+pub do_pass_each-returns-then-not-is_open_below-clause-passed :
+    goal.do_pass_each-returns-then-not-is_open_below-clause-passed
 do_pass_each-returns-then-not-is_open_below-clause-passed g t c =
     let shows = c.in-Cut.ensures.shows in
     of_true c.do_pass_each.result c.do_pass_each.ensures.passed
-    (λ all n are. holds_above (λ (x : Option ℕ) (s : Scenario). g.J.Test.guarantees c.args.test.now x s) c.args.space.now c.in-Cut.variable c.in-Cut.cut shows.0 shows.1 n
+    (λ all n are. holds_above (λ (x : Option ℕ) (s : Scenario). g.J.Test.guarantees c.args.test.now x s)
+    c.args.space.now c.in-Cut.variable c.in-Cut.cut shows.0 shows.1 n
     (flat-same n (Fork c.in-Cut.variable c.in-Cut.cut shows.0 shows.1) (sym are ∙ shows.4)) (all shows.1 shows.3)
     (from_false c.is_open_below.result c.if-not-is_open_below.true c.is_open_below.ensures.none))
 
-pub do_pass_each-returns-then-not-is_open_above-clause-passed : goal.do_pass_each-returns-then-not-is_open_above-clause-passed
+pub do_pass_each-returns-then-not-is_open_above-clause-passed :
+    goal.do_pass_each-returns-then-not-is_open_above-clause-passed
 do_pass_each-returns-then-not-is_open_above-clause-passed g t c =
     let shows = c.in-Cut.ensures.shows in
     of_true c.do_pass_each-then-not-is_open_above.result c.do_pass_each-then-not-is_open_above.ensures.passed
-    (λ all n are. holds_below (λ (x : Option ℕ) (s : Scenario). g.J.Test.guarantees c.args.test.now x s) c.args.space.now c.in-Cut.variable c.in-Cut.cut shows.0 shows.1 n
+    (λ all n are. holds_below (λ (x : Option ℕ) (s : Scenario). g.J.Test.guarantees c.args.test.now x s)
+    c.args.space.now c.in-Cut.variable c.in-Cut.cut shows.0 shows.1 n
     (flat-same n (Fork c.in-Cut.variable c.in-Cut.cut shows.0 shows.1) (sym are ∙ shows.4)) (all shows.0 shows.2)
     (from_false c.is_open_above.result c.if-not-is_open_above.true c.is_open_above.ensures.none))
 
-pub do_pass_each-returns-else-not-do_pass_side-2-clause-passed : goal.do_pass_each-returns-else-not-do_pass_side-2-clause-passed
+pub do_pass_each-returns-else-not-do_pass_side-2-clause-passed :
+    goal.do_pass_each-returns-else-not-do_pass_side-2-clause-passed
 do_pass_each-returns-else-not-do_pass_side-2-clause-passed g t c n are =
     let shows = c.in-Cut.ensures.shows in
     let space : Space = c.args.space.now in
@@ -40,16 +46,22 @@ do_pass_each-returns-else-not-do_pass_side-2-clause-passed g t c n are =
     let under : Space = c.close_above-most.new.self in
     let over : Space = c.close_below-was.new.self in
     let again : Space = c.reopen_above.new.self in
-    let same : c.do_pass_side.new.space ≡ under = from_true c.do_pass_side.result c.if-not-do_pass_side.false c.do_pass_side.ensures.same in
-    let back : again ≡ space = above_again space under c.do_pass_side.new.space again v same c.close_above-most.result c.reopen_above.ensures c.close_above-most.ensures.back in
+    let same : c.do_pass_side.new.space ≡ under =
+    from_true c.do_pass_side.result c.if-not-do_pass_side.false c.do_pass_side.ensures.same in
+    let back : again ≡ space = above_again space under c.do_pass_side.new.space again v same c.close_above-most.result
+    c.reopen_above.ensures c.close_above-most.ensures.back in
     let goes_over = goes_again space again over v cut back c.close_below-was.ensures.lies in
-    let low = from_true c.do_pass_side.result c.if-not-do_pass_side.false c.do_pass_side.ensures.passed shows.0 shows.2 in
-    let high = from_true c.do_pass_side-in-Cut.result c.if-not-do_pass_side-2.false c.do_pass_side-in-Cut.ensures.passed shows.1 shows.3 in
-    holds_fork (λ (x : Option ℕ) (s : Scenario). g.J.Test.guarantees c.args.test.now x s) space v cut shows.0 shows.1 n (flat-same n (Fork v cut shows.0 shows.1) (sym are ∙ shows.4))
+    let low =
+    from_true c.do_pass_side.result c.if-not-do_pass_side.false c.do_pass_side.ensures.passed shows.0 shows.2 in
+    let high = from_true c.do_pass_side-in-Cut.result c.if-not-do_pass_side-2.false c.do_pass_side-in-Cut.ensures.passed
+    shows.1 shows.3 in
+    holds_fork (λ (x : Option ℕ) (s : Scenario). g.J.Test.guarantees c.args.test.now x s) space v cut shows.0 shows.1 n
+    (flat-same n (Fork v cut shows.0 shows.1) (sym are ∙ shows.4))
     (λ s lies h. low s (c.close_above-most.ensures.lies s lies h)) (λ s lies h. high s (goes_over s lies h))
 
 pub do_pass_side-returns-in-Value-clause-passed : goal.do_pass_side-returns-in-Value-clause-passed
 do_pass_side-returns-in-Value-clause-passed g t c =
     of_true c.passes.result c.passes.ensures
-    (λ all n are. holds_leaf (λ (x : Option ℕ) (s : Scenario). g.J.Test.guarantees c.args.test.now x s) c.args.space.now c.in-Value.place n
+    (λ all n are. holds_leaf (λ (x : Option ℕ) (s : Scenario). g.J.Test.guarantees c.args.test.now x s) c.args.space.now
+    c.in-Value.place n
     (flat-same n (Leaf c.in-Value.place) (sym are ∙ c.in-Value.ensures.shows)) all)

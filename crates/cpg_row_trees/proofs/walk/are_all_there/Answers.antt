@@ -6,8 +6,10 @@ use Rattle.cpg_row_trees.specs.Places.{IsThere}
 use Rattle.cpg_row_trees.proofs.walk.are_all_there.Goals as goal
 
 pub loop-item-preserved : goal.loop-item-preserved
-loop-item-preserved c = All-more IsThere c.args.items.now c.loop-item.item-index _ c.loop-item-test.true c.loop-item.invariant
+loop-item-preserved c =
+    All-more IsThere c.args.items.now c.loop-item.item-index _ c.loop-item-test.true c.loop-item.invariant
     (from_true c.is_there.result c.if-not-is_there.false c.is_there.ensures)
 
 pub returns : goal.returns
-returns c = subst (All IsThere) (take_all c.loop-item.item-index c.args.items.now c.loop-item-test.false) c.loop-item.invariant
+returns c =
+    subst (All IsThere) (take_all c.loop-item.item-index c.args.items.now c.loop-item-test.false) c.loop-item.invariant

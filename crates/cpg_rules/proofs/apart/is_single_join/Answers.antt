@@ -8,7 +8,9 @@ are_apart-requires-clause-inputs c = rw (c.as_slice.ensures.value, c.in_ok-input
     (inputs_within c.args.problem.now c.requires.guards.order c.requires.guards.topological c.args.process)
 
 pub returns-clause-single : goal.returns-clause-single
-returns-clause-single c = λ is values join long. apart_single c.args.problem.now c.requires.guards.order c.requires.guards.topological c.requires.guards.guards c.requires.guards.are
+returns-clause-single c = λ is values join long. apart_single c.args.problem.now c.requires.guards.order
+    c.requires.guards.topological c.requires.guards.guards c.requires.guards.are
     c.args.parts.now.ranks c.args.process values long
-    (sym (ap₂ (λ trees inputs. are_apart c.args.problem.now c.args.parts.now.ranks trees inputs) (sym c.requires.guards.same) (c.as_slice.ensures.value ∙ c.in_ok-inputs.ensures))
+    (sym (ap₂ (λ trees inputs. are_apart c.args.problem.now c.args.parts.now.ranks trees inputs)
+    (sym c.requires.guards.same) (c.as_slice.ensures.value ∙ c.in_ok-inputs.ensures))
     ∙ sym c.in_ok-apart.ensures.apart ∙ is)

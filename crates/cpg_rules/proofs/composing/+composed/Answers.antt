@@ -10,13 +10,17 @@ pub composed-requires : goal.composed-requires
 composed-requires t c = (
   search rules,
   (
-    roots_stay c.args.parts.now c.input_part.new.parts (process_count c.args.problem.now) c.args.roots.now c.in_ok-first.ensures.more c.requires.roots,
-    All-rest (λ (i : Input). i.source < process_count c.args.problem.now) c.in-Some.input.now c.in-Some.left.now c.args.inputs.now (search rules) c.requires.inputs,
+    roots_stay c.args.parts.now c.input_part.new.parts
+        (process_count c.args.problem.now) c.args.roots.now c.in_ok-first.ensures.more c.requires.roots,
+    All-rest (λ (i : Input). i.source < process_count c.args.problem.now) c.in-Some.input.now c.in-Some.left.now
+        c.args.inputs.now (search rules) c.requires.inputs,
   ),
 )
 
 pub returns : goal.returns
-returns t c = composed_more c.args.problem.now c.args.join c.args.parts.now c.input_part.new.parts c.composed.new.parts c.met.new.self
+returns t c = composed_more c.args.problem.now c.args.join c.args.parts.now c.input_part.new.parts
+    c.composed.new.parts c.met.new.self
     (process_count c.args.problem.now) c.args.roots.now c.requires.roots
-    c.in-Some.input.now c.in-Some.left.now c.args.inputs.now (search rules) (sym c.is_empty.ensures ∙ c.if-is_empty.false) c.in_ok-first.first c.in_ok-later.later c.in_ok-made.made
+    c.in-Some.input.now c.in-Some.left.now c.args.inputs.now (search rules)
+    (sym c.is_empty.ensures ∙ c.if-is_empty.false) c.in_ok-first.first c.in_ok-later.later c.in_ok-made.made
     c.in_ok-first.ensures c.in_ok-later.ensures c.in_ok-made.ensures

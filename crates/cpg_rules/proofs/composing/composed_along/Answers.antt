@@ -11,14 +11,18 @@ loop-step-preserved c =
     let here = drop_more c.args.steps.now c.loop-step.step-index c.step-item.result c.loop-step-test.true ∙
     ap (λ step. step ∷ drop (c.loop-step.step-index + 1) c.args.steps.now) (sym c.step-item.is) in
     let made = subst (λ roots. Makes c.loop-step.parts c.composed.new.parts
-    (composed c.args.problem.now c.is_join.result c.loop-step.parts.ranks (trees_of c.loop-step.parts.parts roots) c.inputs-inputs.result.now) c.in_ok-part.part)
+    (composed c.args.problem.now c.is_join.result c.loop-step.parts.ranks
+    (trees_of c.loop-step.parts.parts roots) c.inputs-inputs.result.now) c.in_ok-part.part)
     c.as_slice.ensures.value c.in_ok-part.ensures in
     record {
-      roots = step_roots c.loop-step.parts c.composed.new.parts (process_count c.args.problem.now) c.process.result c.in_ok-part.part c.loop-step.roots.items
-          (composed c.args.problem.now c.is_join.result c.loop-step.parts.ranks (trees_of c.loop-step.parts.parts c.loop-step.roots.items) c.inputs-inputs.result.now) c.loop-step.invariant.roots made;
+      roots = step_roots c.loop-step.parts c.composed.new.parts
+          (process_count c.args.problem.now) c.process.result c.in_ok-part.part c.loop-step.roots.items
+          (composed c.args.problem.now c.is_join.result c.loop-step.parts.ranks (trees_of c.loop-step.parts.parts
+          c.loop-step.roots.items) c.inputs-inputs.result.now) c.loop-step.invariant.roots made;
       ranks = made.more.ranks ∙ c.loop-step.invariant.ranks;
       same = c.loop-step.invariant.same ∙ step_along c.args.problem.now c.loop-step.parts c.composed.new.parts
           (process_count c.args.problem.now) c.process.result c.in_ok-part.part c.loop-step.roots.items
-          c.loop-step.invariant.roots c.is_join.result c.inputs-inputs.result.now made (drop c.loop-step.step-index c.args.steps.now) (drop (c.loop-step.step-index + 1) c.args.steps.now)
+          c.loop-step.invariant.roots c.is_join.result c.inputs-inputs.result.now made
+          (drop c.loop-step.step-index c.args.steps.now) (drop (c.loop-step.step-index + 1) c.args.steps.now)
           c.step-item.result here c.process.ensures c.is_join.ensures c.inputs-inputs.ensures;
     }

@@ -8,6 +8,7 @@ abbrev pub invariant-loop-step : goal.invariant-loop-step
 invariant-loop-step l = record {
   roots : AreRoots l.parts.parts (process_count l.problem) l.roots.items;
   ranks : l.parts.ranks ≡ l.fn.parts.ranks;
-  same : composed_along l.problem l.fn.parts.ranks l.steps (trees_of l.fn.parts.parts l.fn.roots.items) ≡ composed_along l.problem l.parts.ranks (drop l.step-index l.steps)
+  same : composed_along l.problem l.fn.parts.ranks l.steps (trees_of l.fn.parts.parts l.fn.roots.items)
+      ≡ composed_along l.problem l.parts.ranks (drop l.step-index l.steps)
       (trees_of l.parts.parts l.roots.items);
 }

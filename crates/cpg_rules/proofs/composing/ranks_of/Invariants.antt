@@ -5,4 +5,5 @@ use Rattle.cpg_base.specs.Order.{place}
 use Rattle.cpg_rules.proofs.composing.ranks_of.Given as goal
 
 abbrev pub invariant-loop-condition : goal.invariant-loop-condition
-invariant-loop-condition l = l.ranks.items ≡ map (λ c. place l.order (process_of l.problem c)) (numbers_below l.condition)
+invariant-loop-condition l =
+    l.ranks.items ≡ map (λ c. place l.order (process_of l.problem c)) (numbers_below l.condition)

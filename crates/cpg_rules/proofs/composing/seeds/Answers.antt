@@ -5,4 +5,5 @@ use Rattle.cpg_rules.proofs.SharedSteps.{seeded}
 use Rattle.cpg_rules.proofs.composing.seeds.Goals as goal
 
 pub returns-clause-trees : goal.returns-clause-trees
-returns-clause-trees c = seeded c.leaf.new.self.parts c.args.count c.in_ok-leaf.leaf c.in_ok-roots.roots.items (Leaf Inactive) (search rules) c.in_ok-leaf.ensures.is
+returns-clause-trees c = seeded c.leaf.new.self.parts c.args.count c.in_ok-leaf.leaf c.in_ok-roots.roots.items
+    (Leaf Inactive) (search rules) c.in_ok-leaf.ensures.is

@@ -4,17 +4,23 @@ use Rattle.cpg_rules.proofs.given.first_early.Goals as goal
 
 pub is_early-requires-clause-process : goal.is_early-requires-clause-process
 is_early-requires-clause-process c =
-    let inside : c.loop-process.process-index < length c.args.order.now = omega (arith, c.loop-process-test.true, ap length c.processes-process-items.ensures.processes) in
-    rw c.processes-process-items.ensures.processes (at_place c.args.problem.now c.args.order.now c.processes-process-items.ensures.order c.requires c.loop-process.process-index inside)
+    let inside : c.loop-process.process-index < length c.args.order.now =
+    omega (arith, c.loop-process-test.true, ap length c.processes-process-items.ensures.processes) in
+    rw c.processes-process-items.ensures.processes (at_place c.args.problem.now c.args.order.now
+    c.processes-process-items.ensures.order c.requires c.loop-process.process-index inside)
 
 pub returns-then-is_early-clause-some : goal.returns-then-is_early-clause-some
 returns-then-is_early-clause-some c =
-    let inside : c.loop-process.process-index < length c.args.order.now = omega (arith, c.loop-process-test.true, ap length c.processes-process-items.ensures.processes) in
+    let inside : c.loop-process.process-index < length c.args.order.now =
+    omega (arith, c.loop-process-test.true, ap length c.processes-process-items.ensures.processes) in
     let early = rw c.processes-process-items.ensures.processes at (sym c.is_early.ensures ∙ c.if-is_early.true) in
     rw c.processes-process-items.ensures.processes
-    (early_first c.args.problem.now c.args.order.now c.processes-process-items.ensures.order c.requires c.loop-process.process-index inside c.loop-process.invariant early)
+    (early_first c.args.problem.now c.args.order.now c.processes-process-items.ensures.order c.requires
+    c.loop-process.process-index inside c.loop-process.invariant early)
 
 pub returns-clause-none : goal.returns-clause-none
 returns-clause-none c =
-    let past : length c.args.order.now ≤ c.loop-process.process-index = omega (arith, c.loop-process-test.false, ap length c.processes-process-items.ensures.processes) in
-    early_nowhere c.args.problem.now c.args.order.now c.processes-process-items.ensures.order c.requires c.loop-process.process-index past c.loop-process.invariant
+    let past : length c.args.order.now ≤ c.loop-process.process-index =
+    omega (arith, c.loop-process-test.false, ap length c.processes-process-items.ensures.processes) in
+    early_nowhere c.args.problem.now c.args.order.now c.processes-process-items.ensures.order c.requires
+    c.loop-process.process-index past c.loop-process.invariant

@@ -12,13 +12,16 @@ order_of-requires c =
 pub first_early-requires : goal.first_early-requires
 first_early-requires c =
     let within = given_within c.args.problem.now c.in-Some.list.now c.in-Some.ensures.order c.in-Some.ensures.within in
-    ap length c.in_ok-order.ensures ∙ whole_long c.args.problem.now c.in-Some.list.now within c.in_default-lacking.ensures.none
+    ap length c.in_ok-order.ensures
+    ∙ whole_long c.args.problem.now c.in-Some.list.now within c.in_default-lacking.ensures.none
 
 pub returns-clause-topological : goal.returns-clause-topological
 returns-clause-topological c =
     let g = c.args.problem.now in
     let within = given_within g c.in-Some.list.now c.in-Some.ensures.order c.in-Some.ensures.within in
     let late : (p : ℕ) → p < process_count g → is_early g c.in-Some.list.now p ≡ false = subst
-    (λ xs. (p : ℕ) → p < process_count g → is_early g xs p ≡ false) c.in_ok-order.ensures c.in_default-first_early.ensures.none in
+    (λ xs. (p : ℕ) → p < process_count g → is_early g xs p ≡ false) c.in_ok-order.ensures
+    c.in_default-first_early.ensures.none in
     gives_topological g c.in-Some.list.now c.in-Some.ensures.order
-    (none_early g c.in-Some.list.now within c.in_default-lacking.ensures.none c.requires.0 c.requires.1 c.in-Some.ensures.within late)
+    (none_early g c.in-Some.list.now within c.in_default-lacking.ensures.none c.requires.0 c.requires.1
+    c.in-Some.ensures.within late)

@@ -16,7 +16,8 @@ returns-then-place c =
     let from = rw c.edges-edge-items.ensures.edges at c.place.ensures.place in
     let inside : c.args.process < length c.args.order.now = omega (arith, c.requires.process, c.requires.order) in
     sym (early_by g c.args.order.now c.args.process e l at
-    (comes_before_at c.args.order.now c.place-place.ensures.order c.args.process (source g e) c.place-place.result c.place.result inside c.place-place.ensures.place from c.if-place.true))
+    (comes_before_at c.args.order.now c.place-place.ensures.order c.args.process
+    (source g e) c.place-place.result c.place.result inside c.place-place.ensures.place from c.if-place.true))
 
 pub loop-edge-preserved : goal.loop-edge-preserved
 loop-edge-preserved c e l at =
@@ -28,7 +29,8 @@ loop-edge-preserved c e l at =
             let from = rw c.edges-edge-items.ensures.edges at w.place.ensures.place in
             subst (λ f. comes_before c.args.order.now c.args.process (source g f) ≡ false) (sym same)
             (false_from_ne_true (comes_before c.args.order.now c.args.process (source g i))
-            (not_before_at c.args.order.now c.args.process (source g i) c.place-place.result w.place.result c.place-place.ensures.place from w.if-place.false))
+            (not_before_at c.args.order.now c.args.process
+            (source g i) c.place-place.result w.place.result c.place-place.ensures.place from w.if-place.false))
         | inr other ↦ c.loop-edge.invariant e (omega (arith, l, other)) at
       ]
       | else-edge-process w ↦ elim (cases_eq e i) [

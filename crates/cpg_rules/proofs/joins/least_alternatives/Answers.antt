@@ -8,7 +8,8 @@ pub steps_of-requires : goal.steps_of-requires
 steps_of-requires c = length_order (process_count c.args.problem.now) c.args.order.now c.requires.topological.all
 
 pub least_by-requires-clause-roots : goal.least_by-requires-clause-roots
-least_by-requires-clause-roots c = roots_stay c.args.parts.now c.loop-process.parts (process_count c.args.problem.now) c.args.roots.now c.loop-process.invariant.more c.requires.roots
+least_by-requires-clause-roots c = roots_stay c.args.parts.now c.loop-process.parts
+    (process_count c.args.problem.now) c.args.roots.now c.loop-process.invariant.more c.requires.roots
 
 pub least_by-requires-clause-guards : goal.least_by-requires-clause-guards
 least_by-requires-clause-guards c = trees_stay c.args.problem.now c.args.parts.now c.loop-process.parts c.args.roots.now

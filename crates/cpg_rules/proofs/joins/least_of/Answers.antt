@@ -10,15 +10,21 @@ use Rattle.cpg_rules.proofs.joins.least_of.Goals as goal
 
 pub found_from-requires : goal.found_from-requires
 found_from-requires c = rw (c.as_slice.ensures.value, c.in_ok-steps.ensures, c.requires.steps)
-    (all_rested (IsStepBelow 128) (Process c.args.process) _ (steps_below c.args.problem.now c.args.order.now c.requires.topological 128 c.processes.ensures.within.few_processes))
+    (all_rested (IsStepBelow 128) (Process c.args.process) _ (steps_below c.args.problem.now c.args.order.now
+    c.requires.topological 128 c.processes.ensures.within.few_processes))
 
 pub returns-in-None-clause-none : goal.returns-in-None-clause-none
-returns-in-None-clause-none c = λ values join long. rested_none c.args.problem.now c.args.order.now c.requires.topological c.processes.ensures.within.few_processes c.args.process c.requires.process
+returns-in-None-clause-none c = λ values join long. rested_none c.args.problem.now c.args.order.now
+    c.requires.topological c.processes.ensures.within.few_processes c.args.process c.requires.process
     (ap (λ s. found_from c.args.process (rested (Process c.args.process) s) (replicate 128 None)) (sym c.requires.steps)
-    ∙ ap (λ s. found_from c.args.process s (replicate 128 None)) (sym (c.as_slice.ensures.value ∙ c.in_ok-steps.ensures)) ∙ sym c.in-None.ensures) values
+    ∙ ap (λ s. found_from c.args.process s (replicate 128 None))
+    (sym (c.as_slice.ensures.value ∙ c.in_ok-steps.ensures)) ∙ sym c.in-None.ensures) values
 
 pub returns-clause-some : goal.returns-clause-some
-returns-clause-some c = subst (IsLeast c.args.problem.now c.args.order.now (λ s. has_two_live c.args.problem.now s.values c.args.process ≡ true)) (sym c.in_ok-least-in-Some.ensures)
-    (rested_some c.args.problem.now c.args.order.now c.requires.topological c.processes.ensures.within.few_processes c.args.process c.requires.process c.in-Some.standings
+returns-clause-some c = subst (IsLeast c.args.problem.now c.args.order.now
+    (λ s. has_two_live c.args.problem.now s.values c.args.process ≡ true)) (sym c.in_ok-least-in-Some.ensures)
+    (rested_some c.args.problem.now c.args.order.now c.requires.topological c.processes.ensures.within.few_processes
+    c.args.process c.requires.process c.in-Some.standings
     (ap (λ s. found_from c.args.process (rested (Process c.args.process) s) (replicate 128 None)) (sym c.requires.steps)
-    ∙ ap (λ s. found_from c.args.process s (replicate 128 None)) (sym (c.as_slice.ensures.value ∙ c.in_ok-steps.ensures)) ∙ sym c.in-Some.ensures))
+    ∙ ap (λ s. found_from c.args.process s (replicate 128 None))
+    (sym (c.as_slice.ensures.value ∙ c.in_ok-steps.ensures)) ∙ sym c.in-Some.ensures))

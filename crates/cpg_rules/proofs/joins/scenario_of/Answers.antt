@@ -8,11 +8,16 @@ bounds-standings-process c =
     let within = c.loop-condition-test.true in
     let count = c.conditions-condition-end.ensures.count in
     let few = c.requires in
-    omega (arith, process_of_below c.args.problem.now c.loop-condition.condition (omega arith), c.process_of-process.ensures.process)
+    omega (
+      arith,
+      process_of_below c.args.problem.now c.loop-condition.condition (omega arith),
+      c.process_of-process.ensures.process,
+    )
 
 pub returns : goal.returns
 returns c =
     let done = c.loop-condition-test.false in
     let count = c.conditions-condition-end.ensures.count in
-    scenario_given c.args.problem.now c.args.standings.now c.loop-condition.scenario c.loop-condition.invariant.long c.loop-condition.invariant.faults
+    scenario_given c.args.problem.now c.args.standings.now c.loop-condition.scenario c.loop-condition.invariant.long
+    c.loop-condition.invariant.faults
     (λ d l. c.loop-condition.invariant.given d (omega arith))

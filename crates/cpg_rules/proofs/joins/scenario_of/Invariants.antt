@@ -7,5 +7,6 @@ abbrev pub invariant-loop-condition : goal.invariant-loop-condition
 invariant-loop-condition l = record {
   long : length l.scenario.values ≡ condition_count l.problem;
   faults : l.scenario.faults ≡ replicate (process_count l.problem) 0;
-  given : (c : ℕ) → c < l.condition → get_or l.scenario.values c false ≡ is_set (get_or l.standings (process_of l.problem c) None);
+  given : (c : ℕ) → c < l.condition →
+      get_or l.scenario.values c false ≡ is_set (get_or l.standings (process_of l.problem c) None);
 }

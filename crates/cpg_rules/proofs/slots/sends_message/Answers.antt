@@ -7,10 +7,12 @@ use Rattle.cpg_rules.proofs.slots.sends_message.Goals as goal
 pub returns-then-is_message_of : goal.returns-then-is_message_of
 returns-then-is_message_of c =
     let within = c.loop-edge-test.true in
-    sym (any_there (λ e. is_message_of c.args.problem.now e c.args.node) (edge_count c.args.problem.now) c.loop-edge.edge (omega (arith, ap length c.edges.ensures.edges))
+    sym (any_there (λ e. is_message_of c.args.problem.now e c.args.node)
+    (edge_count c.args.problem.now) c.loop-edge.edge (omega (arith, ap length c.edges.ensures.edges))
     (sym c.if-is_message_of.ensures))
 
 pub returns : goal.returns
 returns c =
     let done = c.loop-edge-test.false in
-    sym (any_nowhere (λ e. is_message_of c.args.problem.now e c.args.node) (edge_count c.args.problem.now) (λ e l. c.loop-edge.invariant e (omega (arith, ap length c.edges.ensures.edges))))
+    sym (any_nowhere (λ e. is_message_of c.args.problem.now e c.args.node) (edge_count c.args.problem.now)
+    (λ e l. c.loop-edge.invariant e (omega (arith, ap length c.edges.ensures.edges))))

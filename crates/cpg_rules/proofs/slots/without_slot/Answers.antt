@@ -5,4 +5,5 @@ use Rattle.cpg_rules.proofs.slots.without_slot.Goals as goal
 pub returns-clause-none : goal.returns-clause-none
 returns-clause-none c =
     let done = c.loop-node-test.false in
-    senders_have_slots c.args.problem.now c.nodes.ensures.within (λ n l. c.loop-node.invariant n (omega (arith, ap length c.nodes.ensures.nodes)))
+    senders_have_slots c.args.problem.now c.nodes.ensures.within
+    (λ n l. c.loop-node.invariant n (omega (arith, ap length c.nodes.ensures.nodes)))

@@ -4,4 +4,5 @@ use Rattle.cpg_rules.specs.Growing.{is_live_in}
 use Rattle.cpg_rules.proofs.steps.are_live.Given as goal
 
 abbrev pub invariant-loop-input : goal.invariant-loop-input
-invariant-loop-input l = list_all (is_live_in l.standings) l.inputs ≡ list_all (is_live_in l.standings) (drop l.input-index l.inputs)
+invariant-loop-input l =
+    list_all (is_live_in l.standings) l.inputs ≡ list_all (is_live_in l.standings) (drop l.input-index l.inputs)

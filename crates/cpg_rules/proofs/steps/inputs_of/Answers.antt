@@ -4,9 +4,11 @@ use Rattle.cpg_rules.proofs.steps.inputs_of.Goals.{then-ends-process+in_ok-push,
 
 pub loop-edge-preserved : goal.loop-edge-preserved
 loop-edge-preserved c = elim c.if-ends-process.branch [
-  | then-ends-process+in_ok-push w ↦ one_more c.args.problem.now c.edges-ends-items.result.now c.edges-ends-items.ensures.edges c.args.process c.loop-edge.edge c.loop-edge.found.items
+  | then-ends-process+in_ok-push w ↦ one_more c.args.problem.now c.edges-ends-items.result.now
+      c.edges-ends-items.ensures.edges c.args.process c.loop-edge.edge c.loop-edge.found.items
       c.loop-edge.invariant
       c.if-ends-process.found.items w.if-ends-process.true (rw w.found-is w.in_ok-push.ensures.items)
-  | else-ends-process w ↦ rw w.found-is (none_more c.args.problem.now c.edges-ends-items.result.now c.edges-ends-items.ensures.edges c.args.process c.loop-edge.edge c.loop-edge.found.items
+  | else-ends-process w ↦ rw w.found-is (none_more c.args.problem.now c.edges-ends-items.result.now
+      c.edges-ends-items.ensures.edges c.args.process c.loop-edge.edge c.loop-edge.found.items
       c.loop-edge.invariant w.if-ends-process.false)
 ]

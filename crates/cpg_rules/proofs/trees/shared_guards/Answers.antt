@@ -20,26 +20,34 @@ pub steps_of-requires : goal.steps_of-requires
 steps_of-requires c = length_order (process_count c.args.problem.now) c.args.order.now c.requires.all
 
 pub tracks-requires : goal.tracks-requires
-tracks-requires c = rw (c.as_slice-2.ensures.value, c.in_ok-choosing.ensures, c.as_slice.ensures.value, c.in_ok-steps.ensures)
-    (all_rested (IsStepBelow 128) Conditions _ (steps_below c.args.problem.now c.args.order.now c.requires 128 c.processes-count.ensures.within.few_processes))
+tracks-requires c =
+    rw (c.as_slice-2.ensures.value, c.in_ok-choosing.ensures, c.as_slice.ensures.value, c.in_ok-steps.ensures)
+    (all_rested (IsStepBelow 128) Conditions _
+    (steps_below c.args.problem.now c.args.order.now c.requires 128 c.processes-count.ensures.within.few_processes))
 
 -- the number of tracks, if it is not past the most that are counted
-counted : (steps whole : List ActivationStep) (result all : ℕ) → result ≡ min 16385 (tracks_from steps (replicate 128 None)) → steps ≡ rested Conditions whole →
+counted : (steps whole : List ActivationStep) (result all : ℕ) →
+    result ≡ min 16385 (tracks_from steps (replicate 128 None)) →
+    steps ≡ rested Conditions whole →
     tracks_from whole (replicate 128 None) ≡ all
     → result ≡ min 16385 all
-counted steps whole result all is along are = is ∙ ap (λ s. min 16385 (tracks_from s (replicate 128 None))) along ∙ ap (min 16385) (tracks_rested whole (replicate 128 None) ∙ are)
+counted steps whole result all is along are = is ∙ ap (λ s. min 16385 (tracks_from s (replicate 128 None))) along
+    ∙ ap (min 16385) (tracks_rested whole (replicate 128 None) ∙ are)
 
 pub returns-then-tracks-gt-MOST_TRACKS-clause-many :
     goal.returns-then-tracks-gt-MOST_TRACKS-clause-many
 returns-then-tracks-gt-MOST_TRACKS-clause-many c = λ e.
-    let is = counted c.as_slice-2.result.now (map (step_of c.args.problem.now) c.args.order.now) c.tracks.result _ c.tracks.ensures
-    (c.as_slice-2.ensures.value ∙ c.in_ok-choosing.ensures ∙ ap (rested Conditions) (c.as_slice.ensures.value ∙ c.in_ok-steps.ensures))
+    let is = counted c.as_slice-2.result.now
+    (map (step_of c.args.problem.now) c.args.order.now) c.tracks.result _ c.tracks.ensures
+    (c.as_slice-2.ensures.value ∙ c.in_ok-choosing.ensures
+    ∙ ap (rested Conditions) (c.as_slice.ensures.value ∙ c.in_ok-steps.ensures))
     (tracks_counted c.args.problem.now c.args.order.now c.requires c.processes-count.ensures.within.few_processes) in
     let over = c.if-tracks-gt-MOST_TRACKS.true in
     omega arith
 
 pub ranks_of-requires : goal.ranks_of-requires
-ranks_of-requires c = let long = length_order (process_count c.args.problem.now) c.args.order.now c.requires.all in omega (arith, long)
+ranks_of-requires c = let long = length_order (process_count c.args.problem.now) c.args.order.now c.requires.all in
+    omega (arith, long)
 
 pub composed_along-requires-clause-steps : goal.composed_along-requires-clause-steps
 composed_along-requires-clause-steps c = rw (c.as_slice-3.ensures.value, c.in_ok-steps.ensures)
@@ -50,25 +58,36 @@ abbrev made_guards : (conditions : ℕ) (trees : List Guard) (edges : List EdgeG
 made_guards conditions trees edges = record { conditions = conditions; trees = trees; edges = edges }
 
 pub invariant_of-guards : goal.invariant_of-guards
-invariant_of-guards c = guards_below c.args.problem.now c.args.order.now c.requires (made_guards c.conditions.result c.in_ok-trees.trees.items c.in_ok-edges.edges.items)
-    (made c.args.problem.now c.args.order.now c.requires c.seeds.new.parts.ranks (c.in_ok-seeds.ensures.more.ranks ∙ c.in_ok-parts.ensures.ranks ∙ c.in_ok-ranks.ensures)
-    c.as_slice-3.result.now (c.as_slice-3.ensures.value ∙ c.in_ok-steps.ensures) (trees_of c.seeds.new.parts.parts c.in_ok-seeds.seeds.items)
-    (c.in_ok-seeds.ensures.trees ∙ ap (λ n. replicate n (Leaf Inactive)) (ap length c.processes-count.ensures.processes))
+invariant_of-guards c = guards_below c.args.problem.now c.args.order.now c.requires
+    (made_guards c.conditions.result c.in_ok-trees.trees.items c.in_ok-edges.edges.items)
+    (made c.args.problem.now c.args.order.now c.requires c.seeds.new.parts.ranks
+    (c.in_ok-seeds.ensures.more.ranks ∙ c.in_ok-parts.ensures.ranks ∙ c.in_ok-ranks.ensures)
+    c.as_slice-3.result.now (c.as_slice-3.ensures.value ∙ c.in_ok-steps.ensures)
+    (trees_of c.seeds.new.parts.parts c.in_ok-seeds.seeds.items)
+    (c.in_ok-seeds.ensures.trees
+    ∙ ap (λ n. replicate n (Leaf Inactive)) (ap length c.processes-count.ensures.processes))
     (made_guards c.conditions.result c.in_ok-trees.trees.items c.in_ok-edges.edges.items) c.conditions.ensures.count
-    (c.in_ok-trees.ensures ∙ ap (trees_of c.composed_along.new.parts.parts) c.as_slice-4.ensures.value ∙ c.in_ok-roots.ensures.trees) c.in_ok-edges.ensures)
+    (c.in_ok-trees.ensures ∙ ap (trees_of c.composed_along.new.parts.parts) c.as_slice-4.ensures.value
+    ∙ c.in_ok-roots.ensures.trees) c.in_ok-edges.ensures)
 
 pub returns-clause-guards : goal.returns-clause-guards
 returns-clause-guards c =
-    made c.args.problem.now c.args.order.now c.requires c.seeds.new.parts.ranks (c.in_ok-seeds.ensures.more.ranks ∙ c.in_ok-parts.ensures.ranks ∙ c.in_ok-ranks.ensures)
-    c.as_slice-3.result.now (c.as_slice-3.ensures.value ∙ c.in_ok-steps.ensures) (trees_of c.seeds.new.parts.parts c.in_ok-seeds.seeds.items)
-    (c.in_ok-seeds.ensures.trees ∙ ap (λ n. replicate n (Leaf Inactive)) (ap length c.processes-count.ensures.processes))
+    made c.args.problem.now c.args.order.now c.requires c.seeds.new.parts.ranks
+    (c.in_ok-seeds.ensures.more.ranks ∙ c.in_ok-parts.ensures.ranks ∙ c.in_ok-ranks.ensures)
+    c.as_slice-3.result.now (c.as_slice-3.ensures.value ∙ c.in_ok-steps.ensures)
+    (trees_of c.seeds.new.parts.parts c.in_ok-seeds.seeds.items)
+    (c.in_ok-seeds.ensures.trees
+    ∙ ap (λ n. replicate n (Leaf Inactive)) (ap length c.processes-count.ensures.processes))
     (made_guards c.conditions.result c.in_ok-trees.trees.items c.in_ok-edges.edges.items) c.conditions.ensures.count
-    (c.in_ok-trees.ensures ∙ ap (trees_of c.composed_along.new.parts.parts) c.as_slice-4.ensures.value ∙ c.in_ok-roots.ensures.trees) c.in_ok-edges.ensures
+    (c.in_ok-trees.ensures ∙ ap (trees_of c.composed_along.new.parts.parts) c.as_slice-4.ensures.value
+    ∙ c.in_ok-roots.ensures.trees) c.in_ok-edges.ensures
 
 pub returns-clause-few : goal.returns-clause-few
 returns-clause-few c =
-    let is = counted c.as_slice-2.result.now (map (step_of c.args.problem.now) c.args.order.now) c.tracks.result _ c.tracks.ensures
-    (c.as_slice-2.ensures.value ∙ c.in_ok-choosing.ensures ∙ ap (rested Conditions) (c.as_slice.ensures.value ∙ c.in_ok-steps.ensures))
+    let is = counted c.as_slice-2.result.now
+    (map (step_of c.args.problem.now) c.args.order.now) c.tracks.result _ c.tracks.ensures
+    (c.as_slice-2.ensures.value ∙ c.in_ok-choosing.ensures
+    ∙ ap (rested Conditions) (c.as_slice.ensures.value ∙ c.in_ok-steps.ensures))
     (tracks_counted c.args.problem.now c.args.order.now c.requires c.processes-count.ensures.within.few_processes) in
     let under = c.if-tracks-gt-MOST_TRACKS.false in
     omega arith

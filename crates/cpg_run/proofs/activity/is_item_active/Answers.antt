@@ -4,13 +4,20 @@ use Rattle.cpg_run.proofs.Senders.{broadcast_active, message_active, queued_abov
 use Rattle.cpg_run.proofs.activity.is_item_active.Goals as goal
 
 pub returns-then-item-processes : goal.returns-then-item-processes
-returns-then-item-processes c = sym (broadcast_active c.args.problem.now c.args.scenario.now.values c.args.process c.args.item c.requires.item c.requires.active
+returns-then-item-processes c = sym (broadcast_active c.args.problem.now c.args.scenario.now.values c.args.process
+    c.args.item c.requires.item c.requires.active
     (omega (arith, ap length c.processes.ensures.processes, ap length c.edges.ensures.edges, c.if-item-processes.true)))
 
 pub overflow_sub-item : goal.overflow_sub-item
-overflow_sub-item c = omega (arith, ap length c.processes.ensures.processes, queued_above c.args.problem.now c.args.scenario.now.values c.args.process c.args.item c.requires.item)
+overflow_sub-item c = omega (
+  arith,
+  ap length c.processes.ensures.processes,
+  queued_above c.args.problem.now c.args.scenario.now.values c.args.process c.args.item c.requires.item,
+)
 
 pub returns : goal.returns
-returns c = c.is_live.ensures ∙ ap (λ n. live c.args.problem.now c.args.scenario.now.values (c.args.item - n)) (ap length c.processes.ensures.processes)
+returns c = c.is_live.ensures ∙ ap (λ n. live c.args.problem.now c.args.scenario.now.values (c.args.item - n))
+    (ap length c.processes.ensures.processes)
     ∙ sym (message_active c.args.problem.now c.args.scenario.now.values c.args.process c.args.item c.requires.item
-    (omega (arith, ap length c.processes.ensures.processes, ap length c.edges.ensures.edges, c.if-item-processes.false)))
+    (omega
+    (arith, ap length c.processes.ensures.processes, ap length c.edges.ensures.edges, c.if-item-processes.false)))

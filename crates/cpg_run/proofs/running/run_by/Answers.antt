@@ -9,8 +9,11 @@ pub returns : goal.returns
 returns c =
     let g = c.args.setting.now.problem.now in
     let order = c.args.setting.now.order.now in
-    let all : c.loop-place.place ≡ process_count g = omega (arith, ap length c.processes.ensures.processes, c.loop-place-test.false, c.loop-place.auto.place-end) in
+    let all : c.loop-place.place ≡ process_count g =
+    omega (arith, ap length c.processes.ensures.processes, c.loop-place-test.false, c.loop-place.auto.place-end) in
     let at = c.loop-place.invariant in
     subst (IsRun g order c.args.frozen.now c.args.scenario.now) (sym c.finished.ensures)
-    (at_last g order c.requires.setting.topological c.args.frozen.now c.args.scenario.now c.loop-place.progress.known at.places.times at.places.ends
-    (λ t run. (subst (λ i. IsAt g order c.args.scenario.now t i c.loop-place.progress.known c.loop-place.progress.ready c.loop-place.progress.free) all (at.at t run)).knows))
+    (at_last g order c.requires.setting.topological c.args.frozen.now c.args.scenario.now c.loop-place.progress.known
+    at.places.times at.places.ends
+    (λ t run. (subst (λ i. IsAt g order c.args.scenario.now t i c.loop-place.progress.known c.loop-place.progress.ready
+    c.loop-place.progress.free) all (at.at t run)).knows))

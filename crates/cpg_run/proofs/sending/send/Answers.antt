@@ -1,4 +1,5 @@
-use Rattle.std.proofs.Common.{◌≡◌, ◌∙◌, ℕ, ◌<◌, ◌+◌, List, length, length-set, get_or, set, Contains, Some, refl, sym, ap, subst, arith}
+use Rattle.std.proofs.Common.{◌≡◌, ◌∙◌, ℕ, ◌<◌, ◌+◌, List, length, length-set, get_or, set, Contains, Some, refl, sym}
+use Rattle.std.proofs.Common.{ap, subst, arith}
 use Rattle.std.proofs.lemmas.List.Elements.{Contains-get_or}
 use Rattle.cpg_base.specs.Graph.{item_at, node_of}
 use Rattle.cpg_base.specs.Activity.{item_active}
@@ -21,7 +22,8 @@ item_queued xs qs k l is = subst (λ ys. Contains ys (get_or xs k 0)) is (Contai
 
 pub loop-item-init : goal.loop-item-init
 loop-item-init c = record {
-  sent = λ t run. nothing_sent c.args.setting.now.problem.now c.args.setting.now.order.now c.requires.setting.topological c.args.scenario.now c.args.process c.requires.process t c.args.known.now
+  sent = λ t run. nothing_sent c.args.setting.now.problem.now c.args.setting.now.order.now
+      c.requires.setting.topological c.args.scenario.now c.args.process c.requires.process t c.args.known.now
       c.args.free (c.requires.can t run);
   keeps = record { times = refl; ends = refl };
 }
@@ -30,89 +32,127 @@ pub send_time-time-requires-clause-slot : goal.send_time-time-requires-clause-sl
 send_time-time-requires-clause-slot c =
     let a = c.requires.setting.admitted in
     subst (HasSlot c.args.setting.now.problem.now) (sym c.node_of-node.ensures.node)
-    (queued_slot c.args.setting.now.problem.now a.1.slots c.args.process (get_or c.queue-item-items.result.now c.loop-item.item-index 0)
-    (item_queued c.queue-item-items.result.now (queue_of c.args.setting.now.problem.now c.args.process) c.loop-item.item-index c.loop-item-test.true c.queue-item-items.ensures))
+    (queued_slot c.args.setting.now.problem.now a.1.slots c.args.process
+    (get_or c.queue-item-items.result.now c.loop-item.item-index 0)
+    (item_queued c.queue-item-items.result.now (queue_of c.args.setting.now.problem.now c.args.process)
+    c.loop-item.item-index c.loop-item-test.true c.queue-item-items.ensures))
 
 pub send_time-time-requires-clause-frozen : goal.send_time-time-requires-clause-frozen
 send_time-time-requires-clause-frozen c =
-    let x = in_queue c.args.setting.now.problem.now c.args.process (get_or c.queue-item-items.result.now c.loop-item.item-index 0)
-    (item_queued c.queue-item-items.result.now (queue_of c.args.setting.now.problem.now c.args.process) c.loop-item.item-index c.loop-item-test.true c.queue-item-items.ensures) in
+    let x = in_queue c.args.setting.now.problem.now c.args.process
+    (get_or c.queue-item-items.result.now c.loop-item.item-index 0)
+    (item_queued c.queue-item-items.result.now (queue_of c.args.setting.now.problem.now c.args.process)
+    c.loop-item.item-index c.loop-item-test.true c.queue-item-items.ensures) in
     omega (arith, x.within, c.requires.frozen)
 
 pub send_time-time-requires-clause-early : goal.send_time-time-requires-clause-early
 send_time-time-requires-clause-early c =
     let a = c.requires.setting.admitted in
-    let r = a_run c.args.setting.now.problem.now c.args.setting.now.order.now c.args.frozen.now c.args.scenario.now c.requires.setting.topological in
-    let small = run_small c.args.setting.now.problem.now c.args.setting.now.order.now c.args.frozen.now c.args.scenario.now r.0 a.1.limits c.requires.setting.topological c.requires.scenario
+    let r = a_run c.args.setting.now.problem.now c.args.setting.now.order.now c.args.frozen.now c.args.scenario.now
+    c.requires.setting.topological in
+    let small = run_small c.args.setting.now.problem.now c.args.setting.now.order.now c.args.frozen.now
+    c.args.scenario.now r.0 a.1.limits c.requires.setting.topological c.requires.scenario
     c.requires.early r.1 in
     omega (arith, c.end-end.ensures, (c.requires.can r.0 r.1).ends, small.ends c.args.process)
 
 pub set_time-requires : goal.set_time-requires
 set_time-requires c =
-    let x = in_queue c.args.setting.now.problem.now c.args.process (get_or c.queue-item-items.result.now c.loop-item.item-index 0)
-    (item_queued c.queue-item-items.result.now (queue_of c.args.setting.now.problem.now c.args.process) c.loop-item.item-index c.loop-item-test.true c.queue-item-items.ensures) in
+    let x = in_queue c.args.setting.now.problem.now c.args.process
+    (get_or c.queue-item-items.result.now c.loop-item.item-index 0)
+    (item_queued c.queue-item-items.result.now (queue_of c.args.setting.now.problem.now c.args.process)
+    c.loop-item.item-index c.loop-item-test.true c.queue-item-items.ensures) in
     omega (arith, x.within, c.requires.times, c.loop-item.invariant.keeps.times)
 
 pub overflow_add-free : goal.overflow_add-free
 overflow_add-free c =
     let a = c.requires.setting.admitted in
-    let r = a_run c.args.setting.now.problem.now c.args.setting.now.order.now c.args.frozen.now c.args.scenario.now c.requires.setting.topological in
-    let small = run_small c.args.setting.now.problem.now c.args.setting.now.order.now c.args.frozen.now c.args.scenario.now r.0 a.1.limits c.requires.setting.topological c.requires.scenario
+    let r = a_run c.args.setting.now.problem.now c.args.setting.now.order.now c.args.frozen.now c.args.scenario.now
+    c.requires.setting.topological in
+    let small = run_small c.args.setting.now.problem.now c.args.setting.now.order.now c.args.frozen.now
+    c.args.scenario.now r.0 a.1.limits c.requires.setting.topological c.requires.scenario
     c.requires.early r.1 in
     let qs = queue_of c.args.setting.now.problem.now c.args.process in
     let here = ap (λ xs. get_or xs c.loop-item.item-index 0) c.queue-item-items.ensures in
-    let inside : c.loop-item.item-index < length qs = omega (arith, ap length c.queue-item-items.ensures, c.loop-item-test.true) in
-    let acts = ap (λ x. item_active c.args.setting.now.problem.now c.args.scenario.now.values (item_at c.args.setting.now.problem.now x)) (sym here) ∙ sym c.is_item_active.ensures ∙
+    let inside : c.loop-item.item-index < length qs =
+    omega (arith, ap length c.queue-item-items.ensures, c.loop-item-test.true) in
+    let acts = ap (λ x. item_active c.args.setting.now.problem.now c.args.scenario.now.values
+    (item_at c.args.setting.now.problem.now x)) (sym here) ∙ sym c.is_item_active.ensures ∙
     c.if-is_item_active.true in
-    let at = found_is c.args.setting.now.problem.now c.args.frozen.now c.send_time-time.result c.loop-item.free c.node_of-node.result
+    let at = found_is c.args.setting.now.problem.now c.args.frozen.now c.send_time-time.result c.loop-item.free
+    c.node_of-node.result
     (node_of c.args.setting.now.problem.now c.args.process) c.end-end.result (end_in r.0 c.args.process)
-    (get_or c.queue-item-items.result.now c.loop-item.item-index 0) (get_or qs c.loop-item.item-index 0) c.send_time-time.ensures c.node_of-node.ensures.node
+    (get_or c.queue-item-items.result.now c.loop-item.item-index 0)
+    (get_or qs c.loop-item.item-index 0) c.send_time-time.ensures c.node_of-node.ensures.node
     (c.end-end.ensures ∙ (c.requires.can r.0 r.1).ends) here in
-    let is = send_is c.args.setting.now.problem.now c.args.setting.now.order.now c.requires.setting.topological c.args.scenario.now c.args.process c.requires.process c.loop-item.item-index inside
+    let is = send_is c.args.setting.now.problem.now c.args.setting.now.order.now c.requires.setting.topological
+    c.args.scenario.now c.args.process c.requires.process c.loop-item.item-index inside
     c.args.frozen.now r.0 r.1 c.loop-item.free
     (c.loop-item.invariant.sent r.0 r.1).slots_free acts in
-    omega (arith, at, is, small.times (get_or qs c.loop-item.item-index 0), c.round-round.ensures, round-le c.args.setting.now.problem.now a.1.limits)
+    omega (
+      arith,
+      at,
+      is,
+      small.times (get_or qs c.loop-item.item-index 0),
+      c.round-round.ensures,
+      round-le c.args.setting.now.problem.now a.1.limits,
+    )
 
 pub loop-item-preserved : goal.loop-item-preserved
 loop-item-preserved c =
     let qs = queue_of c.args.setting.now.problem.now c.args.process in
     let here = ap (λ xs. get_or xs c.loop-item.item-index 0) c.queue-item-items.ensures in
-    let inside : c.loop-item.item-index < length qs = omega (arith, ap length c.queue-item-items.ensures, c.loop-item-test.true) in
+    let inside : c.loop-item.item-index < length qs =
+    omega (arith, ap length c.queue-item-items.ensures, c.loop-item-test.true) in
     elim c.if-is_item_active.branch [
       | then-is_item_active w ↦
-          let acts = ap (λ x. item_active c.args.setting.now.problem.now c.args.scenario.now.values (item_at c.args.setting.now.problem.now x)) (sym here) ∙ sym c.is_item_active.ensures ∙
+          let acts = ap (λ x. item_active c.args.setting.now.problem.now c.args.scenario.now.values
+          (item_at c.args.setting.now.problem.now x)) (sym here) ∙ sym c.is_item_active.ensures ∙
           w.if-is_item_active.true in
-          let x = in_queue c.args.setting.now.problem.now c.args.process (get_or qs c.loop-item.item-index 0) (Contains-get_or qs c.loop-item.item-index 0 inside) in
-          let times : c.if-is_item_active.known.times ≡ set c.loop-item.known.times (get_or qs c.loop-item.item-index 0) (Some w.send_time-time.result) =
-          ap (λ (k : Times). k.times) (w.known-is ∙ w.set_time.ensures) ∙ ap (λ y. set c.loop-item.known.times y (Some w.send_time-time.result)) here in
+          let x = in_queue c.args.setting.now.problem.now c.args.process (get_or qs c.loop-item.item-index 0)
+          (Contains-get_or qs c.loop-item.item-index 0 inside) in
+          let times : c.if-is_item_active.known.times
+          ≡ set c.loop-item.known.times (get_or qs c.loop-item.item-index 0) (Some w.send_time-time.result) =
+          ap (λ (k : Times). k.times) (w.known-is ∙ w.set_time.ensures)
+          ∙ ap (λ y. set c.loop-item.known.times y (Some w.send_time-time.result)) here in
           record {
             sent = λ t run.
                 let has = c.loop-item.invariant.sent t run in
-                let at = found_is c.args.setting.now.problem.now c.args.frozen.now w.send_time-time.result c.loop-item.free c.node_of-node.result
+                let at = found_is c.args.setting.now.problem.now c.args.frozen.now w.send_time-time.result
+                c.loop-item.free c.node_of-node.result
                 (node_of c.args.setting.now.problem.now c.args.process) c.end-end.result (end_in t c.args.process)
-                (get_or c.queue-item-items.result.now c.loop-item.item-index 0) (get_or qs c.loop-item.item-index 0) w.send_time-time.ensures c.node_of-node.ensures.node
+                (get_or c.queue-item-items.result.now c.loop-item.item-index 0)
+                (get_or qs c.loop-item.item-index 0) w.send_time-time.ensures c.node_of-node.ensures.node
                 (c.end-end.ensures ∙ (c.requires.can t run).ends) here in
-                subst (HasSent c.args.setting.now.problem.now c.args.setting.now.order.now c.args.scenario.now t c.args.process
-                (c.loop-item.item-index + 1) c.args.known.now c.if-is_item_active.known) (sym (w.free-is ∙ ap (λ n. w.send_time-time.result + n) c.round-round.ensures))
-                (sent_active c.args.setting.now.problem.now c.args.setting.now.order.now c.requires.setting.topological c.args.scenario.now c.args.process c.requires.process c.args.frozen.now t run
+                subst (HasSent c.args.setting.now.problem.now c.args.setting.now.order.now c.args.scenario.now
+                t c.args.process
+                (c.loop-item.item-index + 1) c.args.known.now c.if-is_item_active.known)
+                (sym (w.free-is ∙ ap (λ n. w.send_time-time.result + n) c.round-round.ensures))
+                (sent_active c.args.setting.now.problem.now c.args.setting.now.order.now c.requires.setting.topological
+                c.args.scenario.now c.args.process c.requires.process c.args.frozen.now t run
                 c.args.known.now c.loop-item.known c.loop-item.item-index c.loop-item.free inside has
-                c.if-is_item_active.known w.send_time-time.result (omega (arith, x.within, c.requires.times, c.loop-item.invariant.keeps.times)) times acts at);
+                c.if-is_item_active.known w.send_time-time.result
+                (omega (arith, x.within, c.requires.times, c.loop-item.invariant.keeps.times)) times acts at);
             keeps = record {
-              times = ap length times ∙ length-set c.loop-item.known.times (get_or qs c.loop-item.item-index 0) (Some w.send_time-time.result) ∙ c.loop-item.invariant.keeps.times;
+              times = ap length times ∙ length-set c.loop-item.known.times (get_or qs c.loop-item.item-index 0)
+                  (Some w.send_time-time.result) ∙ c.loop-item.invariant.keeps.times;
               ends = ap (λ (k : Times). k.ends) (w.known-is ∙ w.set_time.ensures) ∙ c.loop-item.invariant.keeps.ends;
             };
           }
       | else-is_item_active w ↦
-          let idle = ap (λ x. item_active c.args.setting.now.problem.now c.args.scenario.now.values (item_at c.args.setting.now.problem.now x)) (sym here) ∙ sym c.is_item_active.ensures ∙
+          let idle = ap (λ x. item_active c.args.setting.now.problem.now c.args.scenario.now.values
+          (item_at c.args.setting.now.problem.now x)) (sym here) ∙ sym c.is_item_active.ensures ∙
           w.if-is_item_active.false in
           record {
             sent = λ t run.
                 let has = c.loop-item.invariant.sent t run in
-                subst (λ k. HasSent c.args.setting.now.problem.now c.args.setting.now.order.now c.args.scenario.now t c.args.process
+                subst (λ k. HasSent c.args.setting.now.problem.now c.args.setting.now.order.now c.args.scenario.now
+                t c.args.process
                 (c.loop-item.item-index + 1) c.args.known.now k c.if-is_item_active.free) (sym w.known-is)
-                (subst (HasSent c.args.setting.now.problem.now c.args.setting.now.order.now c.args.scenario.now t c.args.process (c.loop-item.item-index + 1) c.args.known.now c.loop-item.known)
+                (subst (HasSent c.args.setting.now.problem.now c.args.setting.now.order.now c.args.scenario.now t
+                c.args.process (c.loop-item.item-index + 1) c.args.known.now c.loop-item.known)
                 (sym w.free-is)
-                (sent_idle c.args.setting.now.problem.now c.args.setting.now.order.now c.requires.setting.topological c.args.scenario.now c.args.process c.requires.process c.args.frozen.now t run
+                (sent_idle c.args.setting.now.problem.now c.args.setting.now.order.now c.requires.setting.topological
+                c.args.scenario.now c.args.process c.requires.process c.args.frozen.now t run
                 c.args.known.now c.loop-item.known c.loop-item.item-index c.loop-item.free inside has
                 (c.requires.can t run).none idle));
             keeps = subst (KeepsEnds c.args.known.now) (sym w.known-is) c.loop-item.invariant.keeps;
@@ -123,5 +163,6 @@ pub returns-clause-sent : goal.returns-clause-sent
 returns-clause-sent c t run =
     let all : c.loop-item.item-index ≡ length (queue_of c.args.setting.now.problem.now c.args.process) =
     omega (arith, ap length c.queue-item-items.ensures, c.loop-item-test.false, c.loop-item.auto.item-index-end) in
-    subst (λ n. HasSent c.args.setting.now.problem.now c.args.setting.now.order.now c.args.scenario.now t c.args.process n c.args.known.now c.loop-item.known c.loop-item.free) all
+    subst (λ n. HasSent c.args.setting.now.problem.now c.args.setting.now.order.now c.args.scenario.now t c.args.process
+    n c.args.known.now c.loop-item.known c.loop-item.free) all
     (c.loop-item.invariant.sent t run)

@@ -16,55 +16,100 @@ node_read : (xs : List ℕ) (v at node : ℕ) → v ≡ get_or xs at v → at < 
 node_read xs v at node is l e = is ∙ get_or_default xs at v 0 l ∙ ap (λ n. get_or xs n 0) e
 
 pub at-process-requires : goal.at-process-requires
-at-process-requires c = omega (arith, c.requires.place, length_order (process_count c.args.setting.now.problem.now) c.args.setting.now.order.now c.requires.setting.topological.all)
+at-process-requires c = omega (
+  arith,
+  c.requires.place,
+  length_order (process_count c.args.setting.now.problem.now) c.args.setting.now.order.now
+      c.requires.setting.topological.all,
+)
 
 pub node_of-node-requires : goal.node_of-node-requires
-node_of-node-requires c = omega (arith, c.at-process.ensures.within, length_order (process_count c.args.setting.now.problem.now) c.args.setting.now.order.now c.requires.setting.topological.all)
+node_of-node-requires c = omega (
+  arith,
+  c.at-process.ensures.within,
+  length_order (process_count c.args.setting.now.problem.now) c.args.setting.now.order.now
+      c.requires.setting.topological.all,
+)
 
 pub decided_there-requires-clause-process : goal.decided_there-requires-clause-process
 decided_there-requires-clause-process c =
-    omega (arith, c.at-process.ensures.within, length_order (process_count c.args.setting.now.problem.now) c.args.setting.now.order.now c.requires.setting.topological.all)
+    omega (
+      arith,
+      c.at-process.ensures.within,
+      length_order (process_count c.args.setting.now.problem.now) c.args.setting.now.order.now
+          c.requires.setting.topological.all,
+    )
 
 pub decided_there-requires-clause-small : goal.decided_there-requires-clause-small
 decided_there-requires-clause-small c =
     let a = c.requires.setting.admitted in
-    let r = a_run c.args.setting.now.problem.now c.args.setting.now.order.now c.args.frozen.now c.args.scenario.now c.requires.setting.topological in
-    known_small c.args.setting.now.problem.now c.args.setting.now.order.now r.0 c.args.place c.args.known.now (c.requires.at r.0 r.1).knows c.requires.places.times c.requires.places.ends
-    (run_small c.args.setting.now.problem.now c.args.setting.now.order.now c.args.frozen.now c.args.scenario.now r.0 a.1.limits c.requires.setting.topological c.requires.scenario c.requires.early r.1)
+    let r = a_run c.args.setting.now.problem.now c.args.setting.now.order.now c.args.frozen.now c.args.scenario.now
+    c.requires.setting.topological in
+    known_small c.args.setting.now.problem.now c.args.setting.now.order.now r.0 c.args.place c.args.known.now
+    (c.requires.at r.0 r.1).knows c.requires.places.times c.requires.places.ends
+    (run_small c.args.setting.now.problem.now c.args.setting.now.order.now c.args.frozen.now c.args.scenario.now r.0
+    a.1.limits c.requires.setting.topological c.requires.scenario c.requires.early r.1)
 
 pub is_active-requires-clause-process : goal.is_active-requires-clause-process
-is_active-requires-clause-process c = omega
-    (arith, c.at-process.ensures.within, length_order (process_count c.args.setting.now.problem.now) c.args.setting.now.order.now c.requires.setting.topological.all)
+is_active-requires-clause-process c = omega (
+  arith,
+  c.at-process.ensures.within,
+  length_order (process_count c.args.setting.now.problem.now) c.args.setting.now.order.now
+      c.requires.setting.topological.all,
+)
 
 pub returns-then-not-is_active-clause-at : goal.returns-then-not-is_active-clause-at
 returns-then-not-is_active-clause-at c t run =
     let l : c.at-process.result < process_count c.args.setting.now.problem.now =
-    omega (arith, c.at-process.ensures.within, length_order (process_count c.args.setting.now.problem.now) c.args.setting.now.order.now c.requires.setting.topological.all) in
-    let on : node_of c.args.setting.now.problem.now c.at-process.result < length c.args.setting.now.problem.now.nodes = omega (arith, c.node_of-node.ensures.node, c.node_of-node.ensures.within) in
-    let is_ready = node_read c.args.nodes.now.ready.items c.index.result.now c.node_of-node.result (node_of c.args.setting.now.problem.now c.at-process.result) c.index.ensures
+    omega (
+      arith,
+      c.at-process.ensures.within,
+      length_order (process_count c.args.setting.now.problem.now) c.args.setting.now.order.now
+          c.requires.setting.topological.all,
+    ) in
+    let on : node_of c.args.setting.now.problem.now c.at-process.result < length c.args.setting.now.problem.now.nodes =
+    omega (arith, c.node_of-node.ensures.node, c.node_of-node.ensures.within) in
+    let is_ready = node_read c.args.nodes.now.ready.items c.index.result.now c.node_of-node.result
+    (node_of c.args.setting.now.problem.now c.at-process.result) c.index.ensures
     (omega (arith, c.node_of-node.ensures.within, c.requires.places.ready_count)) c.node_of-node.ensures.node in
     let ready_at = c.max-ready.ensures ∙ ap (λ n. max n c.in_ok-heard.heard) is_ready in
-    subst (λ n. IsAt c.args.setting.now.problem.now c.args.setting.now.order.now c.args.scenario.now t (c.args.place + 1) c.args.known.now
-    (set c.args.nodes.now.ready.items n c.max-ready.result) c.args.nodes.now.free.items) (sym c.node_of-node.ensures.node)
-    (at_idle c.args.setting.now.problem.now c.args.setting.now.order.now c.requires.setting.topological c.args.frozen.now c.args.scenario.now t run c.args.place c.at-process.result l
+    subst (λ n. IsAt c.args.setting.now.problem.now c.args.setting.now.order.now c.args.scenario.now t
+    (c.args.place + 1) c.args.known.now
+    (set c.args.nodes.now.ready.items n c.max-ready.result) c.args.nodes.now.free.items)
+    (sym c.node_of-node.ensures.node)
+    (at_idle c.args.setting.now.problem.now c.args.setting.now.order.now c.requires.setting.topological
+    c.args.frozen.now c.args.scenario.now t run c.args.place c.at-process.result l
     c.at-process.ensures.back on
-    c.args.known.now c.args.nodes.now.ready.items c.args.nodes.now.free.items (c.requires.at t run) c.requires.places.ready_count c.requires.places.free_count c.in_ok-heard.heard c.in_ok-heard.ensures
+    c.args.known.now c.args.nodes.now.ready.items c.args.nodes.now.free.items (c.requires.at t run)
+    c.requires.places.ready_count c.requires.places.free_count c.in_ok-heard.heard c.in_ok-heard.ensures
     c.max-ready.result (sym c.is_active.ensures ∙ c.if-not-is_active.true) ready_at)
 
 pub start-start-requires-clause-frozen : goal.start-start-requires-clause-frozen
-start-start-requires-clause-frozen c = omega
-    (arith, c.requires.frozen, c.at-process.ensures.within, length_order (process_count c.args.setting.now.problem.now) c.args.setting.now.order.now c.requires.setting.topological.all)
+start-start-requires-clause-frozen c = omega (
+  arith,
+  c.requires.frozen,
+  c.at-process.ensures.within,
+  length_order (process_count c.args.setting.now.problem.now) c.args.setting.now.order.now
+      c.requires.setting.topological.all,
+)
 
 pub start-start-requires-clause-process : goal.start-start-requires-clause-process
-start-start-requires-clause-process c = omega
-    (arith, c.at-process.ensures.within, length_order (process_count c.args.setting.now.problem.now) c.args.setting.now.order.now c.requires.setting.topological.all)
+start-start-requires-clause-process c = omega (
+  arith,
+  c.at-process.ensures.within,
+  length_order (process_count c.args.setting.now.problem.now) c.args.setting.now.order.now
+      c.requires.setting.topological.all,
+)
 
 pub start-start-requires-clause-small : goal.start-start-requires-clause-small
 start-start-requires-clause-small c =
     let a = c.requires.setting.admitted in
-    let r = a_run c.args.setting.now.problem.now c.args.setting.now.order.now c.args.frozen.now c.args.scenario.now c.requires.setting.topological in
-    known_small c.args.setting.now.problem.now c.args.setting.now.order.now r.0 c.args.place c.args.known.now (c.requires.at r.0 r.1).knows c.requires.places.times c.requires.places.ends
-    (run_small c.args.setting.now.problem.now c.args.setting.now.order.now c.args.frozen.now c.args.scenario.now r.0 a.1.limits c.requires.setting.topological c.requires.scenario c.requires.early r.1)
+    let r = a_run c.args.setting.now.problem.now c.args.setting.now.order.now c.args.frozen.now c.args.scenario.now
+    c.requires.setting.topological in
+    known_small c.args.setting.now.problem.now c.args.setting.now.order.now r.0 c.args.place c.args.known.now
+    (c.requires.at r.0 r.1).knows c.requires.places.times c.requires.places.ends
+    (run_small c.args.setting.now.problem.now c.args.setting.now.order.now c.args.frozen.now c.args.scenario.now r.0
+    a.1.limits c.requires.setting.topological c.requires.scenario c.requires.early r.1)
 
 pub fault-requires : goal.fault-requires
 fault-requires c = omega (
@@ -76,21 +121,35 @@ fault-requires c = omega (
 )
 
 pub duration-requires-clause-process : goal.duration-requires-clause-process
-duration-requires-clause-process c = omega
-    (arith, c.at-process.ensures.within, length_order (process_count c.args.setting.now.problem.now) c.args.setting.now.order.now c.requires.setting.topological.all)
+duration-requires-clause-process c = omega (
+  arith,
+  c.at-process.ensures.within,
+  length_order (process_count c.args.setting.now.problem.now) c.args.setting.now.order.now
+      c.requires.setting.topological.all,
+)
 
 pub overflow_add-end : goal.overflow_add-end
 overflow_add-end c =
     let admitted = c.requires.setting.admitted in
-    let r = a_run c.args.setting.now.problem.now c.args.setting.now.order.now c.args.frozen.now c.args.scenario.now c.requires.setting.topological in
+    let r = a_run c.args.setting.now.problem.now c.args.setting.now.order.now c.args.frozen.now c.args.scenario.now
+    c.requires.setting.topological in
     let t = r.0 in
-    let run : IsRun c.args.setting.now.problem.now c.args.setting.now.order.now c.args.frozen.now c.args.scenario.now t = r.1 in
-    let small = run_small c.args.setting.now.problem.now c.args.setting.now.order.now c.args.frozen.now c.args.scenario.now t admitted.1.limits c.requires.setting.topological c.requires.scenario
+    let run : IsRun c.args.setting.now.problem.now c.args.setting.now.order.now c.args.frozen.now
+    c.args.scenario.now t = r.1 in
+    let small = run_small c.args.setting.now.problem.now c.args.setting.now.order.now c.args.frozen.now
+    c.args.scenario.now t admitted.1.limits c.requires.setting.topological c.requires.scenario
     c.requires.early run in
     let l : c.at-process.result < process_count c.args.setting.now.problem.now =
-    omega (arith, c.at-process.ensures.within, length_order (process_count c.args.setting.now.problem.now) c.args.setting.now.order.now c.requires.setting.topological.all) in
-    let on : node_of c.args.setting.now.problem.now c.at-process.result < length c.args.setting.now.problem.now.nodes = omega (arith, c.node_of-node.ensures.node, c.node_of-node.ensures.within) in
-    let is_ready = node_read c.args.nodes.now.ready.items c.index.result.now c.node_of-node.result (node_of c.args.setting.now.problem.now c.at-process.result) c.index.ensures
+    omega (
+      arith,
+      c.at-process.ensures.within,
+      length_order (process_count c.args.setting.now.problem.now) c.args.setting.now.order.now
+          c.requires.setting.topological.all,
+    ) in
+    let on : node_of c.args.setting.now.problem.now c.at-process.result < length c.args.setting.now.problem.now.nodes =
+    omega (arith, c.node_of-node.ensures.node, c.node_of-node.ensures.within) in
+    let is_ready = node_read c.args.nodes.now.ready.items c.index.result.now c.node_of-node.result
+    (node_of c.args.setting.now.problem.now c.at-process.result) c.index.ensures
     (omega (arith, c.node_of-node.ensures.within, c.requires.places.ready_count)) c.node_of-node.ensures.node in
     let ready_at = c.max-ready.ensures ∙ ap (λ n. max n c.in_ok-heard.heard) is_ready in
     let acts = sym c.is_active.ensures ∙ c.if-not-is_active.false in
@@ -98,9 +157,11 @@ overflow_add-end c =
       arith,
       c.duration.ensures.short,
       small.times c.at-process.result,
-      start_right c.args.setting.now.problem.now c.args.setting.now.order.now c.requires.setting.topological c.args.frozen.now c.args.scenario.now t run c.args.place c.at-process.result l
+      start_right c.args.setting.now.problem.now c.args.setting.now.order.now c.requires.setting.topological
+          c.args.frozen.now c.args.scenario.now t run c.args.place c.at-process.result l
           c.at-process.ensures.back on
-          c.args.known.now c.args.nodes.now.ready.items c.args.nodes.now.free.items (c.requires.at t run) c.requires.places.ready_count c.requires.places.free_count c.in_ok-heard.heard
+          c.args.known.now c.args.nodes.now.ready.items c.args.nodes.now.free.items
+          (c.requires.at t run) c.requires.places.ready_count c.requires.places.free_count c.in_ok-heard.heard
           c.in_ok-heard.ensures
           acts c.max-ready.result c.start-start.result ready_at c.start-start.ensures,
     )
@@ -120,48 +181,84 @@ set_end-requires c = omega (
   ap (λ (k : Times). length k.ends) c.set_time.ensures,
   c.requires.places.ends,
   c.at-process.ensures.within,
-  length_order (process_count c.args.setting.now.problem.now) c.args.setting.now.order.now c.requires.setting.topological.all,
+  length_order (process_count c.args.setting.now.problem.now) c.args.setting.now.order.now
+      c.requires.setting.topological.all,
 )
 
 pub send-requires-clause-process : goal.send-requires-clause-process
-send-requires-clause-process c = omega (arith, c.at-process.ensures.within, length_order (process_count c.args.setting.now.problem.now) c.args.setting.now.order.now c.requires.setting.topological.all)
+send-requires-clause-process c = omega (
+  arith,
+  c.at-process.ensures.within,
+  length_order (process_count c.args.setting.now.problem.now) c.args.setting.now.order.now
+      c.requires.setting.topological.all,
+)
 
 pub send-requires-clause-can : goal.send-requires-clause-can
 send-requires-clause-can c t run =
     let l : c.at-process.result < process_count c.args.setting.now.problem.now =
-    omega (arith, c.at-process.ensures.within, length_order (process_count c.args.setting.now.problem.now) c.args.setting.now.order.now c.requires.setting.topological.all) in
-    let on : node_of c.args.setting.now.problem.now c.at-process.result < length c.args.setting.now.problem.now.nodes = omega (arith, c.node_of-node.ensures.node, c.node_of-node.ensures.within) in
-    let is_ready = node_read c.args.nodes.now.ready.items c.index.result.now c.node_of-node.result (node_of c.args.setting.now.problem.now c.at-process.result) c.index.ensures
+    omega (
+      arith,
+      c.at-process.ensures.within,
+      length_order (process_count c.args.setting.now.problem.now) c.args.setting.now.order.now
+          c.requires.setting.topological.all,
+    ) in
+    let on : node_of c.args.setting.now.problem.now c.at-process.result < length c.args.setting.now.problem.now.nodes =
+    omega (arith, c.node_of-node.ensures.node, c.node_of-node.ensures.within) in
+    let is_ready = node_read c.args.nodes.now.ready.items c.index.result.now c.node_of-node.result
+    (node_of c.args.setting.now.problem.now c.at-process.result) c.index.ensures
     (omega (arith, c.node_of-node.ensures.within, c.requires.places.ready_count)) c.node_of-node.ensures.node in
     let ready_at = c.max-ready.ensures ∙ ap (λ n. max n c.in_ok-heard.heard) is_ready in
     let acts = sym c.is_active.ensures ∙ c.if-not-is_active.false in
-    let ends = ap (λ d. c.start-start.result + d) (c.duration.ensures.duration ∙ ap (duration c.args.setting.now.problem.now c.at-process.result) c.fault.ensures) in
+    let ends = ap (λ d. c.start-start.result + d) (c.duration.ensures.duration
+    ∙ ap (duration c.args.setting.now.problem.now c.at-process.result) c.fault.ensures) in
     let started = ap (λ (k : Times). k.times) c.set_end.ensures ∙ ap (λ (k : Times). k.times) c.set_time.ensures in
-    let ended = ap (λ (k : Times). k.ends) c.set_end.ensures ∙ ap (λ (k : Times). set k.ends c.at-process.result (Some (c.start-start.result + c.duration.result))) c.set_time.ensures in
-    let is_free = node_read c.args.nodes.now.free.items c.index-2.result.now c.node_of-node.result (node_of c.args.setting.now.problem.now c.at-process.result) c.index-2.ensures
+    let ended = ap (λ (k : Times). k.ends) c.set_end.ensures
+    ∙ ap (λ (k : Times). set k.ends c.at-process.result (Some (c.start-start.result + c.duration.result)))
+    c.set_time.ensures in
+    let is_free = node_read c.args.nodes.now.free.items c.index-2.result.now c.node_of-node.result
+    (node_of c.args.setting.now.problem.now c.at-process.result) c.index-2.ensures
     (omega (arith, c.node_of-node.ensures.within, c.requires.places.free_count)) c.node_of-node.ensures.node in
-    can_send c.args.setting.now.problem.now c.args.setting.now.order.now c.requires.setting.topological c.args.frozen.now c.args.scenario.now t run c.args.place c.at-process.result l
+    can_send c.args.setting.now.problem.now c.args.setting.now.order.now c.requires.setting.topological
+    c.args.frozen.now c.args.scenario.now t run c.args.place c.at-process.result l
     c.at-process.ensures.back on
-    c.args.known.now c.args.nodes.now.ready.items c.args.nodes.now.free.items (c.requires.at t run) c.requires.places.ready_count c.requires.places.free_count c.in_ok-heard.heard c.in_ok-heard.ensures
-    acts c.max-ready.result c.start-start.result ready_at c.start-start.ensures (c.start-start.result + c.duration.result) ends
+    c.args.known.now c.args.nodes.now.ready.items c.args.nodes.now.free.items (c.requires.at t run)
+    c.requires.places.ready_count c.requires.places.free_count c.in_ok-heard.heard c.in_ok-heard.ensures
+    acts c.max-ready.result c.start-start.result ready_at c.start-start.ensures
+    (c.start-start.result + c.duration.result) ends
     c.set_end.new.self c.requires.places.times c.requires.places.ends started ended c.index-2.result.now is_free
 
 pub returns-clause-at : goal.returns-clause-at
 returns-clause-at c t run =
     let l : c.at-process.result < process_count c.args.setting.now.problem.now =
-    omega (arith, c.at-process.ensures.within, length_order (process_count c.args.setting.now.problem.now) c.args.setting.now.order.now c.requires.setting.topological.all) in
-    let on : node_of c.args.setting.now.problem.now c.at-process.result < length c.args.setting.now.problem.now.nodes = omega (arith, c.node_of-node.ensures.node, c.node_of-node.ensures.within) in
-    let is_ready = node_read c.args.nodes.now.ready.items c.index.result.now c.node_of-node.result (node_of c.args.setting.now.problem.now c.at-process.result) c.index.ensures
+    omega (
+      arith,
+      c.at-process.ensures.within,
+      length_order (process_count c.args.setting.now.problem.now) c.args.setting.now.order.now
+          c.requires.setting.topological.all,
+    ) in
+    let on : node_of c.args.setting.now.problem.now c.at-process.result < length c.args.setting.now.problem.now.nodes =
+    omega (arith, c.node_of-node.ensures.node, c.node_of-node.ensures.within) in
+    let is_ready = node_read c.args.nodes.now.ready.items c.index.result.now c.node_of-node.result
+    (node_of c.args.setting.now.problem.now c.at-process.result) c.index.ensures
     (omega (arith, c.node_of-node.ensures.within, c.requires.places.ready_count)) c.node_of-node.ensures.node in
     let ready_at = c.max-ready.ensures ∙ ap (λ n. max n c.in_ok-heard.heard) is_ready in
     let acts = sym c.is_active.ensures ∙ c.if-not-is_active.false in
-    let ends = ap (λ d. c.start-start.result + d) (c.duration.ensures.duration ∙ ap (duration c.args.setting.now.problem.now c.at-process.result) c.fault.ensures) in
+    let ends = ap (λ d. c.start-start.result + d) (c.duration.ensures.duration
+    ∙ ap (duration c.args.setting.now.problem.now c.at-process.result) c.fault.ensures) in
     let started = ap (λ (k : Times). k.times) c.set_end.ensures ∙ ap (λ (k : Times). k.times) c.set_time.ensures in
-    let ended = ap (λ (k : Times). k.ends) c.set_end.ensures ∙ ap (λ (k : Times). set k.ends c.at-process.result (Some (c.start-start.result + c.duration.result))) c.set_time.ensures in
-    subst (λ n. IsAt c.args.setting.now.problem.now c.args.setting.now.order.now c.args.scenario.now t (c.args.place + 1) c.send.new.known
-    (set c.args.nodes.now.ready.items n (c.start-start.result + c.duration.result)) (set c.args.nodes.now.free.items n c.send.result)) (sym c.node_of-node.ensures.node)
-    (at_active c.args.setting.now.problem.now c.args.setting.now.order.now c.requires.setting.topological c.args.frozen.now c.args.scenario.now t run c.args.place c.at-process.result l
+    let ended = ap (λ (k : Times). k.ends) c.set_end.ensures
+    ∙ ap (λ (k : Times). set k.ends c.at-process.result (Some (c.start-start.result + c.duration.result)))
+    c.set_time.ensures in
+    subst (λ n. IsAt c.args.setting.now.problem.now c.args.setting.now.order.now c.args.scenario.now t
+    (c.args.place + 1) c.send.new.known
+    (set c.args.nodes.now.ready.items n (c.start-start.result + c.duration.result))
+    (set c.args.nodes.now.free.items n c.send.result)) (sym c.node_of-node.ensures.node)
+    (at_active c.args.setting.now.problem.now c.args.setting.now.order.now c.requires.setting.topological
+    c.args.frozen.now c.args.scenario.now t run c.args.place c.at-process.result l
     c.at-process.ensures.back on
-    c.args.known.now c.args.nodes.now.ready.items c.args.nodes.now.free.items (c.requires.at t run) c.requires.places.ready_count c.requires.places.free_count c.in_ok-heard.heard c.in_ok-heard.ensures
-    acts c.max-ready.result c.start-start.result ready_at c.start-start.ensures (c.start-start.result + c.duration.result) ends
-    c.set_end.new.self c.requires.places.times c.requires.places.ends started ended c.send.new.known c.send.result (c.send.ensures.sent t run) c.send.ensures.keeps)
+    c.args.known.now c.args.nodes.now.ready.items c.args.nodes.now.free.items (c.requires.at t run)
+    c.requires.places.ready_count c.requires.places.free_count c.in_ok-heard.heard c.in_ok-heard.ensures
+    acts c.max-ready.result c.start-start.result ready_at c.start-start.ensures
+    (c.start-start.result + c.duration.result) ends
+    c.set_end.new.self c.requires.places.times c.requires.places.ends started ended c.send.new.known c.send.result
+    (c.send.ensures.sent t run) c.send.ensures.keeps)

@@ -13,13 +13,17 @@ pub latest_heard-heard-requires-clause-conditions : goal.latest_heard-heard-requ
 latest_heard-heard-requires-clause-conditions c d k =
     let a = c.requires.admitted in
     let is = c.as_slice.ensures.value ∙ c.in_ok-conditions.ensures a.0 a.1 in
-    (from_along c.args.problem.now a.0 d (Contains-filter_parts (decides c.args.problem.now c.args.scenario.now.values c.args.process) (conditions_along c.args.problem.now a.0) d
+    (from_along c.args.problem.now a.0 d
+    (Contains-filter_parts (decides c.args.problem.now c.args.scenario.now.values c.args.process)
+    (conditions_along c.args.problem.now a.0) d
     (subst (λ ds. Contains ds d) is k)).0).0
 
 pub returns : goal.returns
 returns c =
     let a = c.requires.admitted in
-    most_deciding (heard_there c.args.problem.now c.args.known.now (node_of c.args.problem.now c.args.process)) c.args.problem.now a.0 a.1.topological c.args.scenario.now.values c.args.process
+    most_deciding (heard_there c.args.problem.now c.args.known.now (node_of c.args.problem.now c.args.process))
+    c.args.problem.now a.0 a.1.topological c.args.scenario.now.values c.args.process
     c.latest_heard-heard.result
-    (c.latest_heard-heard.ensures ∙ ap₂ (λ n ds. greatest (map (heard_there c.args.problem.now c.args.known.now n) ds)) c.node_of.ensures.node
+    (c.latest_heard-heard.ensures
+    ∙ ap₂ (λ n ds. greatest (map (heard_there c.args.problem.now c.args.known.now n) ds)) c.node_of.ensures.node
     (c.as_slice.ensures.value ∙ c.in_ok-conditions.ensures a.0 a.1))

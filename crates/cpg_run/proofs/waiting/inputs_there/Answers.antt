@@ -8,9 +8,12 @@ use Rattle.cpg_run.proofs.Senders.{greatest_passing}
 use Rattle.cpg_run.proofs.waiting.inputs_there.Goals as goal
 
 pub latest_there-requires-clause-edges : goal.latest_there-requires-clause-edges
-latest_there-requires-clause-edges c e k = (inputs_parts c.args.problem.now c.args.process e (subst (λ es. Contains es e) c.inputs.ensures k)).0
+latest_there-requires-clause-edges c e k =
+    (inputs_parts c.args.problem.now c.args.process e (subst (λ es. Contains es e) c.inputs.ensures k)).0
 
 pub returns : goal.returns
 returns c = c.latest_there.ensures
-    ∙ ap (λ es. greatest (map (λ e. if live c.args.problem.now c.args.scenario.now.values e then input_there c.args.problem.now c.args.known.now e else 0) es)) c.inputs.ensures
-    ∙ greatest_passing (input_there c.args.problem.now c.args.known.now) (live c.args.problem.now c.args.scenario.now.values) (inputs c.args.problem.now c.args.process)
+    ∙ ap (λ es. greatest (map (λ e. if live c.args.problem.now c.args.scenario.now.values e
+    then input_there c.args.problem.now c.args.known.now e else 0) es)) c.inputs.ensures
+    ∙ greatest_passing (input_there c.args.problem.now c.args.known.now)
+    (live c.args.problem.now c.args.scenario.now.values) (inputs c.args.problem.now c.args.process)

@@ -4,4 +4,5 @@ use Rattle.cpg_run.specs.Run.{heard_there}
 use Rattle.cpg_run.proofs.waiting.latest_heard.Given as goal
 
 abbrev pub invariant-loop-condition : goal.invariant-loop-condition
-invariant-loop-condition l = l.latest ≡ greatest (map (heard_there l.problem l.known l.node) (take l.condition-index l.conditions))
+invariant-loop-condition l =
+    l.latest ≡ greatest (map (heard_there l.problem l.known l.node) (take l.condition-index l.conditions))

@@ -5,4 +5,6 @@ use Rattle.cpg_run.specs.Run.{input_there}
 use Rattle.cpg_run.proofs.waiting.latest_there.Given as goal
 
 abbrev pub invariant-loop-edge : goal.invariant-loop-edge
-invariant-loop-edge l = l.latest ≡ greatest (map (λ e. if live l.problem l.scenario.values e then input_there l.problem l.known e else 0) (take l.edge-index l.edges))
+invariant-loop-edge l =
+    l.latest ≡ greatest (map (λ e. if live l.problem l.scenario.values e then input_there l.problem l.known e else 0)
+    (take l.edge-index l.edges))

@@ -4,4 +4,5 @@ use Rattle.cpg_scenario.specs.File.{process_names, are_among}
 use Rattle.cpg_scenario.proofs.entries.are_processes.Given as goal
 
 abbrev pub invariant-loop-text : goal.invariant-loop-text
-invariant-loop-text l = are_among (process_names l.problem) (members_view l.table.entries) ≡ are_among (process_names l.problem) (members_view l.text-iterator)
+invariant-loop-text l = are_among (process_names l.problem) (members_view l.table.entries)
+    ≡ are_among (process_names l.problem) (members_view l.text-iterator)

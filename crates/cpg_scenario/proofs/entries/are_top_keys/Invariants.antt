@@ -4,4 +4,5 @@ use Rattle.cpg_scenario.specs.File.{top_keys, are_among}
 use Rattle.cpg_scenario.proofs.entries.are_top_keys.Given as goal
 
 abbrev pub invariant-loop-text : goal.invariant-loop-text
-invariant-loop-text l = are_among top_keys (members_view l.document.entries) ≡ are_among top_keys (members_view l.text-iterator)
+invariant-loop-text l =
+    are_among top_keys (members_view l.document.entries) ≡ are_among top_keys (members_view l.text-iterator)

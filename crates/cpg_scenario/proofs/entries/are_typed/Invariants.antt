@@ -4,4 +4,5 @@ use Rattle.cpg_scenario.specs.File.{are_typed}
 use Rattle.cpg_scenario.proofs.entries.are_typed.Given as goal
 
 abbrev pub invariant-loop-value : goal.invariant-loop-value
-invariant-loop-value l = are_typed l.flags (members_view l.table.entries) ≡ are_typed l.flags (members_view l.value-iterator)
+invariant-loop-value l =
+    are_typed l.flags (members_view l.table.entries) ≡ are_typed l.flags (members_view l.value-iterator)

@@ -4,4 +4,5 @@ use Rattle.cpg_scenario.specs.File.{process_names}
 use Rattle.cpg_scenario.proofs.entries.is_process.Given as goal
 
 abbrev pub invariant-loop-process : goal.invariant-loop-process
-invariant-loop-process l = list_any (bytes_eq l.text) (process_names l.problem) ≡ list_any (bytes_eq l.text) (map (λ p. p.name) (drop l.process-index l.process-items))
+invariant-loop-process l = list_any (bytes_eq l.text) (process_names l.problem)
+    ≡ list_any (bytes_eq l.text) (map (λ p. p.name) (drop l.process-index l.process-items))

@@ -8,11 +8,13 @@ use Rattle.cpg_scenario.proofs.reading.has_conditions.Goals as goal
 pub returns : goal.returns
 returns c =
     let done = c.loop-process-test.false in
-    sym (all_pass (may_have_value c.args.problem.now (table_view c.args.document.now)) (process_count c.args.problem.now)
+    sym (all_pass (may_have_value c.args.problem.now (table_view c.args.document.now))
+    (process_count c.args.problem.now)
     (λ q l. c.loop-process.invariant q (omega (arith, ap length c.processes.ensures.processes))))
 
 pub returns-then-not-may_have_value : goal.returns-then-not-may_have_value
 returns-then-not-may_have_value c =
     let more = c.loop-process-test.true in
-    sym (one_fails (may_have_value c.args.problem.now (table_view c.args.document.now)) (process_count c.args.problem.now) c.loop-process.process
+    sym (one_fails (may_have_value c.args.problem.now (table_view c.args.document.now))
+    (process_count c.args.problem.now) c.loop-process.process
     (omega (arith, ap length c.processes.ensures.processes)) (sym c.if-not-may_have_value.ensures))

@@ -7,19 +7,31 @@ use Rattle.cpg_scenario.proofs.reading.read_played.Goals as goal
 
 pub full-requires : goal.full-requires
 full-requires c =
-    let is : c.set_values.new.scenario ≡ scenario_of c.args.problem.now (table_view c.args.document.now) = c.set_values.ensures ∙
-    ap (λ (s : Scenario). let t : Scenario = record s { values = values_of c.args.problem.now (table_view c.args.document.now) } in t) c.if-not-set_faults.ensures.faults in
-    subst (λ (s : Scenario). IsScenario c.args.problem.now s) (sym is) (is_scenario c.args.problem.now (table_view c.args.document.now) (sym c.if-not-set_faults.ensures.kept))
+    let is : c.set_values.new.scenario ≡ scenario_of c.args.problem.now (table_view c.args.document.now) =
+    c.set_values.ensures ∙
+    ap (λ (s : Scenario).
+    let t : Scenario = record s { values = values_of c.args.problem.now (table_view c.args.document.now) } in t)
+    c.if-not-set_faults.ensures.faults in
+    subst (λ (s : Scenario). IsScenario c.args.problem.now s) (sym is)
+    (is_scenario c.args.problem.now (table_view c.args.document.now) (sym c.if-not-set_faults.ensures.kept))
 
 pub set_lengths-requires : goal.set_lengths-requires
 set_lengths-requires c =
-    let is : c.set_values.new.scenario ≡ scenario_of c.args.problem.now (table_view c.args.document.now) = c.set_values.ensures ∙
-    ap (λ (s : Scenario). let t : Scenario = record s { values = values_of c.args.problem.now (table_view c.args.document.now) } in t) c.if-not-set_faults.ensures.faults in
-    c.in_ok-lengths.ensures ∙ ap (full_lengths c.args.problem.now) is ∙ full_are c.args.problem.now (table_view c.args.document.now)
+    let is : c.set_values.new.scenario ≡ scenario_of c.args.problem.now (table_view c.args.document.now) =
+    c.set_values.ensures ∙
+    ap (λ (s : Scenario).
+    let t : Scenario = record s { values = values_of c.args.problem.now (table_view c.args.document.now) } in t)
+    c.if-not-set_faults.ensures.faults in
+    c.in_ok-lengths.ensures ∙ ap (full_lengths c.args.problem.now) is
+    ∙ full_are c.args.problem.now (table_view c.args.document.now)
 
 pub returns-clause-played : goal.returns-clause-played
 returns-clause-played c =
-    let is : c.set_values.new.scenario ≡ scenario_of c.args.problem.now (table_view c.args.document.now) = c.set_values.ensures ∙
-    ap (λ (s : Scenario). let t : Scenario = record s { values = values_of c.args.problem.now (table_view c.args.document.now) } in t) c.if-not-set_faults.ensures.faults in
-    is_played c.args.problem.now (table_view c.args.document.now) c.set_lengths.ensures.within (sym c.if-not-set_faults.ensures.kept) (sym c.if-not-set_lengths.ensures.kept)
+    let is : c.set_values.new.scenario ≡ scenario_of c.args.problem.now (table_view c.args.document.now) =
+    c.set_values.ensures ∙
+    ap (λ (s : Scenario).
+    let t : Scenario = record s { values = values_of c.args.problem.now (table_view c.args.document.now) } in t)
+    c.if-not-set_faults.ensures.faults in
+    is_played c.args.problem.now (table_view c.args.document.now) c.set_lengths.ensures.within
+    (sym c.if-not-set_faults.ensures.kept) (sym c.if-not-set_lengths.ensures.kept)
     c.set_values.new.scenario c.set_lengths.new.lengths is c.if-not-set_lengths.ensures.lengths

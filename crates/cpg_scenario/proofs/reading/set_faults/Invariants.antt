@@ -10,6 +10,7 @@ abbrev pub invariant-loop-process : goal.invariant-loop-process
 invariant-loop-process l = record {
   natural : (q : ℕ) → q < l.process → is_natural (count_given l.problem (table_view l.document) q) ≡ true;
   total : l.left + sum_by (count_of l.problem (table_view l.document)) (numbers_below l.process) ≡ l.problem.faults;
-  filled : FilledTo (count_of l.problem (table_view l.document)) (process_count l.problem) 0 l.process l.scenario.faults;
+  filled : FilledTo (count_of l.problem (table_view l.document))
+      (process_count l.problem) 0 l.process l.scenario.faults;
   values : l.scenario.values ≡ l.fn.scenario.values;
 }

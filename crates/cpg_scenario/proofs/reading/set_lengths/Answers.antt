@@ -6,43 +6,53 @@ use Rattle.cpg_base.specs.Graph.{process_count}
 use Rattle.cpg_base.specs.Duration.{duration}
 use Rattle.cpg_base.proofs.Lists.{get_or-map-below}
 use Rattle.cpg_scenario.specs.File.{count_of, length_given, length_or, is_length_if}
-use Rattle.cpg_scenario.proofs.Filling.{FilledTo, filled_first, filled_next, filled_all, below_next, all_pass, one_fails}
+use Rattle.cpg_scenario.proofs.Filling.{FilledTo, filled_first, filled_next, filled_all, below_next, all_pass}
+use Rattle.cpg_scenario.proofs.Filling.{one_fails}
 use Rattle.cpg_scenario.proofs.reading.set_lengths.Goals as goal
 
 pub loop-process-init : goal.loop-process-init
 loop-process-init c =
-    let longest = λ (q : ℕ). duration c.args.problem.now q (count_of c.args.problem.now (table_view c.args.document.now) q) in
+    let longest =
+    λ (q : ℕ). duration c.args.problem.now q (count_of c.args.problem.now (table_view c.args.document.now) q) in
     record {
       kept = λ q l. absurd (omega arith);
       filled = filled_first _ (process_count c.args.problem.now) 0 c.args.lengths.now
           (ap length c.requires ∙ length-map _ _ ∙ length-range_with_len 0 (process_count c.args.problem.now));
-      full = λ q k l. ap (λ (xs : List ℕ). get_or xs q 0) c.requires ∙ get_or-map-below longest (process_count c.args.problem.now) q 0 l;
+      full = λ q k l. ap (λ (xs : List ℕ). get_or xs q 0) c.requires
+          ∙ get_or-map-below longest (process_count c.args.problem.now) q 0 l;
     }
 
 pub returns-in_default-clause-kept : goal.returns-in_default-clause-kept
 returns-in_default-clause-kept c =
     let more = c.loop-process-test.true in
-    let longest = λ (q : ℕ). duration c.args.problem.now q (count_of c.args.problem.now (table_view c.args.document.now) q) in
+    let longest =
+    λ (q : ℕ). duration c.args.problem.now q (count_of c.args.problem.now (table_view c.args.document.now) q) in
     let given = length_given c.args.problem.now (table_view c.args.document.now) in
     sym (one_fails (λ q. is_length_if (longest q) (given q)) (process_count c.args.problem.now) c.loop-process.process
     (omega (arith, ap length c.processes.ensures.processes))
     (ap₂ is_length_if
-    (sym (c.of-longest.ensures ∙ c.loop-process.invariant.full c.loop-process.process (omega arith) (omega (arith, ap length c.processes.ensures.processes))))
+    (sym (c.of-longest.ensures ∙ c.loop-process.invariant.full c.loop-process.process (omega arith)
+    (omega (arith, ap length c.processes.ensures.processes))))
     (sym c.length_given.ensures)
     ∙ c.in_default.ensures.none))
 
 pub loop-process-preserved : goal.loop-process-preserved
 loop-process-preserved c =
     let more = c.loop-process-test.true in
-    let longest = λ (q : ℕ). duration c.args.problem.now q (count_of c.args.problem.now (table_view c.args.document.now) q) in
+    let longest =
+    λ (q : ℕ). duration c.args.problem.now q (count_of c.args.problem.now (table_view c.args.document.now) q) in
     let given = length_given c.args.problem.now (table_view c.args.document.now) in
-    let is = c.of-longest.ensures ∙ c.loop-process.invariant.full c.loop-process.process (omega arith) (omega (arith, ap length c.processes.ensures.processes)) in
+    let is = c.of-longest.ensures ∙ c.loop-process.invariant.full c.loop-process.process (omega arith)
+    (omega (arith, ap length c.processes.ensures.processes)) in
     record {
-      kept = below_next (λ q. is_length_if (longest q) (given q) ≡ true) c.loop-process.process c.loop-process.invariant.kept
+      kept = below_next (λ q. is_length_if (longest q) (given q) ≡ true) c.loop-process.process
+          c.loop-process.invariant.kept
           (ap₂ is_length_if (sym is) (sym c.length_given.ensures) ∙ c.in-Some.ensures.some.1);
-      filled = subst (λ (xs : List ℕ). FilledTo (λ q. length_or (longest q) (given q)) (process_count c.args.problem.now) 0 (c.loop-process.process + 1) xs)
+      filled = subst (λ (xs : List ℕ). FilledTo (λ q. length_or (longest q) (given q))
+          (process_count c.args.problem.now) 0 (c.loop-process.process + 1) xs)
           (sym c.set.ensures)
-          (filled_next (λ q. length_or (longest q) (given q)) (process_count c.args.problem.now) 0 c.loop-process.process c.loop-process.lengths c.in-Some.length
+          (filled_next (λ q. length_or (longest q) (given q))
+          (process_count c.args.problem.now) 0 c.loop-process.process c.loop-process.lengths c.in-Some.length
           (omega (arith, ap length c.processes.ensures.processes))
           (c.in-Some.ensures.some.0 ∙ ap₂ length_or is c.length_given.ensures)
           c.loop-process.invariant.filled);
@@ -54,13 +64,16 @@ loop-process-preserved c =
 pub returns-clause-kept : goal.returns-clause-kept
 returns-clause-kept c =
     let done = c.loop-process-test.false in
-    sym (all_pass (λ q. is_length_if (duration c.args.problem.now q (count_of c.args.problem.now (table_view c.args.document.now) q))
+    sym (all_pass (λ q.
+    is_length_if (duration c.args.problem.now q (count_of c.args.problem.now (table_view c.args.document.now) q))
     (length_given c.args.problem.now (table_view c.args.document.now) q)) (process_count c.args.problem.now)
     (λ q l. c.loop-process.invariant.kept q (omega (arith, ap length c.processes.ensures.processes))))
 
 pub returns-clause-lengths : goal.returns-clause-lengths
 returns-clause-lengths c =
     let done = c.loop-process-test.false in
-    filled_all (λ q. length_or (duration c.args.problem.now q (count_of c.args.problem.now (table_view c.args.document.now) q)) (length_given c.args.problem.now (table_view c.args.document.now) q))
+    filled_all
+    (λ q. length_or (duration c.args.problem.now q (count_of c.args.problem.now (table_view c.args.document.now) q))
+    (length_given c.args.problem.now (table_view c.args.document.now) q))
     (process_count c.args.problem.now) 0 c.loop-process.process c.loop-process.lengths
     (omega (arith, ap length c.processes.ensures.processes)) c.loop-process.invariant.filled

@@ -8,8 +8,12 @@ use Rattle.cpg_scenario.proofs.reading.set_lengths.Given as goal
 
 abbrev pub invariant-loop-process : goal.invariant-loop-process
 invariant-loop-process l = record {
-  kept : (q : ℕ) → q < l.process → is_length_if (duration l.problem q (count_of l.problem (table_view l.document) q)) (length_given l.problem (table_view l.document) q) ≡ true;
-  filled : FilledTo (λ q. length_or (duration l.problem q (count_of l.problem (table_view l.document) q)) (length_given l.problem (table_view l.document) q))
+  kept : (q : ℕ) → q < l.process →
+      is_length_if (duration l.problem q (count_of l.problem (table_view l.document) q))
+      (length_given l.problem (table_view l.document) q) ≡ true;
+  filled : FilledTo (λ q. length_or (duration l.problem q (count_of l.problem (table_view l.document) q))
+      (length_given l.problem (table_view l.document) q))
       (process_count l.problem) 0 l.process l.lengths;
-  full : (q : ℕ) → l.process ≤ q → q < process_count l.problem → get_or l.lengths q 0 ≡ duration l.problem q (count_of l.problem (table_view l.document) q);
+  full : (q : ℕ) → l.process ≤ q → q < process_count l.problem →
+      get_or l.lengths q 0 ≡ duration l.problem q (count_of l.problem (table_view l.document) q);
 }

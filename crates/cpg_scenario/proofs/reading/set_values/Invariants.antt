@@ -7,6 +7,7 @@ use Rattle.cpg_scenario.proofs.reading.set_values.Given as goal
 
 abbrev pub invariant-loop-condition : goal.invariant-loop-condition
 invariant-loop-condition l = record {
-  filled : FilledTo (λ c. unwrap_or (value_given l.problem (table_view l.document) (process_of l.problem c)) false) (condition_count l.problem) false l.condition l.scenario.values;
+  filled : FilledTo (λ c. unwrap_or (value_given l.problem (table_view l.document) (process_of l.problem c)) false)
+      (condition_count l.problem) false l.condition l.scenario.values;
   faults : l.scenario.faults ≡ l.fn.scenario.faults;
 }

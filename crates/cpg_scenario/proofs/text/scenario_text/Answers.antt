@@ -7,13 +7,16 @@ use Rattle.cpg_scenario.proofs.Pieces.{next_pieces, finished, pieces_some}
 use Rattle.cpg_scenario.proofs.text.scenario_text.Goals as goal
 
 pub loop-process-preserved : goal.loop-process-preserved
-loop-process-preserved c = next_pieces (pieces_of c.args.problem.now c.args.scenario.now) c.loop-process.process (string_bytes c.loop-process.out)
+loop-process-preserved c = next_pieces (pieces_of c.args.problem.now c.args.scenario.now) c.loop-process.process
+    (string_bytes c.loop-process.out)
     (string_bytes c.write_process.new.out) c.loop-process.invariant c.in_ok-write_process.ensures
 
 pub returns : goal.returns
 returns c =
     let pieces = pieces_of c.args.problem.now c.args.scenario.now in
-    let count : c.loop-process.process ≡ process_count c.args.problem.now = omega (arith, ap length c.processes.ensures.processes) in
+    let count : c.loop-process.process ≡ process_count c.args.problem.now =
+    omega (arith, ap length c.processes.ensures.processes) in
     c.in_ok-write_none.ensures ∙ ap or_none c.loop-process.invariant
-    ∙ finished (flat_map pieces (numbers_below c.loop-process.process)) (pieces_some c.args.problem.now c.args.scenario.now (numbers_below c.loop-process.process))
+    ∙ finished (flat_map pieces (numbers_below c.loop-process.process))
+    (pieces_some c.args.problem.now c.args.scenario.now (numbers_below c.loop-process.process))
     ∙ ap (λ n. listed (flat_map pieces (numbers_below n))) count

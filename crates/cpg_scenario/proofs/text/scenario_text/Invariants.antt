@@ -5,4 +5,5 @@ use Rattle.cpg_scenario.specs.Text.{pieces_of}
 use Rattle.cpg_scenario.proofs.text.scenario_text.Given as goal
 
 abbrev pub invariant-loop-process : goal.invariant-loop-process
-invariant-loop-process l = string_bytes l.out ≡ with_pieces [] (flat_map (pieces_of l.problem l.scenario) (numbers_below l.process))
+invariant-loop-process l =
+    string_bytes l.out ≡ with_pieces [] (flat_map (pieces_of l.problem l.scenario) (numbers_below l.process))

@@ -3,4 +3,5 @@ use Rattle.cpg_show.specs.TraceEvents.{event_of_act}
 use Rattle.cpg_show.proofs.events.add_acts.Given as goal
 
 abbrev pub invariant-loop-act : goal.invariant-loop-act
-invariant-loop-act l = l.events.items ++ map (event_of_act l.problem l.node) (drop l.act-index l.acts) ≡ l.fn.events.items ++ map (event_of_act l.problem l.node) l.acts
+invariant-loop-act l = l.events.items ++ map (event_of_act l.problem l.node) (drop l.act-index l.acts)
+    ≡ l.fn.events.items ++ map (event_of_act l.problem l.node) l.acts

@@ -3,4 +3,5 @@ use Rattle.cpg_show.specs.TraceEvents.{event_of_end}
 use Rattle.cpg_show.proofs.events.add_ends.Given as goal
 
 abbrev pub invariant-loop-end : goal.invariant-loop-end
-invariant-loop-end l = l.events.items ++ map (event_of_end l.node) (drop l.end-index l.ends) ≡ l.fn.events.items ++ map (event_of_end l.node) l.ends
+invariant-loop-end l = l.events.items ++ map (event_of_end l.node) (drop l.end-index l.ends) ≡ l.fn.events.items
+    ++ map (event_of_end l.node) l.ends

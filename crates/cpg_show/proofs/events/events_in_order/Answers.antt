@@ -4,6 +4,7 @@ use Rattle.cpg_show.proofs.events.events_in_order.Goals as goal
 
 pub returns : goal.returns
 returns c = record {
-  all = subst (λ xs. IsPermutation xs c.sort_unstable.new.self.items) c.in_ok-events.ensures c.sort_unstable.ensures.permutation;
+  all = subst (λ xs. IsPermutation xs c.sort_unstable.new.self.items) c.in_ok-events.ensures
+      c.sort_unstable.ensures.permutation;
   in_order = in_order c.sort_unstable.new.self.items c.sort_unstable.ensures.sorted;
 }

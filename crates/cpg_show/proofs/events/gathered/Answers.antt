@@ -6,11 +6,16 @@ use Rattle.cpg_show.proofs.events.gathered.Goals as goal
 
 pub add_acts-requires : goal.add_acts-requires
 add_acts-requires c = subst (All (IsActWithin c.args.problem.now)) (sym c.acts.ensures)
-    (acts_at c.args.cluster.now c.requires.playing c.args.problem.now c.requires.same c.loop-node.node (omega (arith, ap length c.nodes.ensures.nodes)))
+    (acts_at c.args.cluster.now c.requires.playing c.args.problem.now c.requires.same c.loop-node.node
+    (omega (arith, ap length c.nodes.ensures.nodes)))
 
 pub loop-node-preserved : goal.loop-node-preserved
-loop-node-preserved c = one_node c.args.problem.now c.args.cluster.now.cluster.acts c.args.cluster.now.cluster.ends c.loop-node.node c.loop-node.events.items c.add_acts.new.events.items
+loop-node-preserved c = one_node c.args.problem.now c.args.cluster.now.cluster.acts c.args.cluster.now.cluster.ends
+    c.loop-node.node c.loop-node.events.items c.add_acts.new.events.items
     c.add_ends.new.events.items
     c.loop-node.invariant
-    (c.in_ok-add_acts.ensures ∙ ap (λ acts. c.loop-node.events.items ++ map (event_of_act c.args.problem.now c.loop-node.node) acts) c.acts.ensures)
-    (c.in_ok-add_ends.ensures ∙ ap (λ ends. c.add_acts.new.events.items ++ map (event_of_end c.loop-node.node) ends) c.ends.ensures)
+    (c.in_ok-add_acts.ensures
+    ∙ ap (λ acts. c.loop-node.events.items ++ map (event_of_act c.args.problem.now c.loop-node.node) acts)
+    c.acts.ensures)
+    (c.in_ok-add_ends.ensures
+    ∙ ap (λ ends. c.add_acts.new.events.items ++ map (event_of_end c.loop-node.node) ends) c.ends.ensures)

@@ -4,4 +4,5 @@ use Rattle.cpg_show.specs.TraceEvents.{node_events}
 use Rattle.cpg_show.proofs.events.gathered.Given as goal
 
 abbrev pub invariant-loop-node : goal.invariant-loop-node
-invariant-loop-node l = l.events.items ≡ flat_map (node_events l.problem l.cluster.cluster.acts l.cluster.cluster.ends) (numbers_below l.node)
+invariant-loop-node l = l.events.items
+    ≡ flat_map (node_events l.problem l.cluster.cluster.acts l.cluster.cluster.ends) (numbers_below l.node)

@@ -4,4 +4,5 @@ use Rattle.cpg_show.specs.Sheet.{part_text}
 use Rattle.cpg_show.proofs.node.add_acts.Given as goal
 
 abbrev pub invariant-loop-row : goal.invariant-loop-row
-invariant-loop-row l = flat_map (part_text l.labels) l.fn.parts.items ++ flat_map (act_row l.labels) (take l.row-index l.rows) ≡ flat_map (part_text l.labels) l.parts.items
+invariant-loop-row l = flat_map (part_text l.labels) l.fn.parts.items
+    ++ flat_map (act_row l.labels) (take l.row-index l.rows) ≡ flat_map (part_text l.labels) l.parts.items

@@ -3,4 +3,6 @@ use Rattle.cpg_io.specs.Sink.{TookPrefix}
 use Rattle.cpg_show.proofs.node.write_node.Goals as goal
 
 pub returns-clause-part : goal.returns-clause-part
-returns-clause-part g c = λ failed. subst (TookPrefix (g.O.Sink.state c.args.sink.now).taken (g.O.Sink.state c.write_sheet.new.sink).taken) c.in_ok-sheet.ensures (c.write_sheet.ensures.part failed)
+returns-clause-part g c =
+    λ failed. subst (TookPrefix (g.O.Sink.state c.args.sink.now).taken (g.O.Sink.state c.write_sheet.new.sink).taken)
+    c.in_ok-sheet.ensures (c.write_sheet.ensures.part failed)

@@ -6,7 +6,8 @@ use Rattle.cpg_show.proofs.putting.put_columns.Goals as goal
 
 pub loop-column-preserved : goal.loop-column-preserved
 loop-column-preserved g c = record {
-  put = item_more (column_line c.args.labels.now) _ _ _ _ _ _ c.args.columns.now c.loop-column.column-index c.column-item.result c.column-item.is c.loop-column-test.true c.loop-column.invariant.put
+  put = item_more (column_line c.args.labels.now) _ _ _ _ _ _ c.args.columns.now c.loop-column.column-index
+      c.column-item.result c.column-item.is c.loop-column-test.true c.loop-column.invariant.put
       c.in_ok-put_column.ensures.put;
   kept = c.in_ok-put_column.ensures.cause.kept ∙ c.loop-column.invariant.kept;
   line = c.turn_into.ensures.line;
@@ -16,5 +17,6 @@ pub returns-in_err-put_column-clause-put : goal.returns-in_err-put_column-clause
 returns-in_err-put_column-clause-put g c =
     let p = err_from_is_err_and c.from_residual.result c.from_residual.ensures.1 in
     Puts-failed _ _ _ _ _ c.from_residual.result p.0 p.1
-    (item_fails (column_line c.args.labels.now) _ _ _ _ _ c.args.columns.now c.loop-column.column-index c.column-item.result c.column-item.is c.loop-column-test.true c.loop-column.invariant.put
+    (item_fails (column_line c.args.labels.now) _ _ _ _ _ c.args.columns.now c.loop-column.column-index
+    c.column-item.result c.column-item.is c.loop-column-test.true c.loop-column.invariant.put
     c.in_err-put_column.ensures.put)

@@ -6,8 +6,10 @@ use Rattle.cpg_show.proofs.putting.put_parts.Goals as goal
 pub returns-in_err-put_timed-clause-put : goal.returns-in_err-put_timed-clause-put
 returns-in_err-put_timed-clause-put g c =
     let p = err_from_is_err_and c.from_residual.result c.from_residual.ensures.1 in
-    Puts-first _ _ _ _ (codes "  " ++ decimal c.args.time ++ codes ": " ++ c.args.text.now) (codes "\n") c.from_residual.result p.0 p.1 c.in_err-put_timed.ensures.put
+    Puts-first _ _ _ _ (codes "  " ++ decimal c.args.time ++ codes ": " ++ c.args.text.now)
+    (codes "\n") c.from_residual.result p.0 p.1 c.in_err-put_timed.ensures.put
 
 pub returns-clause-put : goal.returns-clause-put
-returns-clause-put g c = Puts-then _ _ _ _ _ _ (codes "  " ++ decimal c.args.time ++ codes ": " ++ c.args.text.now) (codes "\n") c.put_text.result c.in_ok-put_timed.ensures.put
+returns-clause-put g c = Puts-then _ _ _ _ _ _ (codes "  " ++ decimal c.args.time ++ codes ": " ++ c.args.text.now)
+    (codes "\n") c.put_text.result c.in_ok-put_timed.ensures.put
     c.put_text.ensures.put

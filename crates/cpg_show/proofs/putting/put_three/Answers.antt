@@ -6,7 +6,9 @@ use Rattle.cpg_show.proofs.putting.put_three.Goals as goal
 pub returns-in_err-put_two-clause-put : goal.returns-in_err-put_two-clause-put
 returns-in_err-put_two-clause-put g c =
     let p = err_from_is_err_and c.from_residual.result c.from_residual.ensures.1 in
-    Puts-first _ _ _ _ (c.args.first.now ++ c.args.second.now) (c.args.third.now) c.from_residual.result p.0 p.1 c.in_err-put_two.ensures.put
+    Puts-first _ _ _ _ (c.args.first.now ++ c.args.second.now)
+    (c.args.third.now) c.from_residual.result p.0 p.1 c.in_err-put_two.ensures.put
 
 pub returns-clause-put : goal.returns-clause-put
-returns-clause-put g c = Puts-then _ _ _ _ _ _ (c.args.first.now ++ c.args.second.now) (c.args.third.now) c.put_text.result c.in_ok-put_two.ensures.put c.put_text.ensures.put
+returns-clause-put g c = Puts-then _ _ _ _ _ _ (c.args.first.now ++ c.args.second.now)
+    (c.args.third.now) c.put_text.result c.in_ok-put_two.ensures.put c.put_text.ensures.put

@@ -6,7 +6,9 @@ use Rattle.cpg_show.proofs.putting.put_timed.Goals as goal
 pub returns-in_err-put_time-clause-put : goal.returns-in_err-put_time-clause-put
 returns-in_err-put_time-clause-put g c =
     let p = err_from_is_err_and c.from_residual.result c.from_residual.ensures.1 in
-    Puts-first _ _ _ _ (codes "  " ++ decimal c.args.time ++ codes ": ") (c.args.text.now) c.from_residual.result p.0 p.1 c.in_err-put_time.ensures.put
+    Puts-first _ _ _ _ (codes "  " ++ decimal c.args.time ++ codes ": ")
+    (c.args.text.now) c.from_residual.result p.0 p.1 c.in_err-put_time.ensures.put
 
 pub returns-clause-put : goal.returns-clause-put
-returns-clause-put g c = Puts-then _ _ _ _ _ _ (codes "  " ++ decimal c.args.time ++ codes ": ") (c.args.text.now) c.put_any.result c.in_ok-put_time.ensures.put c.put_any.ensures.put
+returns-clause-put g c = Puts-then _ _ _ _ _ _ (codes "  " ++ decimal c.args.time ++ codes ": ")
+    (c.args.text.now) c.put_any.result c.in_ok-put_time.ensures.put c.put_any.ensures.put

@@ -5,7 +5,9 @@ use Rattle.cpg_show.proofs.putting.put_two.Goals as goal
 pub returns-in_err-put_text-clause-put : goal.returns-in_err-put_text-clause-put
 returns-in_err-put_text-clause-put g c =
     let p = err_from_is_err_and c.from_residual.result c.from_residual.ensures.1 in
-    Puts-first _ _ _ _ (c.args.first.now) (c.args.second.now) c.from_residual.result p.0 p.1 c.in_err-put_text.ensures.put
+    Puts-first _ _ _ _ (c.args.first.now)
+    (c.args.second.now) c.from_residual.result p.0 p.1 c.in_err-put_text.ensures.put
 
 pub returns-clause-put : goal.returns-clause-put
-returns-clause-put g c = Puts-then _ _ _ _ _ _ (c.args.first.now) (c.args.second.now) c.put_text-2.result c.in_ok-put_text.ensures.put c.put_text-2.ensures.put
+returns-clause-put g c = Puts-then _ _ _ _ _ _ (c.args.first.now)
+    (c.args.second.now) c.put_text-2.result c.in_ok-put_text.ensures.put c.put_text-2.ensures.put

@@ -7,9 +7,11 @@ use Rattle.cpg_show.proofs.sheet.put_part.Goals as goal
 pub returns-in_err-put_text-clause-put : goal.returns-in_err-put_text-clause-put
 returns-in_err-put_text-clause-put g c =
     let p = err_from_is_err_and c.from_residual.result c.from_residual.ensures.1 in
-    Puts-first _ _ _ _ (string_bytes c.args.part.now.head) (columns_text c.args.labels.now c.args.part.now.columns.now) c.from_residual.result p.0 p.1
+    Puts-first _ _ _ _ (string_bytes c.args.part.now.head)
+    (columns_text c.args.labels.now c.args.part.now.columns.now) c.from_residual.result p.0 p.1
     (rw c.as_str.ensures.value at c.in_err-put_text.ensures.put)
 
 pub returns-clause-put : goal.returns-clause-put
-returns-clause-put g c = Puts-then _ _ _ _ _ _ (string_bytes c.args.part.now.head) (columns_text c.args.labels.now c.args.part.now.columns.now) c.put_columns.result
+returns-clause-put g c = Puts-then _ _ _ _ _ _ (string_bytes c.args.part.now.head)
+    (columns_text c.args.labels.now c.args.part.now.columns.now) c.put_columns.result
     (rw c.as_str.ensures.value at c.in_ok-put_text.ensures.put) c.put_columns.ensures.put

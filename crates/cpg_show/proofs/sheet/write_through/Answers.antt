@@ -3,4 +3,5 @@ use Rattle.cpg_show.specs.Sheet.{sheet_text}
 use Rattle.cpg_show.proofs.sheet.write_through.Goals as goal
 
 pub returns-clause-part : goal.returns-clause-part
-returns-clause-part g c = rest_fails _ _ _ c.args.buffer.now _ (sheet_text c.args.sheet.now) c.write.result c.requires.empty c.in_ok-put_sheet.ensures.put c.write.ensures.part
+returns-clause-part g c = rest_fails _ _ _ c.args.buffer.now _
+    (sheet_text c.args.sheet.now) c.write.result c.requires.empty c.in_ok-put_sheet.ensures.put c.write.ensures.part

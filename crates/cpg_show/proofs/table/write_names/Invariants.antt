@@ -3,5 +3,6 @@ use Rattle.cpg_label.specs.Labels.{process_name}
 use Rattle.cpg_show.proofs.table.write_names.Given as goal
 
 abbrev pub invariant-loop-process : goal.invariant-loop-process
-invariant-loop-process l = string_bytes l.fn.out ++ flat_map (λ p. codes " " ++ process_name l.labels p) l.order ≡ string_bytes l.out ++ flat_map (λ p. codes " " ++ process_name l.labels p)
+invariant-loop-process l = string_bytes l.fn.out ++ flat_map (λ p. codes " " ++ process_name l.labels p) l.order
+    ≡ string_bytes l.out ++ flat_map (λ p. codes " " ++ process_name l.labels p)
     (drop l.process-index l.order)

@@ -3,5 +3,6 @@ use Rattle.cpg_show.proofs.TraceSteps.{one_finish}
 use Rattle.cpg_show.proofs.trace.finish.Goals as goal
 
 pub loop-node-preserved : goal.loop-node-preserved
-loop-node-preserved c = one_finish c.args.cluster.now.cluster.ends c.loop-node.node c.loop-node.last c.last_of-last.result c.loop-node.invariant
+loop-node-preserved c = one_finish c.args.cluster.now.cluster.ends c.loop-node.node c.loop-node.last
+    c.last_of-last.result c.loop-node.invariant
     (c.last_of-last.ensures ∙ ap (λ ends. fold max c.loop-node.last (map (λ e. e.0) ends)) c.ends.ensures)

@@ -2,4 +2,5 @@ use Rattle.std.proofs.Common.{◌≡◌, drop, fold, map, max}
 use Rattle.cpg_show.proofs.trace.last_of.Given as goal
 
 abbrev pub invariant-loop-end : goal.invariant-loop-end
-invariant-loop-end l = fold max l.last (map (λ e. e.0) (drop l.end-index l.ends)) ≡ fold max l.time (map (λ e. e.0) l.ends)
+invariant-loop-end l =
+    fold max l.last (map (λ e. e.0) (drop l.end-index l.ends)) ≡ fold max l.time (map (λ e. e.0) l.ends)

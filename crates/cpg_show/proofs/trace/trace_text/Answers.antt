@@ -11,5 +11,7 @@ write_events-requires-clause-within c =
     let g = c.problem-problem.result.now in
     let same : p.graph ≡ g = c.requires ∙ sym c.problem-problem.ensures.problem in
     subst (All (λ (e : TraceEvent). IsKindWithin g e.kind)) (sym c.as_slice.ensures.value)
-    (All-permutation (λ (e : TraceEvent). IsKindWithin g e.kind) _ c.in_ok-events.events.items c.in_ok-events.ensures.all
-    (all_within g p.cluster.acts p.cluster.ends (acts_at p c.lengths-lengths.ensures.playing g same) (ends_at p c.lengths-lengths.ensures.playing g same)))
+    (All-permutation (λ (e : TraceEvent). IsKindWithin g e.kind) _ c.in_ok-events.events.items
+    c.in_ok-events.ensures.all
+    (all_within g p.cluster.acts p.cluster.ends (acts_at p c.lengths-lengths.ensures.playing g same)
+    (ends_at p c.lengths-lengths.ensures.playing g same)))

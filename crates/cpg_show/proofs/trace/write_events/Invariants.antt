@@ -3,4 +3,5 @@ use Rattle.cpg_show.specs.TraceText.{event_line}
 use Rattle.cpg_show.proofs.trace.write_events.Given as goal
 
 abbrev pub invariant-loop-event : goal.invariant-loop-event
-invariant-loop-event l = string_bytes l.fn.out ++ flat_map (event_line l.problem l.lengths) l.events ≡ string_bytes l.out ++ flat_map (event_line l.problem l.lengths) (drop l.event-index l.events)
+invariant-loop-event l = string_bytes l.fn.out ++ flat_map (event_line l.problem l.lengths) l.events
+    ≡ string_bytes l.out ++ flat_map (event_line l.problem l.lengths) (drop l.event-index l.events)

@@ -12,7 +12,8 @@ pub duration-full-requires-clause-faults : goal.duration-full-requires-clause-fa
 duration-full-requires-clause-faults c = (subst (IsKindWithin c.args.problem.now) c.in-End.is c.requires.within).1
 
 pub of-requires : goal.of-requires
-of-requires c = omega (arith, (subst (IsKindWithin c.args.problem.now) c.in-End.is c.requires.within).0, c.requires.lengths)
+of-requires c =
+    omega (arith, (subst (IsKindWithin c.args.problem.now) c.in-End.is c.requires.within).0, c.requires.lengths)
 
 pub write_item-requires : goal.write_item-requires
 write_item-requires c = omega (arith, subst (IsKindWithin c.args.problem.now) c.in-Start.is c.requires.within)

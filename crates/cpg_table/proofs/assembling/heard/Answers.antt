@@ -19,14 +19,18 @@ later-requires-clause-times c =
     let rows = c.args.rows.now in
     let x = c.args.item in
     let is : c.columns.result.now ≡ (row_for rows x).columns = c.columns.ensures ∙ ap (λ (row : Row). row.columns)
-    (c.index-rows-item.is ∙ get_or_default rows x c.index-rows-item.result no_row (omega (arith, c.requires.item, long g rows c.requires.rows))) in
+    (c.index-rows-item.is ∙ get_or_default rows x c.index-rows-item.result no_row
+    (omega (arith, c.requires.item, long g rows c.requires.rows))) in
     subst (All (λ (e : Column). e.time < 2 ^ 59)) (sym is)
-    (All-weaker (IsWritable g) (λ (e : Column). e.time < 2 ^ 59) (λ e w. w.time) (row_for rows x).columns (writable g rows c.requires.rows x c.requires.item))
+    (All-weaker (IsWritable g) (λ (e : Column). e.time < 2 ^ 59) (λ e w. w.time) (row_for rows x).columns
+    (writable g rows c.requires.rows x c.requires.item))
 
 pub later-requires-clause-delay : goal.later-requires-clause-delay
-later-requires-clause-delay c = subst (λ n. n < 2 ^ 59) (sym c.slot_length-delay.ensures) (slot_short c.args.problem.now c.nodes-nodes.ensures.within c.home.result)
+later-requires-clause-delay c = subst (λ n. n < 2 ^ 59) (sym c.slot_length-delay.ensures)
+    (slot_short c.args.problem.now c.nodes-nodes.ensures.within c.home.result)
 
-same_row : (x : ℕ) (a b : List Column) → a ≡ b → (let row : Row = record { item = x; columns = a } in row) ≡ record { item = x; columns = b }
+same_row : (x : ℕ) (a b : List Column) → a ≡ b →
+    (let row : Row = record { item = x; columns = a } in row) ≡ record { item = x; columns = b }
 same_row x a b e = cc
 
 pub returns : goal.returns
@@ -35,6 +39,9 @@ returns c =
     let rows = c.args.rows.now in
     let x = c.args.item in
     let is : c.columns.result.now ≡ (row_for rows x).columns = c.columns.ensures ∙ ap (λ (row : Row). row.columns)
-    (c.index-rows-item.is ∙ get_or_default rows x c.index-rows-item.result no_row (omega (arith, c.requires.item, long g rows c.requires.rows))) in
-    c.new.ensures ∙ same_row x c.in_ok-columns.columns.items (map (later_by (slot_length g (home g x))) (row_for rows x).columns)
-    (c.in_ok-columns.ensures ∙ ap₂ (λ d cs. map (later_by d) cs) (c.slot_length-delay.ensures ∙ ap (slot_length g) c.home.ensures.home) is)
+    (c.index-rows-item.is ∙ get_or_default rows x c.index-rows-item.result no_row
+    (omega (arith, c.requires.item, long g rows c.requires.rows))) in
+    c.new.ensures
+    ∙ same_row x c.in_ok-columns.columns.items (map (later_by (slot_length g (home g x))) (row_for rows x).columns)
+    (c.in_ok-columns.ensures
+    ∙ ap₂ (λ d cs. map (later_by d) cs) (c.slot_length-delay.ensures ∙ ap (slot_length g) c.home.ensures.home) is)

@@ -9,5 +9,6 @@ pub all_heard-requires-clause-items : goal.all_heard-requires-clause-items
 all_heard-requires-clause-items c =
     let g = c.args.problem.now in
     all_below (item_count g) (item_count g) c.hears.result.now (hears_of (head_of g) c.args.node) refl
-    (c.hears.ensures ∙ ap (λ (i : ItemLists). i.hears) (c.in_ok-items.ensures ∙ ap (λ h. lists_of h c.args.node) c.requires.head))
+    (c.hears.ensures
+    ∙ ap (λ (i : ItemLists). i.hears) (c.in_ok-items.ensures ∙ ap (λ h. lists_of h c.args.node) c.requires.head))
     (hear_below g c.nodes-nodes.ensures.within c.args.node c.requires.node)

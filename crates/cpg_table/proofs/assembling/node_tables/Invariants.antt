@@ -8,7 +8,8 @@ use Rattle.cpg_table.proofs.assembling.node_tables.Given as goal
 abbrev pub invariant-loop-heard : goal.invariant-loop-heard
 invariant-loop-heard l = record {
   count : l.node + length l.heard-iterator.rest.items ≡ length l.problem.nodes;
-  hears : map (λ h. h.items) l.heard-iterator.rest.items ≡ map (hears_at l.problem l.fn.rows.items) (range_with_len l.node (length l.heard-iterator.rest.items));
+  hears : map (λ h. h.items) l.heard-iterator.rest.items
+      ≡ map (hears_at l.problem l.fn.rows.items) (range_with_len l.node (length l.heard-iterator.rest.items));
   tables : AreNodeTables l.problem l.fn.rows.items l.node l.tables.items;
   left : (m : ℕ) → l.node ≤ m → own_rows l.problem m l.left.items ≡ own_rows l.problem m l.fn.rows.items;
   items : All (λ (row : Row). row.item < item_count l.problem) l.left.items;

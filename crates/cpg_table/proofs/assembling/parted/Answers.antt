@@ -14,11 +14,15 @@ loop-row-preserved-in-Continue-1 c =
     let left = c.loop-row.row-iterator.rest.items in
     let rest = c.next.new.self.rest.items in
     let is : left ≡ row ∷ rest = search rules in
-    let on : has_own g node row.item ≡ true = ap (has_own g node) (sym c.item.ensures) ∙ sym c.has_own.ensures ∙ c.if-has_own.true in
+    let on : has_own g node row.item ≡ true =
+    ap (has_own g node) (sym c.item.ensures) ∙ sym c.has_own.ensures ∙ c.if-has_own.true in
     record {
-      own = filter_moved (λ (r : Row). has_own g node r.item) c.args.rows.items c.loop-row.own.items left rest row is c.loop-row.invariant.own on c.push.new.self.items c.in_ok-push.ensures.items;
-      others = filter_left (λ (r : Row). not (has_own g node r.item)) c.args.rows.items c.loop-row.others.items left rest row is c.loop-row.invariant.others (ap not on);
-      known = All-tail (λ (r : Row). r.item < item_count g) row rest (subst (All (λ (r : Row). r.item < item_count g)) is c.loop-row.invariant.known);
+      own = filter_moved (λ (r : Row). has_own g node r.item) c.args.rows.items c.loop-row.own.items left rest row is
+          c.loop-row.invariant.own on c.push.new.self.items c.in_ok-push.ensures.items;
+      others = filter_left (λ (r : Row). not (has_own g node r.item)) c.args.rows.items c.loop-row.others.items left
+          rest row is c.loop-row.invariant.others (ap not on);
+      known = All-tail (λ (r : Row). r.item < item_count g) row rest
+          (subst (All (λ (r : Row). r.item < item_count g)) is c.loop-row.invariant.known);
     }
 
 pub loop-row-preserved : goal.loop-row-preserved
@@ -29,10 +33,14 @@ loop-row-preserved c =
     let left = c.loop-row.row-iterator.rest.items in
     let rest = c.next.new.self.rest.items in
     let is : left ≡ row ∷ rest = search rules in
-    let off : has_own g node row.item ≡ false = ap (has_own g node) (sym c.item.ensures) ∙ sym c.has_own.ensures ∙ c.if-has_own.false in
+    let off : has_own g node row.item ≡ false =
+    ap (has_own g node) (sym c.item.ensures) ∙ sym c.has_own.ensures ∙ c.if-has_own.false in
     record {
-      own = filter_left (λ (r : Row). has_own g node r.item) c.args.rows.items c.loop-row.own.items left rest row is c.loop-row.invariant.own off;
-      others = filter_moved (λ (r : Row). not (has_own g node r.item)) c.args.rows.items c.loop-row.others.items left rest row is c.loop-row.invariant.others
+      own = filter_left (λ (r : Row). has_own g node r.item) c.args.rows.items c.loop-row.own.items left rest row is
+          c.loop-row.invariant.own off;
+      others = filter_moved (λ (r : Row). not (has_own g node r.item)) c.args.rows.items c.loop-row.others.items left
+          rest row is c.loop-row.invariant.others
           (ap not off) c.push-else-has_own.new.self.items c.in_ok-push-2.ensures.items;
-      known = All-tail (λ (r : Row). r.item < item_count g) row rest (subst (All (λ (r : Row). r.item < item_count g)) is c.loop-row.invariant.known);
+      known = All-tail (λ (r : Row). r.item < item_count g) row rest
+          (subst (All (λ (r : Row). r.item < item_count g)) is c.loop-row.invariant.known);
     }

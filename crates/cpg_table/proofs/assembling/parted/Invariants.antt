@@ -7,6 +7,7 @@ use Rattle.cpg_table.proofs.assembling.parted.Given as goal
 abbrev pub invariant-loop-row : goal.invariant-loop-row
 invariant-loop-row l = record {
   own : own_rows l.problem l.node l.fn.rows.items ≡ l.own.items ++ own_rows l.problem l.node l.row-iterator.rest.items;
-  others : other_rows l.problem l.node l.fn.rows.items ≡ l.others.items ++ other_rows l.problem l.node l.row-iterator.rest.items;
+  others : other_rows l.problem l.node l.fn.rows.items ≡ l.others.items
+      ++ other_rows l.problem l.node l.row-iterator.rest.items;
   known : All (λ (row : Row). row.item < item_count l.problem) l.row-iterator.rest.items;
 }

@@ -7,10 +7,12 @@ pub of-requires : goal.of-requires
 of-requires c =
     let g = c.args.problem.now in
     subst (λ h. AreTablesOf h c.in_ok-nodes.nodes.items) (sym c.in_ok-head.ensures)
-    (lawful g c.nodes-nodes.ensures.within c.requires.formed c.args.rows.items c.requires.rows c.in_ok-nodes.nodes.items c.in_ok-nodes.ensures)
+    (lawful g c.nodes-nodes.ensures.within c.requires.formed c.args.rows.items c.requires.rows c.in_ok-nodes.nodes.items
+    c.in_ok-nodes.ensures)
 
 pub returns : goal.returns
 returns c =
     let g = c.args.problem.now in
-    tables_with g c.nodes-nodes.ensures.within c.requires.formed c.args.rows.items c.requires.rows c.in_ok-nodes.nodes.items c.in_ok-nodes.ensures c.of.result
+    tables_with g c.nodes-nodes.ensures.within c.requires.formed c.args.rows.items c.requires.rows
+    c.in_ok-nodes.nodes.items c.in_ok-nodes.ensures c.of.result
     (ap (λ (t : Tables). t.head) c.of.ensures ∙ c.in_ok-head.ensures) (ap (λ (t : Tables). t.nodes) c.of.ensures)

@@ -10,4 +10,5 @@ pub returns : goal.returns
 returns c =
     let h = c.args.head.now in
     c.after_broadcasts.ensures ∙ sym (after_both (numbers_where (enters h c.args.node) (first_message h) h.edges)
-    (numbers_where (λ p. not (p.node == c.args.node)) (first_broadcast h) (conditioned h)) c.args.rows.now c.in-Some.rest.now c.in-Some.ensures)
+    (numbers_where (λ p. not (p.node == c.args.node)) (first_broadcast h) (conditioned h)) c.args.rows.now
+    c.in-Some.rest.now c.in-Some.ensures)

@@ -13,5 +13,7 @@ returns-then-nodes-gt1 c =
     let broadcasts = numbers_where (λ p. p.node == c.args.node) (first_broadcast h) (conditioned h) in
     let two : 1 < length h.nodes = omega (arith, ap length c.nodes.ensures.nodes) in
     c.after_broadcasts.ensures
-    ∙ ap (λ xs. after_items xs c.in-Some.rest.now) (sym (cond-true (ltb 1 (length h.nodes)) broadcasts [] (lt-ltb 1 (length h.nodes) two)))
-    ∙ sym (after_both (numbers_where (leaves h c.args.node) (first_message h) h.edges) (cond (ltb 1 (length h.nodes)) broadcasts []) c.args.rows.now c.in-Some.rest.now c.in-Some.ensures)
+    ∙ ap (λ xs. after_items xs c.in-Some.rest.now)
+    (sym (cond-true (ltb 1 (length h.nodes)) broadcasts [] (lt-ltb 1 (length h.nodes) two)))
+    ∙ sym (after_both (numbers_where (leaves h c.args.node) (first_message h) h.edges)
+    (cond (ltb 1 (length h.nodes)) broadcasts []) c.args.rows.now c.in-Some.rest.now c.in-Some.ensures)

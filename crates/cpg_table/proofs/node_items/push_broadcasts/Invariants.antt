@@ -5,6 +5,8 @@ use Rattle.cpg_table.proofs.node_items.push_broadcasts.Given as goal
 abbrev pub invariant-loop-process : goal.invariant-loop-process
 invariant-loop-process l = record {
   few : l.item ≤ first_broadcast l.head + l.process-index;
-  same : l.items.items ++ numbers_where (λ p. if l.own then p.node == l.node else not (p.node == l.node)) l.item (filter (λ p. p.condition) (drop l.process-index l.process-items))
-      ≡ l.fn.items.items ++ numbers_where (λ p. if l.own then p.node == l.node else not (p.node == l.node)) (first_broadcast l.head) (conditioned l.head);
+  same : l.items.items ++ numbers_where (λ p. if l.own then p.node == l.node else not (p.node == l.node)) l.item
+      (filter (λ p. p.condition) (drop l.process-index l.process-items))
+      ≡ l.fn.items.items ++ numbers_where (λ p. if l.own then p.node == l.node else not (p.node == l.node))
+      (first_broadcast l.head) (conditioned l.head);
 }

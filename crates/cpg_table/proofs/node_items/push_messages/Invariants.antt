@@ -5,6 +5,8 @@ use Rattle.cpg_table.proofs.node_items.push_messages.Given as goal
 abbrev pub invariant-loop-edge : goal.invariant-loop-edge
 invariant-loop-edge l = record {
   counted : l.item ≡ first_message l.head + l.edge-index;
-  same : l.items.items ++ numbers_where (λ e. if l.out then leaves l.head l.node e else enters l.head l.node e) l.item (drop l.edge-index l.edge-items)
-      ≡ l.fn.items.items ++ numbers_where (λ e. if l.out then leaves l.head l.node e else enters l.head l.node e) (first_message l.head) l.head.edges;
+  same : l.items.items ++ numbers_where (λ e. if l.out then leaves l.head l.node e else enters l.head l.node e) l.item
+      (drop l.edge-index l.edge-items)
+      ≡ l.fn.items.items ++ numbers_where (λ e. if l.out then leaves l.head l.node e else enters l.head l.node e)
+      (first_message l.head) l.head.edges;
 }

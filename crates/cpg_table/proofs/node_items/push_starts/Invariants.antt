@@ -5,5 +5,6 @@ use Rattle.cpg_table.proofs.node_items.push_starts.Given as goal
 abbrev pub invariant-loop-process : goal.invariant-loop-process
 invariant-loop-process l = record {
   counted : l.item ≡ l.process-index;
-  same : l.items.items ++ numbers_where (λ p. p.node == l.node) l.item (drop l.process-index l.process-items) ≡ l.fn.items.items ++ starts_of l.head l.node;
+  same : l.items.items ++ numbers_where (λ p. p.node == l.node) l.item (drop l.process-index l.process-items)
+      ≡ l.fn.items.items ++ starts_of l.head l.node;
 }

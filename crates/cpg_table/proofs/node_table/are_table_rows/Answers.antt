@@ -8,19 +8,24 @@ pub returns-then-not-are_rows : goal.returns-then-not-are_rows
 returns-then-not-are_rows c =
     let t = c.args.table.now in
     not_first (IsLawfulRow c.args.space) t.starts t.sends t.hears c.are_rows.result
-    (subst (λ (rows : List Row). IsTrue c.are_rows.result ↔ All (IsLawfulRow c.args.space) rows) c.starts.ensures.starts c.are_rows.ensures) c.if-not-are_rows.true
+    (subst (λ (rows : List Row). IsTrue c.are_rows.result ↔ All (IsLawfulRow c.args.space) rows) c.starts.ensures.starts
+    c.are_rows.ensures) c.if-not-are_rows.true
 
 pub returns-then-not-are_rows-2 : goal.returns-then-not-are_rows-2
 returns-then-not-are_rows-2 c =
     let t = c.args.table.now in
     not_second (IsLawfulRow c.args.space) t.starts t.sends t.hears c.are_rows-2.result
-    (subst (λ (rows : List Row). IsTrue c.are_rows-2.result ↔ All (IsLawfulRow c.args.space) rows) c.sends.ensures.sends c.are_rows-2.ensures) c.if-not-are_rows-2.true
+    (subst (λ (rows : List Row). IsTrue c.are_rows-2.result ↔ All (IsLawfulRow c.args.space) rows) c.sends.ensures.sends
+    c.are_rows-2.ensures) c.if-not-are_rows-2.true
 
 pub returns : goal.returns
 returns c =
     let t = c.args.table.now in
     if_third (IsLawfulRow c.args.space) t.starts t.sends t.hears
-    (subst (λ (rows : List Row). All (IsLawfulRow c.args.space) rows) c.starts.ensures.starts (c.are_rows.ensures.0 c.if-not-are_rows.false))
-    (subst (λ (rows : List Row). All (IsLawfulRow c.args.space) rows) c.sends.ensures.sends (c.are_rows-2.ensures.0 c.if-not-are_rows-2.false))
+    (subst (λ (rows : List Row). All (IsLawfulRow c.args.space) rows) c.starts.ensures.starts
+    (c.are_rows.ensures.0 c.if-not-are_rows.false))
+    (subst (λ (rows : List Row). All (IsLawfulRow c.args.space) rows) c.sends.ensures.sends
+    (c.are_rows-2.ensures.0 c.if-not-are_rows-2.false))
     c.are_rows-3.result
-    (subst (λ (rows : List Row). IsTrue c.are_rows-3.result ↔ All (IsLawfulRow c.args.space) rows) c.hears.ensures.hears c.are_rows-3.ensures)
+    (subst (λ (rows : List Row). IsTrue c.are_rows-3.result ↔ All (IsLawfulRow c.args.space) rows) c.hears.ensures.hears
+    c.are_rows-3.ensures)

@@ -6,6 +6,8 @@ abbrev pub invariant-loop-process : goal.invariant-loop-process
 invariant-loop-process l = record {
   counted : l.number ≡ l.process-index;
   few : l.condition ≤ l.process-index;
-  on : l.fn.own ≡ own_of l.head l.node → l.rest ≡ own_from l.node l.number l.condition (drop l.process-index l.process-items);
-  back : l.rest ≡ own_from l.node l.number l.condition (drop l.process-index l.process-items) → l.fn.own ≡ own_of l.head l.node;
+  on : l.fn.own ≡ own_of l.head l.node →
+      l.rest ≡ own_from l.node l.number l.condition (drop l.process-index l.process-items);
+  back : l.rest ≡ own_from l.node l.number l.condition (drop l.process-index l.process-items) →
+      l.fn.own ≡ own_of l.head l.node;
 }

@@ -6,5 +6,6 @@ abbrev pub invariant-loop-process : goal.invariant-loop-process
 invariant-loop-process l = record {
   counted : l.number ≡ l.process-index;
   few : l.condition ≤ l.process-index;
-  same : own_of l.head l.node ≡ l.own.items ++ own_from l.node l.number l.condition (drop l.process-index l.process-items);
+  same : own_of l.head l.node ≡ l.own.items
+      ++ own_from l.node l.number l.condition (drop l.process-index l.process-items);
 }

@@ -13,9 +13,11 @@ on_true false h = tt
 pub loop-literal-preserved : goal.loop-literal-preserved
 loop-literal-preserved c e =
     let parts = and_parts c.loop-literal.are c.is_count-are.result e in
-    subst (All (IsCountLiteral c.args.space)) (sym (take_more c.args.literals.now c.loop-literal.literal-index _ (omega (arith, c.loop-literal-test.true))))
+    subst (All (IsCountLiteral c.args.space))
+    (sym (take_more c.args.literals.now c.loop-literal.literal-index _ (omega (arith, c.loop-literal-test.true))))
     (All-push (IsCountLiteral c.args.space) _ _ (c.loop-literal.invariant parts.0) (c.is_count-are.ensures.0 parts.1))
 
 pub returns : goal.returns
-returns c = on_true c.loop-literal.are (λ e. subst (All (IsCountLiteral c.args.space)) (take_all c.loop-literal.literal-index c.args.literals.now (omega (arith, c.loop-literal-test.false)))
+returns c = on_true c.loop-literal.are (λ e. subst (All (IsCountLiteral c.args.space))
+    (take_all c.loop-literal.literal-index c.args.literals.now (omega (arith, c.loop-literal-test.false)))
     (c.loop-literal.invariant e))

@@ -3,4 +3,5 @@ use Rattle.cpg_table.specs.Lawful.{column_count, rows_of}
 use Rattle.cpg_table.proofs.tables.are_columns_few.Given as goal
 
 abbrev pub invariant-loop-table : goal.invariant-loop-table
-invariant-loop-table l = l.total + sum_by (λ t. column_count (rows_of t)) (drop l.table-index l.nodes) ≡ sum_by (λ t. column_count (rows_of t)) l.nodes
+invariant-loop-table l = l.total + sum_by (λ t. column_count (rows_of t)) (drop l.table-index l.nodes)
+    ≡ sum_by (λ t. column_count (rows_of t)) l.nodes

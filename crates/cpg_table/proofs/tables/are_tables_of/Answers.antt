@@ -14,6 +14,7 @@ loop-table-preserved c =
       counted = omega (arith, c.loop-table.invariant.counted);
       each = below_more (λ k. IsTableOf h k (table_at ts k)) i c.loop-table.invariant.each
           (subst (λ k. IsTableOf h k (table_at ts i)) c.loop-table.invariant.counted
-          (subst (IsTableOf h c.loop-table.node) (c.table-item.is ∙ get_or_default ts i c.table-item.result empty_table c.loop-table-test.true)
+          (subst (IsTableOf h c.loop-table.node)
+          (c.table-item.is ∙ get_or_default ts i c.table-item.result empty_table c.loop-table-test.true)
           (c.is_table_of.ensures.0 c.if-not-is_table_of.false)));
     }

@@ -4,4 +4,5 @@ use Rattle.cpg_base.specs.Scenario.{IsScenario}
 use Rattle.cpg_tests.proofs.list_tests.is_found_in.Goals as goal
 
 pub first_alike-requires : goal.first_alike-requires
-first_alike-requires c = All-weaker (Contains c.args.scenarios.now) (IsScenario c.args.admitted.now.graph) c.requires.scenarios.lawful c.args.scenarios.now (All-contains_itself c.args.scenarios.now)
+first_alike-requires c = All-weaker (Contains c.args.scenarios.now) (IsScenario c.args.admitted.now.graph)
+    c.requires.scenarios.lawful c.args.scenarios.now (All-contains_itself c.args.scenarios.now)

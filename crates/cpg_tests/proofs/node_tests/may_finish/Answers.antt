@@ -1,4 +1,5 @@
-use Rattle.std.proofs.Common.{◌≡◌, ◌<◌, ◌≤◌, ◌+◌, ℕ, Bool, true, false, Option, Some, None, sym, ap, ◌∙◌, refl, arith, subst, ltb-true, lt-ltb, nat_lt, true≢false}
+use Rattle.std.proofs.Common.{◌≡◌, ◌<◌, ◌≤◌, ◌+◌, ℕ, Bool, true, false, Option, Some, None, sym, ap, ◌∙◌, refl, arith}
+use Rattle.std.proofs.Common.{subst, ltb-true, lt-ltb, nat_lt, true≢false}
 use Rattle.std.specs.Prelude.{IfSome, is_some, option_map, option_and_then}
 use Rattle.std.specs.Bool.{OnTrue}
 use Rattle.std.proofs.lemmas.Option.{none-some, same_Some}
@@ -15,10 +16,13 @@ record Unreported (o : Option Running) (start : ℕ) : Type 0 where
   pub started : run.start ≡ start
   pub none : run.report ≡ None
 
-unreported : (o : Option Running) (start : ℕ) (report : Option Ended) → option_map (λ (run : Running). run.start) o ≡ Some start → option_and_then (λ (run : Running). run.report) o ≡ report →
+unreported : (o : Option Running) (start : ℕ) (report : Option Ended) →
+    option_map (λ (run : Running). run.start) o ≡ Some start →
+    option_and_then (λ (run : Running). run.report) o ≡ report →
     is_some report ≡ false → Unreported o start
 unreported None start report e f n = absurd (none-some start e)
-unreported (Some run) start None e f n = record { run = run; runs = refl; started = same_Some run.start start e; none = f }
+unreported (Some run) start None e f n =
+    record { run = run; runs = refl; started = same_Some run.start start e; none = f }
 unreported (Some run) start (Some r) e f n = absurd (true≢false n)
 
 -- the next instant is after the last
@@ -37,10 +41,12 @@ pub returns : goal.returns
 returns c =
     let d = c.args.node.now.dispatcher in
     let ended = c.args.ended.now in
-    let r = unreported (running_of d ended.process) c.in-Some.start (report_of d ended.process) (sym c.running.ensures ∙ c.in-Some.is) refl (sym c.reported.ensures ∙ c.if-reported.false) in
+    let r = unreported (running_of d ended.process) c.in-Some.start (report_of d ended.process)
+    (sym c.running.ensures ∙ c.in-Some.is) refl (sym c.reported.ensures ∙ c.if-reported.false) in
     on_true (nat_lt 0 c.time_of.result) (λ e.
     let some : 0 < c.time_of.result = ltb-true 0 c.time_of.result e in
-    let faults : c.faults.result ≡ d.table.faults = c.faults.ensures.faults ∙ ap (λ (t : NodeTable). t.faults) c.table.ensures in
+    let faults : c.faults.result ≡ d.table.faults =
+    c.faults.ensures.faults ∙ ap (λ (t : NodeTable). t.faults) c.table.ensures in
     record {
       run = r.run;
       runs = r.runs;
@@ -49,6 +55,7 @@ returns c =
       plain = λ _. c.if-ended.false;
       started = omega (arith, r.started, c.if-start-last.false);
       in_time = omega (arith, r.started, c.if-start-last.false, some, c.time_of.ensures);
-      later = subst (λ l. is_after l (c.args.last + 1) ≡ true) (sym c.requires) (lt-ltb c.args.last (c.args.last + 1) (omega arith));
+      later = subst (λ l. is_after l (c.args.last + 1) ≡ true) (sym c.requires)
+          (lt-ltb c.args.last (c.args.last + 1) (omega arith));
       before = next_after d c.args.last c.requires;
     })

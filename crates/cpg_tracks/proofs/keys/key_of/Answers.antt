@@ -8,4 +8,6 @@ source-requires c =
     let g = c.args.problem.now in
     let xs = c.inputs-edge-items.result.now in
     let e = get_or xs c.loop-edge.edge-index 0 in
-    (inputs_parts g c.args.process e (subst (λ ys. Contains ys e) (c.inputs-edge-items.ensures.of_graph g c.requires.links) (Contains-get_or xs c.loop-edge.edge-index 0 c.loop-edge-test.true))).0
+    (inputs_parts g c.args.process e
+    (subst (λ ys. Contains ys e) (c.inputs-edge-items.ensures.of_graph g c.requires.links)
+    (Contains-get_or xs c.loop-edge.edge-index 0 c.loop-edge-test.true))).0

@@ -4,4 +4,5 @@ use Rattle.cpg_tracks.specs.Keys.{key_over}
 use Rattle.cpg_tracks.proofs.keys.key_of.Given as goal
 
 abbrev pub invariant-loop-edge : goal.invariant-loop-edge
-invariant-loop-edge l = l.key ≡ key_over l.problem l.schedules l.keys l.process (take l.edge-index (inputs l.problem l.process))
+invariant-loop-edge l =
+    l.key ≡ key_over l.problem l.schedules l.keys l.process (take l.edge-index (inputs l.problem l.process))

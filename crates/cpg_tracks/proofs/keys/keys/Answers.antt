@@ -11,14 +11,16 @@ pub key_of-key-requires-clause-process : goal.key_of-key-requires-clause-process
 key_of-key-requires-clause-process c =
     let g = c.args.problem.now in
     let same = c.processes-process-items.ensures.processes in
-    let at = at_index g c.args.order.now c.requires.order c.args.schedules.now c.loop-process.process-index 0 (omega (arith, ap length same, c.loop-process-test.true)) in
+    let at = at_index g c.args.order.now c.requires.order c.args.schedules.now c.loop-process.process-index 0
+    (omega (arith, ap length same, c.loop-process-test.true)) in
     rw same at.0
 
 pub index_mut-requires : goal.index_mut-requires
 index_mut-requires c =
     let g = c.args.problem.now in
     let same = c.processes-process-items.ensures.processes in
-    let at = at_index g c.args.order.now c.requires.order c.args.schedules.now c.loop-process.process-index 0 (omega (arith, ap length same, c.loop-process-test.true)) in
+    let at = at_index g c.args.order.now c.requires.order c.args.schedules.now c.loop-process.process-index 0
+    (omega (arith, ap length same, c.loop-process-test.true)) in
     rw same (omega (arith, at.0, c.loop-process.invariant.set.count))
 
 pub loop-process-preserved : goal.loop-process-preserved
@@ -28,16 +30,26 @@ loop-process-preserved c =
     let keys = c.loop-process.keys.items in
     let p = get_or c.processes-process-items.result.now c.loop-process.process-index 0 in
     let same = c.processes-process-items.ensures.processes in
-    let at = at_index g order c.requires.order c.args.schedules.now c.loop-process.process-index 0 (omega (arith, ap length same, c.loop-process-test.true)) in
+    let at = at_index g order c.requires.order c.args.schedules.now c.loop-process.process-index 0
+    (omega (arith, ap length same, c.loop-process-test.true)) in
     let is = ap (λ xs. get_or xs c.loop-process.process-index 0) same in
     let inside : p < process_count g = subst (λ x. x < process_count g) (sym is) at.0 in
     let there : place order p ≡ c.loop-process.process-index = ap (place order) is ∙ at.1 in
-    let key : c.key_of-key.result ≡ key_by g c.args.schedules.now keys p = c.key_of-key.ensures ∙ ap (λ ks. key_by g c.args.schedules.now ks p) c.as_slice.ensures.value in
+    let key : c.key_of-key.result ≡ key_by g c.args.schedules.now keys p =
+    c.key_of-key.ensures ∙ ap (λ ks. key_by g c.args.schedules.now ks p) c.as_slice.ensures.value in
     record {
-      set = subst (λ k. KeysSoFar g order c.args.schedules.now (set keys p k) (c.loop-process.process-index + 1)) (sym key)
-          (key_set g order c.requires.order c.args.schedules.now keys c.loop-process.process-index p c.loop-process.invariant.set inside there);
-      low = λ q. let h = low_more keys (2 ^ 60 + c.loop-process.process-index) p c.key_of-key.result (omega (arith, c.loop-process.invariant.set.count)) c.loop-process.invariant.low
-          (omega (arith, key, key_low g c.args.schedules.now keys (2 ^ 60) (2 ^ 60 + c.loop-process.process-index) p c.requires.early (omega arith) c.loop-process.invariant.low)) q in
+      set = subst (λ k. KeysSoFar g order c.args.schedules.now (set keys p k) (c.loop-process.process-index + 1))
+          (sym key)
+          (key_set g order c.requires.order c.args.schedules.now keys c.loop-process.process-index p
+          c.loop-process.invariant.set inside there);
+      low = λ q. let h = low_more keys (2 ^ 60 + c.loop-process.process-index) p c.key_of-key.result
+          (omega (arith, c.loop-process.invariant.set.count)) c.loop-process.invariant.low
+          (omega (
+            arith,
+            key,
+            key_low g c.args.schedules.now keys (2 ^ 60) (2 ^ 60 + c.loop-process.process-index) p c.requires.early
+                (omega arith) c.loop-process.invariant.low,
+          )) q in
           omega (arith, h);
     }
 
@@ -45,5 +57,11 @@ pub returns : goal.returns
 returns c =
     let g = c.args.problem.now in
     let order = c.args.order.now in
-    let done : c.loop-process.process-index ≡ length order = omega (arith, ap length c.processes-process-items.ensures.processes, c.loop-process-test.false, c.loop-process.auto.process-index-end) in
-    keys_done g order c.requires.order c.args.schedules.now c.loop-process.keys.items (subst (KeysSoFar g order c.args.schedules.now c.loop-process.keys.items) done c.loop-process.invariant.set)
+    let done : c.loop-process.process-index ≡ length order = omega (
+      arith,
+      ap length c.processes-process-items.ensures.processes,
+      c.loop-process-test.false,
+      c.loop-process.auto.process-index-end,
+    ) in
+    keys_done g order c.requires.order c.args.schedules.now c.loop-process.keys.items
+    (subst (KeysSoFar g order c.args.schedules.now c.loop-process.keys.items) done c.loop-process.invariant.set)

@@ -4,9 +4,11 @@ use Rattle.cpg_tracks.proofs.Ranked.{all_ranked, rising_by_key}
 use Rattle.cpg_tracks.proofs.order.by_key.Goals as goal
 
 pub returns-clause-all : goal.returns-clause-all
-returns-clause-all c = all_ranked c.args.keys.now c.in_ok-rests.rests.items c.in_ok-order.order.items c.in_ok-rests.ensures
+returns-clause-all c =
+    all_ranked c.args.keys.now c.in_ok-rests.rests.items c.in_ok-order.order.items c.in_ok-rests.ensures
     (subst (λ xs. AreRanked xs c.in_ok-order.order.items) c.as_slice.ensures.value c.in_ok-order.ensures)
 
 pub returns-clause-rising : goal.returns-clause-rising
-returns-clause-rising c = rising_by_key c.args.keys.now c.in_ok-rests.rests.items c.in_ok-order.order.items c.in_ok-rests.ensures
+returns-clause-rising c =
+    rising_by_key c.args.keys.now c.in_ok-rests.rests.items c.in_ok-order.order.items c.in_ok-rests.ensures
     (subst (λ xs. AreRanked xs c.in_ok-order.order.items) c.as_slice.ensures.value c.in_ok-order.ensures)

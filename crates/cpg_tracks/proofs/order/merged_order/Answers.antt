@@ -9,12 +9,18 @@ pub by_key-requires : goal.by_key-requires
 by_key-requires c =
     let g = c.args.admitted.now.graph in
     let by = rw (c.as_slice-2.ensures.value, c.problem-problem.ensures.problem) at c.in_ok-keys.ensures in
-    omega (arith, ap length c.as_slice-3.ensures.value, keys_long g c.in_ok-schedules.schedules.items c.in_ok-keys.keys.items by, c.problem-problem.ensures.admitted.limits.few_processes)
+    omega (
+      arith,
+      ap length c.as_slice-3.ensures.value,
+      keys_long g c.in_ok-schedules.schedules.items c.in_ok-keys.keys.items by,
+      c.problem-problem.ensures.admitted.limits.few_processes,
+    )
 
 pub unreachable-requires : goal.unreachable-requires
 unreachable-requires c =
     let g = c.args.admitted.now.graph in
-    let order : HasTrackOrder g c.in_ok-processes.processes.items = has_order g c.in-Some.tracks.items c.in_ok-schedules.schedules.items c.in_ok-keys.keys.items c.in_ok-processes.processes.items
+    let order : HasTrackOrder g c.in_ok-processes.processes.items = has_order g c.in-Some.tracks.items
+    c.in_ok-schedules.schedules.items c.in_ok-keys.keys.items c.in_ok-processes.processes.items
     (rw c.in-Some.is at c.in_ok-tracks.ensures.tracks)
     (rw c.as_slice.ensures.value at c.in_ok-schedules.ensures.greedy)
     (rw (c.as_slice-2.ensures.value, c.problem-problem.ensures.problem) at c.in_ok-keys.ensures)
@@ -22,12 +28,14 @@ unreachable-requires c =
     (rw c.as_slice-3.ensures.value at c.in_ok-processes.ensures.rising) in
     let refused = rw c.in_default-2.is at c.in_ok-order.ensures.refused in
     refused (subst₂ IsTopological (sym c.problem-problem.ensures.problem) (sym c.as_slice-4.ensures.value)
-    (order_of_tracks_topological g c.problem-problem.ensures.admitted.well_formed c.in_ok-processes.processes.items order))
+    (order_of_tracks_topological g c.problem-problem.ensures.admitted.well_formed
+    c.in_ok-processes.processes.items order))
 
 pub returns-clause-order : goal.returns-clause-order
 returns-clause-order c =
     let g = c.args.admitted.now.graph in
-    let order : HasTrackOrder g c.in_ok-processes.processes.items = has_order g c.in-Some.tracks.items c.in_ok-schedules.schedules.items c.in_ok-keys.keys.items c.in_ok-processes.processes.items
+    let order : HasTrackOrder g c.in_ok-processes.processes.items = has_order g c.in-Some.tracks.items
+    c.in_ok-schedules.schedules.items c.in_ok-keys.keys.items c.in_ok-processes.processes.items
     (rw c.in-Some.is at c.in_ok-tracks.ensures.tracks)
     (rw c.as_slice.ensures.value at c.in_ok-schedules.ensures.greedy)
     (rw (c.as_slice-2.ensures.value, c.problem-problem.ensures.problem) at c.in_ok-keys.ensures)

@@ -5,6 +5,7 @@ use Rattle.cpg_tracks.proofs.schedule.all_fed.Goals as goal
 pub loop-process-preserved : goal.loop-process-preserved
 loop-process-preserved c = record {
   each = c.in_ok-feed.ensures.each c.loop-process.invariant.each;
-  all = fed_below c.args.problem.now (outcome_of c.args.timing.now) c.args.starts.now c.loop-process.process c.loop-process.fed.items c.feed.new.fed.items c.in_ok-feed.ensures
+  all = fed_below c.args.problem.now (outcome_of c.args.timing.now) c.args.starts.now c.loop-process.process
+      c.loop-process.fed.items c.feed.new.fed.items c.in_ok-feed.ensures
       c.loop-process.invariant.all;
 }

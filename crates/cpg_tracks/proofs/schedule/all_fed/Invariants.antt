@@ -7,5 +7,6 @@ use Rattle.cpg_tracks.proofs.schedule.all_fed.Given as goal
 abbrev pub invariant-loop-process : goal.invariant-loop-process
 invariant-loop-process l = record {
   each : (f : FedProcess) → Contains l.fed.items f → IsFedAt l.problem (outcome_of l.timing) l.starts f;
-  all : (q : ℕ) → q < l.process → IsFed l.problem (outcome_of l.timing) l.starts q → Contains (map (λ f. f.process) l.fed.items) q;
+  all : (q : ℕ) → q < l.process → IsFed l.problem (outcome_of l.timing) l.starts q →
+      Contains (map (λ f. f.process) l.fed.items) q;
 }

@@ -9,5 +9,6 @@ abbrev pub invariant-loop-edge : goal.invariant-loop-edge
 invariant-loop-edge l = record {
   each : (f : FedProcess) → Contains l.fed.items f → IsFedAt l.problem (outcome_of l.timing) l.starts f;
   kept : (q : ℕ) → Contains (map (λ f. f.process) l.fn.fed.items) q → Contains (map (λ f. f.process) l.fed.items) q;
-  targets : AreTargetsFed l.problem (outcome_of l.timing) l.starts (take l.edge-index (outputs l.problem l.process)) l.fed.items;
+  targets : AreTargetsFed l.problem (outcome_of l.timing) l.starts
+      (take l.edge-index (outputs l.problem l.process)) l.fed.items;
 }

@@ -6,7 +6,8 @@ use Rattle.cpg_tracks.proofs.GreedySteps.{duration_at, durations_long, start_ear
 use Rattle.cpg_tracks.proofs.schedule.input_time.Goals as goal
 
 pub index-requires : goal.index-requires
-index-requires c = omega (arith, c.source-source.ensures.within, durations_long c.args.problem.now c.args.timing.now c.requires.timing)
+index-requires c =
+    omega (arith, c.source-source.ensures.within, durations_long c.args.problem.now c.args.timing.now c.requires.timing)
 
 pub overflow_add-end : goal.overflow_add-end
 overflow_add-end c =
@@ -14,7 +15,8 @@ overflow_add-end c =
     let p = c.source-source.result in
     omega (
       arith,
-      c.index.ensures ∙ duration_at g c.args.timing.now c.requires.timing p c.index.result.now c.source-source.ensures.within,
+      c.index.ensures
+          ∙ duration_at g c.args.timing.now c.requires.timing p c.index.result.now c.source-source.ensures.within,
       duration-le g p g.faults c.requires.timing.limits c.source-source.ensures.within c.requires.timing.limits.faults,
       start_early c.args.starts.now p c.in-Some.start _ c.requires.starts.early c.in-Some.is,
     )
@@ -25,7 +27,8 @@ overflow_add-result c =
     let p = c.source-source.result in
     omega (
       arith,
-      c.index.ensures ∙ duration_at g c.args.timing.now c.requires.timing p c.index.result.now c.source-source.ensures.within,
+      c.index.ensures
+          ∙ duration_at g c.args.timing.now c.requires.timing p c.index.result.now c.source-source.ensures.within,
       duration-le g p g.faults c.requires.timing.limits c.source-source.ensures.within c.requires.timing.limits.faults,
       start_early c.args.starts.now p c.in-Some.start _ c.requires.starts.early c.in-Some.is,
       c.requires.timing.round,
@@ -36,15 +39,20 @@ pub returns-then-is_message : goal.returns-then-is_message
 returns-then-is_message c =
     let g = c.args.problem.now in
     let from = c.source-source.ensures.source in
-    let time = c.index.ensures ∙ duration_at g c.args.timing.now c.requires.timing c.source-source.result c.index.result.now c.source-source.ensures.within ∙ ap (λ p. duration g p g.faults) from in
+    let time = c.index.ensures ∙ duration_at g c.args.timing.now c.requires.timing c.source-source.result
+    c.index.result.now c.source-source.ensures.within ∙ ap (λ p. duration g p g.faults) from in
     ap₂ (λ d r. Some (c.in-Some.start + d + r)) time c.requires.timing.round
-    ∙ input_there g c.args.starts.now c.args.edge c.in-Some.start true (ap (λ p. get_or c.args.starts.now p None) (sym from) ∙ c.in-Some.is) (sym c.is_message.ensures ∙ c.if-is_message.true)
+    ∙ input_there g c.args.starts.now c.args.edge c.in-Some.start true (ap (λ p. get_or c.args.starts.now p None)
+    (sym from) ∙ c.in-Some.is) (sym c.is_message.ensures ∙ c.if-is_message.true)
 
 pub returns : goal.returns
 returns c =
     let g = c.args.problem.now in
     let from = c.source-source.ensures.source in
-    let time = c.index.ensures ∙ duration_at g c.args.timing.now c.requires.timing c.source-source.result c.index.result.now c.source-source.ensures.within ∙ ap (λ p. duration g p g.faults) from in
+    let time = c.index.ensures ∙ duration_at g c.args.timing.now c.requires.timing c.source-source.result
+    c.index.result.now c.source-source.ensures.within ∙ ap (λ p. duration g p g.faults) from in
     ap (λ d. Some (c.in-Some.start + d)) time
-    ∙ ap Some (let z : c.in-Some.start + duration g (source g c.args.edge) g.faults ≡ c.in-Some.start + duration g (source g c.args.edge) g.faults + 0 = omega arith in z)
-    ∙ input_there g c.args.starts.now c.args.edge c.in-Some.start false (ap (λ p. get_or c.args.starts.now p None) (sym from) ∙ c.in-Some.is) (sym c.is_message.ensures ∙ c.if-is_message.false)
+    ∙ ap Some (let z : c.in-Some.start + duration g (source g c.args.edge) g.faults
+    ≡ c.in-Some.start + duration g (source g c.args.edge) g.faults + 0 = omega arith in z)
+    ∙ input_there g c.args.starts.now c.args.edge c.in-Some.start false (ap (λ p. get_or c.args.starts.now p None)
+    (sym from) ∙ c.in-Some.is) (sym c.is_message.ensures ∙ c.if-is_message.false)

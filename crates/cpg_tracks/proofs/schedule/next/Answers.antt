@@ -23,16 +23,21 @@ pub loop-one-preserved : goal.loop-one-preserved
 loop-one-preserved c =
     let within = c.requires.within c.loop-one.one-index (record { process = 0; ready = 0 }) c.loop-one-test.true in
     record {
-      within = either_within (process_count c.args.problem.now) c.args.order.now c.loop-one.best c.candidate_of-other.result c.better.result c.better.ensures c.loop-one.invariant.within
+      within = either_within (process_count c.args.problem.now) c.args.order.now c.loop-one.best
+          c.candidate_of-other.result c.better.result c.better.ensures c.loop-one.invariant.within
           (omega (arith, c.candidate_of-other.ensures.process, within));
-      best = λ o starts free fed. best_after c.args.problem.now o starts c.args.order.now c.requires.order c.args.free.now c.args.fed.now free fed
-          c.loop-one.one-index (record { process = 0; ready = 0 }) c.loop-one-test.true c.loop-one.best c.candidate_of-other.result c.better.result
+      best = λ o starts free fed. best_after c.args.problem.now o starts c.args.order.now c.requires.order
+          c.args.free.now c.args.fed.now free fed
+          c.loop-one.one-index (record { process = 0; ready = 0 }) c.loop-one-test.true c.loop-one.best
+          c.candidate_of-other.result c.better.result
           (c.loop-one.invariant.best o starts free fed) c.better.ensures c.candidate_of-other.ensures.node
           c.candidate_of-other.ensures.process c.candidate_of-other.ensures.start;
     }
 
 pub returns : goal.returns
 returns c o starts free fed =
-    let done = ap (map (λ (f : FedProcess). f.process)) (take_all c.loop-one.one-index c.args.fed.now c.loop-one-test.false) in
+    let done =
+    ap (map (λ (f : FedProcess). f.process)) (take_all c.loop-one.one-index c.args.fed.now c.loop-one-test.false) in
     chosen c.args.problem.now o starts c.args.fed.now fed c.loop-one.best
-    (subst (λ qs. IsBestOf c.args.problem.now o starts qs c.loop-one.best) done (c.loop-one.invariant.best o starts free fed))
+    (subst (λ qs. IsBestOf c.args.problem.now o starts qs c.loop-one.best) done
+    (c.loop-one.invariant.best o starts free fed))

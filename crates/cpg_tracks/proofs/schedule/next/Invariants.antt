@@ -6,6 +6,7 @@ use Rattle.cpg_tracks.proofs.schedule.next.Given as goal
 abbrev pub invariant-loop-one : goal.invariant-loop-one
 invariant-loop-one l = record {
   within : IfSome l.best (λ c. c.process < process_count l.problem);
-  best : (o : List Bool) (starts : List (Option ℕ)) → AreFree l.problem starts l.free → AreFed l.problem o starts l.fed →
+  best : (o : List Bool) (starts : List (Option ℕ)) → AreFree l.problem starts l.free →
+      AreFed l.problem o starts l.fed →
       IsBestOf l.problem o starts (map (λ f. f.process) (take l.one-index l.fed)) l.best;
 }

@@ -1,9 +1,11 @@
-use Rattle.std.proofs.Common.{◌≡◌, ◌+◌, ◌<◌, ◌≤◌, ◌∙◌, All, None, Some, replicate, set, ap, sym, subst, subst₂, length, rules, arith}
+use Rattle.std.proofs.Common.{◌≡◌, ◌+◌, ◌<◌, ◌≤◌, ◌∙◌, All, None, Some, replicate, set, ap, sym, subst, subst₂, length}
+use Rattle.std.proofs.Common.{rules, arith}
 use Rattle.cpg_base.specs.Graph.{process_count}
 use Rattle.cpg_base.proofs.Bounds.{duration-le}
 use Rattle.cpg_tracks.specs.Timing.{IsOnTheWay, AreFed, AreFedBut, outcome_of}
 use Rattle.cpg_tracks.specs.declared.schedule.FedProcess.{FedProcess}
-use Rattle.cpg_tracks.proofs.GreedySteps.{HavePlaced, placed_first, placed_open, placed_early, placed_late, placed_more, placed_whole, placed_greedy, frees_long, chosen_of, fed_within}
+use Rattle.cpg_tracks.proofs.GreedySteps.{HavePlaced, placed_first, placed_open, placed_early, placed_late, placed_more}
+use Rattle.cpg_tracks.proofs.GreedySteps.{placed_whole, placed_greedy, frees_long, chosen_of, fed_within}
 use Rattle.cpg_tracks.proofs.GreedySteps.{duration_at, durations_long}
 use Rattle.cpg_tracks.proofs.Feeding.{fed_next}
 use Rattle.cpg_tracks.proofs.schedule.place_all.Goals as goal
@@ -18,8 +20,10 @@ loop-placed-init c =
           (sym (starts ∙ ap (λ n. replicate n None) (ap length c.processes-count.ensures.processes)))
           (sym (free ∙ ap (λ n. replicate n 0) (ap length c.nodes.ensures.nodes)))
           (placed_first g c.args.track.now.outcome);
-      fed = subst (λ x. AreFed g x c.in_ok-starts.starts.items c.in_ok-fed.fed.items) (ap (λ t. t.outcome) c.in_ok-timing.ensures.track)
-          (subst (λ xs. AreFed g (outcome_of c.in_ok-timing.timing) xs c.in_ok-fed.fed.items) c.as_slice.ensures.value c.in_ok-fed.ensures);
+      fed = subst (λ x. AreFed g x c.in_ok-starts.starts.items c.in_ok-fed.fed.items)
+          (ap (λ t. t.outcome) c.in_ok-timing.ensures.track)
+          (subst (λ xs. AreFed g (outcome_of c.in_ok-timing.timing) xs c.in_ok-fed.fed.items) c.as_slice.ensures.value
+          c.in_ok-fed.ensures);
     }
 
 pub next-requires-clause-free : goal.next-requires-clause-free
@@ -36,8 +40,10 @@ next-requires-clause-free c =
 pub next-requires-clause-within : goal.next-requires-clause-within
 next-requires-clause-within c =
     let g = c.args.problem.now in
-    subst (λ xs. All (λ (f : FedProcess). f.process < process_count g) xs) (sym c.as_slice-in-loop-placed-2.ensures.value)
-    (fed_within g c.args.track.now.outcome c.loop-placed.starts.items c.loop-placed.fed.items c.loop-placed.invariant.fed)
+    subst (λ xs. All (λ (f : FedProcess). f.process < process_count g) xs)
+    (sym c.as_slice-in-loop-placed-2.ensures.value)
+    (fed_within g c.args.track.now.outcome c.loop-placed.starts.items c.loop-placed.fed.items
+    c.loop-placed.invariant.fed)
 
 pub returns-in_default-clause-greedy : goal.returns-in_default-clause-greedy
 returns-in_default-clause-greedy c =
@@ -49,8 +55,10 @@ returns-in_default-clause-greedy c =
     let n = c.loop-placed._placed in
     let h = c.loop-placed.invariant.placed in
     placed_greedy g a.limits a.well_formed o s f n h c.args.order.now a.topological
-    (chosen_of g o s f c.as_slice-in-loop-placed.result.now c.loop-placed.fed.items c.as_slice-in-loop-placed-2.result.now c.next.result None
-    c.as_slice-in-loop-placed.ensures.value c.as_slice-in-loop-placed-2.ensures.value h.free c.loop-placed.invariant.fed c.next.ensures c.in_default.is)
+    (chosen_of g o s f c.as_slice-in-loop-placed.result.now c.loop-placed.fed.items
+    c.as_slice-in-loop-placed-2.result.now c.next.result None
+    c.as_slice-in-loop-placed.ensures.value c.as_slice-in-loop-placed-2.ensures.value h.free c.loop-placed.invariant.fed
+    c.next.ensures c.in_default.is)
 
 pub index-requires : goal.index-requires
 index-requires c =
@@ -60,8 +68,10 @@ index-requires c =
     let f = c.loop-placed.free.items in
     let h = c.loop-placed.invariant.placed in
     let p = c.in-Some.chosen.process in
-    let next = chosen_of g o s f c.as_slice-in-loop-placed.result.now c.loop-placed.fed.items c.as_slice-in-loop-placed-2.result.now c.next.result (Some c.in-Some.chosen)
-    c.as_slice-in-loop-placed.ensures.value c.as_slice-in-loop-placed-2.ensures.value h.free c.loop-placed.invariant.fed c.next.ensures c.in-Some.is in
+    let next = chosen_of g o s f c.as_slice-in-loop-placed.result.now c.loop-placed.fed.items
+    c.as_slice-in-loop-placed-2.result.now c.next.result (Some c.in-Some.chosen)
+    c.as_slice-in-loop-placed.ensures.value c.as_slice-in-loop-placed-2.ensures.value h.free c.loop-placed.invariant.fed
+    c.next.ensures c.in-Some.is in
     omega (arith, next.0.fed.within, durations_long g c.in_ok-timing.timing c.in_ok-timing.ensures.timing)
 
 pub overflow_add-end : goal.overflow_add-end
@@ -74,13 +84,17 @@ overflow_add-end c =
     let n = c.loop-placed._placed in
     let h = c.loop-placed.invariant.placed in
     let p = c.in-Some.chosen.process in
-    let next = chosen_of g o s f c.as_slice-in-loop-placed.result.now c.loop-placed.fed.items c.as_slice-in-loop-placed-2.result.now c.next.result (Some c.in-Some.chosen)
-    c.as_slice-in-loop-placed.ensures.value c.as_slice-in-loop-placed-2.ensures.value h.free c.loop-placed.invariant.fed c.next.ensures c.in-Some.is in
+    let next = chosen_of g o s f c.as_slice-in-loop-placed.result.now c.loop-placed.fed.items
+    c.as_slice-in-loop-placed-2.result.now c.next.result (Some c.in-Some.chosen)
+    c.as_slice-in-loop-placed.ensures.value c.as_slice-in-loop-placed-2.ensures.value h.free c.loop-placed.invariant.fed
+    c.next.ensures c.in-Some.is in
     omega (
       arith,
-      placed_late g a.limits a.well_formed o s f n h p (omega (arith, ap length c.processes-count.ensures.processes, c.loop-placed-test.true)) next.0,
+      placed_late g a.limits a.well_formed o s f n h p
+          (omega (arith, ap length c.processes-count.ensures.processes, c.loop-placed-test.true)) next.0,
       next.1,
-      c.index.ensures ∙ duration_at g c.in_ok-timing.timing c.in_ok-timing.ensures.timing p c.index.result.now next.0.fed.within,
+      c.index.ensures
+          ∙ duration_at g c.in_ok-timing.timing c.in_ok-timing.ensures.timing p c.index.result.now next.0.fed.within,
       duration-le g p g.faults a.limits next.0.fed.within a.limits.faults,
     )
 
@@ -94,12 +108,17 @@ feed_targets-requires-clause-starts c =
     let n = c.loop-placed._placed in
     let h = c.loop-placed.invariant.placed in
     let p = c.in-Some.chosen.process in
-    let next = chosen_of g o s f c.as_slice-in-loop-placed.result.now c.loop-placed.fed.items c.as_slice-in-loop-placed-2.result.now c.next.result (Some c.in-Some.chosen)
-    c.as_slice-in-loop-placed.ensures.value c.as_slice-in-loop-placed-2.ensures.value h.free c.loop-placed.invariant.fed c.next.ensures c.in-Some.is in
-    let time = c.index.ensures ∙ duration_at g c.in_ok-timing.timing c.in_ok-timing.ensures.timing p c.index.result.now next.0.fed.within in
-    let more = placed_more g a.limits a.well_formed o s f n h p c.in-Some.chosen.start c.node_of.result c.index.result.now next.0 next.1 c.node_of.ensures.node time in
+    let next = chosen_of g o s f c.as_slice-in-loop-placed.result.now c.loop-placed.fed.items
+    c.as_slice-in-loop-placed-2.result.now c.next.result (Some c.in-Some.chosen)
+    c.as_slice-in-loop-placed.ensures.value c.as_slice-in-loop-placed-2.ensures.value h.free c.loop-placed.invariant.fed
+    c.next.ensures c.in-Some.is in
+    let time = c.index.ensures
+    ∙ duration_at g c.in_ok-timing.timing c.in_ok-timing.ensures.timing p c.index.result.now next.0.fed.within in
+    let more = placed_more g a.limits a.well_formed o s f n h p c.in-Some.chosen.start c.node_of.result
+    c.index.result.now next.0 next.1 c.node_of.ensures.node time in
     subst (IsOnTheWay g) (sym c.as_slice-in-loop-placed-3.ensures.value)
-    (placed_open g a.limits a.well_formed o _ _ (n + 1) more (omega (arith, ap length c.processes-count.ensures.processes, c.loop-placed-test.true)))
+    (placed_open g a.limits a.well_formed o _ _ (n + 1) more
+    (omega (arith, ap length c.processes-count.ensures.processes, c.loop-placed-test.true)))
 
 pub feed_targets-requires-clause-fed : goal.feed_targets-requires-clause-fed
 feed_targets-requires-clause-fed c =
@@ -110,10 +129,14 @@ feed_targets-requires-clause-fed c =
     let f = c.loop-placed.free.items in
     let h = c.loop-placed.invariant.placed in
     let p = c.in-Some.chosen.process in
-    let next = chosen_of g o s f c.as_slice-in-loop-placed.result.now c.loop-placed.fed.items c.as_slice-in-loop-placed-2.result.now c.next.result (Some c.in-Some.chosen)
-    c.as_slice-in-loop-placed.ensures.value c.as_slice-in-loop-placed-2.ensures.value h.free c.loop-placed.invariant.fed c.next.ensures c.in-Some.is in
-    subst (λ x. AreFedBut g x c.as_slice-in-loop-placed-3.result.now p c.drop_placed.new.fed.items) (sym (ap (λ t. t.outcome) c.in_ok-timing.ensures.track))
-    (fed_next g a.well_formed o s h.placing p next.0 c.loop-placed.fed.items c.in-Some.chosen.start c.as_slice-in-loop-placed-3.result.now c.drop_placed.new.fed.items c.loop-placed.invariant.fed
+    let next = chosen_of g o s f c.as_slice-in-loop-placed.result.now c.loop-placed.fed.items
+    c.as_slice-in-loop-placed-2.result.now c.next.result (Some c.in-Some.chosen)
+    c.as_slice-in-loop-placed.ensures.value c.as_slice-in-loop-placed-2.ensures.value h.free c.loop-placed.invariant.fed
+    c.next.ensures c.in-Some.is in
+    subst (λ x. AreFedBut g x c.as_slice-in-loop-placed-3.result.now p c.drop_placed.new.fed.items)
+    (sym (ap (λ t. t.outcome) c.in_ok-timing.ensures.track))
+    (fed_next g a.well_formed o s h.placing p next.0 c.loop-placed.fed.items c.in-Some.chosen.start
+    c.as_slice-in-loop-placed-3.result.now c.drop_placed.new.fed.items c.loop-placed.invariant.fed
     next.1 c.as_slice-in-loop-placed-3.ensures.value c.drop_placed.ensures)
 
 pub loop-placed-preserved : goal.loop-placed-preserved
@@ -126,14 +149,20 @@ loop-placed-preserved c =
     let n = c.loop-placed._placed in
     let h = c.loop-placed.invariant.placed in
     let p = c.in-Some.chosen.process in
-    let next = chosen_of g o s f c.as_slice-in-loop-placed.result.now c.loop-placed.fed.items c.as_slice-in-loop-placed-2.result.now c.next.result (Some c.in-Some.chosen)
-    c.as_slice-in-loop-placed.ensures.value c.as_slice-in-loop-placed-2.ensures.value h.free c.loop-placed.invariant.fed c.next.ensures c.in-Some.is in
-    let time = c.index.ensures ∙ duration_at g c.in_ok-timing.timing c.in_ok-timing.ensures.timing p c.index.result.now next.0.fed.within in
-    let more = placed_more g a.limits a.well_formed o s f n h p c.in-Some.chosen.start c.node_of.result c.index.result.now next.0 next.1 c.node_of.ensures.node time in
+    let next = chosen_of g o s f c.as_slice-in-loop-placed.result.now c.loop-placed.fed.items
+    c.as_slice-in-loop-placed-2.result.now c.next.result (Some c.in-Some.chosen)
+    c.as_slice-in-loop-placed.ensures.value c.as_slice-in-loop-placed-2.ensures.value h.free c.loop-placed.invariant.fed
+    c.next.ensures c.in-Some.is in
+    let time = c.index.ensures
+    ∙ duration_at g c.in_ok-timing.timing c.in_ok-timing.ensures.timing p c.index.result.now next.0.fed.within in
+    let more = placed_more g a.limits a.well_formed o s f n h p c.in-Some.chosen.start c.node_of.result
+    c.index.result.now next.0 next.1 c.node_of.ensures.node time in
     record {
       placed = more;
-      fed = subst (λ x. AreFed g x (set s p (Some c.in-Some.chosen.start)) c.feed_targets.new.fed.items) (ap (λ t. t.outcome) c.in_ok-timing.ensures.track)
-          (subst (λ xs. AreFed g (outcome_of c.in_ok-timing.timing) xs c.feed_targets.new.fed.items) c.as_slice-in-loop-placed-3.ensures.value c.in_ok-feed_targets.ensures);
+      fed = subst (λ x. AreFed g x (set s p (Some c.in-Some.chosen.start)) c.feed_targets.new.fed.items)
+          (ap (λ t. t.outcome) c.in_ok-timing.ensures.track)
+          (subst (λ xs. AreFed g (outcome_of c.in_ok-timing.timing) xs c.feed_targets.new.fed.items)
+          c.as_slice-in-loop-placed-3.ensures.value c.in_ok-feed_targets.ensures);
     }
 
 pub returns-clause-greedy : goal.returns-clause-greedy
@@ -145,8 +174,10 @@ returns-clause-greedy c =
     let f = c.loop-placed.free.items in
     let n = c.loop-placed._placed in
     let h = c.loop-placed.invariant.placed in
-    let count : process_count g ≤ n = omega (arith, ap length c.processes-count.ensures.processes, c.loop-placed-test.false) in
-    placed_greedy g a.limits a.well_formed o s f n h c.args.order.now a.topological (placed_whole g a.limits a.well_formed o s f n h count)
+    let count : process_count g ≤ n =
+    omega (arith, ap length c.processes-count.ensures.processes, c.loop-placed-test.false) in
+    placed_greedy g a.limits a.well_formed o s f n h c.args.order.now a.topological
+    (placed_whole g a.limits a.well_formed o s f n h count)
 
 pub returns-in_default-clause-early : goal.returns-in_default-clause-early
 returns-in_default-clause-early c =
@@ -157,7 +188,8 @@ returns-in_default-clause-early c =
     let f = c.loop-placed.free.items in
     let n = c.loop-placed._placed in
     let h = c.loop-placed.invariant.placed in
-    placed_early g a.limits a.well_formed o s f n h (omega (arith, ap length c.processes-count.ensures.processes, c.loop-placed-test.true))
+    placed_early g a.limits a.well_formed o s f n h
+    (omega (arith, ap length c.processes-count.ensures.processes, c.loop-placed-test.true))
 
 pub returns-clause-early : goal.returns-clause-early
 returns-clause-early c =
@@ -168,4 +200,5 @@ returns-clause-early c =
     let f = c.loop-placed.free.items in
     let n = c.loop-placed._placed in
     let h = c.loop-placed.invariant.placed in
-    placed_early g a.limits a.well_formed o s f n h (omega (arith, ap length c.processes-count.ensures.processes, c.loop-placed.auto._placed-end))
+    placed_early g a.limits a.well_formed o s f n h
+    (omega (arith, ap length c.processes-count.ensures.processes, c.loop-placed.auto._placed-end))

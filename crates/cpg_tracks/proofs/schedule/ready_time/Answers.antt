@@ -1,4 +1,5 @@
-use Rattle.std.proofs.Common.{◌≡◌, ◌<◌, ◌∙◌, ◌∷◌, true≢false, None, Contains, filter, map, get_or, length, max, sym, ap, subst, arith}
+use Rattle.std.proofs.Common.{◌≡◌, ◌<◌, ◌∙◌, ◌∷◌, true≢false, None, Contains, filter, map, get_or, length, max, sym, ap}
+use Rattle.std.proofs.Common.{subst, arith}
 use Rattle.std.proofs.lemmas.List.{take_all}
 use Rattle.std.proofs.lemmas.List.Elements.{Contains-get_or}
 use Rattle.cpg_base.specs.Graph.{edge_count, inputs, source, process_at}
@@ -7,7 +8,8 @@ use Rattle.cpg_base.specs.Activity.{live}
 use Rattle.cpg_base.proofs.Inputs.{inputs_parts}
 use Rattle.cpg_tracks.specs.Tracks.{input_ready}
 use Rattle.cpg_tracks.specs.Timing.{outcome_of}
-use Rattle.cpg_tracks.proofs.GreedySteps.{live_at, live_long, input_missing, input_given, ready_takes, ready_skips, fed_takes, fed_skips, not_fed}
+use Rattle.cpg_tracks.proofs.GreedySteps.{live_at, live_long, input_missing, input_given, ready_takes, ready_skips}
+use Rattle.cpg_tracks.proofs.GreedySteps.{fed_takes, fed_skips, not_fed}
 use Rattle.cpg_tracks.proofs.schedule.ready_time.Goals as goal
 use Rattle.cpg_tracks.proofs.schedule.ready_time.Goals.{then-index+in-Some, else-index}
 
@@ -18,7 +20,8 @@ index-requires c =
     let same = c.inputs-edge-items.ensures.of_graph g c.requires.timing.links in
     omega (
       arith,
-      (inputs_parts g c.args.process e (subst (λ xs. Contains xs e) same (Contains-get_or c.inputs-edge-items.result.now c.loop-edge.edge-index 0 c.loop-edge-test.true))).0,
+      (inputs_parts g c.args.process e (subst (λ xs. Contains xs e) same
+          (Contains-get_or c.inputs-edge-items.result.now c.loop-edge.edge-index 0 c.loop-edge-test.true))).0,
       live_long g c.args.timing.now c.requires.timing,
     )
 
@@ -27,7 +30,8 @@ input_time-requires-clause-edge c =
     let g = c.args.problem.now in
     let e = get_or c.inputs-edge-items.result.now c.loop-edge.edge-index 0 in
     let same = c.inputs-edge-items.ensures.of_graph g c.requires.timing.links in
-    (inputs_parts g c.args.process e (subst (λ xs. Contains xs e) same (Contains-get_or c.inputs-edge-items.result.now c.loop-edge.edge-index 0 c.loop-edge-test.true))).0
+    (inputs_parts g c.args.process e (subst (λ xs. Contains xs e) same
+    (Contains-get_or c.inputs-edge-items.result.now c.loop-edge.edge-index 0 c.loop-edge-test.true))).0
 
 pub returns-in_default-clause-none : goal.returns-in_default-clause-none
 returns-in_default-clause-none c =
@@ -36,10 +40,15 @@ returns-in_default-clause-none c =
     let xs = c.inputs-edge-items.result.now in
     let e = get_or xs c.loop-edge.edge-index 0 in
     let same = c.inputs-edge-items.ensures.of_graph g c.requires.timing.links in
-    let inside : e < edge_count g = (inputs_parts g c.args.process e (subst (λ ys. Contains ys e) same (Contains-get_or xs c.loop-edge.edge-index 0 c.loop-edge-test.true))).0 in
-    not_fed g o c.args.starts.now c.args.process c.loop-edge.edge-index e 0 (omega (arith, ap length same, c.loop-edge-test.true)) (ap (λ ys. get_or ys c.loop-edge.edge-index 0) (sym same))
-    (sym (c.index.ensures ∙ live_at g c.args.timing.now c.requires.timing e c.index.result.now inside) ∙ c.if-index.true)
-    (input_missing (λ _. input_ready g c.args.starts.now e) (get_or c.args.starts.now (source g e) None) (sym c.input_time.ensures ∙ c.in_default.is))
+    let inside : e < edge_count g = (inputs_parts g c.args.process e
+    (subst (λ ys. Contains ys e) same (Contains-get_or xs c.loop-edge.edge-index 0 c.loop-edge-test.true))).0 in
+    not_fed g o c.args.starts.now c.args.process c.loop-edge.edge-index e 0
+    (omega (arith, ap length same, c.loop-edge-test.true))
+    (ap (λ ys. get_or ys c.loop-edge.edge-index 0) (sym same))
+    (sym (c.index.ensures ∙ live_at g c.args.timing.now c.requires.timing e c.index.result.now inside)
+    ∙ c.if-index.true)
+    (input_missing (λ _. input_ready g c.args.starts.now e) (get_or c.args.starts.now (source g e) None)
+    (sym c.input_time.ensures ∙ c.in_default.is))
 
 pub loop-edge-preserved : goal.loop-edge-preserved
 loop-edge-preserved c =
@@ -48,21 +57,30 @@ loop-edge-preserved c =
     let xs = c.inputs-edge-items.result.now in
     let e = get_or xs c.loop-edge.edge-index 0 in
     let same = c.inputs-edge-items.ensures.of_graph g c.requires.timing.links in
-    let inside : e < edge_count g = (inputs_parts g c.args.process e (subst (λ ys. Contains ys e) same (Contains-get_or xs c.loop-edge.edge-index 0 c.loop-edge-test.true))).0 in
-    let short : c.loop-edge.edge-index < length (inputs g c.args.process) = omega (arith, ap length same, c.loop-edge-test.true) in
-    let at : get_or (inputs g c.args.process) c.loop-edge.edge-index 0 ≡ e = ap (λ ys. get_or ys c.loop-edge.edge-index 0) (sym same) in
-    let is : c.index.result.now ≡ live g o e = c.index.ensures ∙ live_at g c.args.timing.now c.requires.timing e c.index.result.now inside in
+    let inside : e < edge_count g = (inputs_parts g c.args.process e
+    (subst (λ ys. Contains ys e) same (Contains-get_or xs c.loop-edge.edge-index 0 c.loop-edge-test.true))).0 in
+    let short : c.loop-edge.edge-index < length (inputs g c.args.process) =
+    omega (arith, ap length same, c.loop-edge-test.true) in
+    let at : get_or (inputs g c.args.process) c.loop-edge.edge-index 0 ≡ e =
+    ap (λ ys. get_or ys c.loop-edge.edge-index 0) (sym same) in
+    let is : c.index.result.now ≡ live g o e =
+    c.index.ensures ∙ live_at g c.args.timing.now c.requires.timing e c.index.result.now inside in
     elim c.if-index.branch [
       | then-index+in-Some w ↦
-          let there = input_given (input_ready g c.args.starts.now e) (get_or c.args.starts.now (source g e) None) w.in-Some.time (sym w.input_time.ensures ∙ w.in-Some.is) in
+          let there = input_given (input_ready g c.args.starts.now e)
+          (get_or c.args.starts.now (source g e) None) w.in-Some.time (sym w.input_time.ensures ∙ w.in-Some.is) in
           record {
             ready = w.ready-is ∙ w.max-ready.ensures ∙ ap (λ n. max c.loop-edge.ready n) there.1
-                ∙ ready_takes g o c.args.starts.now c.args.process c.loop-edge.edge-index e 0 short at (sym is ∙ w.if-index.true) c.loop-edge.ready c.loop-edge.invariant.ready;
-            fed = fed_takes g o c.args.starts.now c.args.process c.loop-edge.edge-index e 0 short at (sym is ∙ w.if-index.true) there.0 c.loop-edge.invariant.fed;
+                ∙ ready_takes g o c.args.starts.now c.args.process c.loop-edge.edge-index e 0 short at
+                (sym is ∙ w.if-index.true) c.loop-edge.ready c.loop-edge.invariant.ready;
+            fed = fed_takes g o c.args.starts.now c.args.process c.loop-edge.edge-index e 0 short at
+                (sym is ∙ w.if-index.true) there.0 c.loop-edge.invariant.fed;
           }
       | else-index w ↦ record {
-        ready = w.ready-is ∙ ready_skips g o c.args.starts.now c.args.process c.loop-edge.edge-index e 0 short at (sym is ∙ w.if-index.false) c.loop-edge.ready c.loop-edge.invariant.ready;
-        fed = fed_skips g o c.args.starts.now c.args.process c.loop-edge.edge-index e 0 short at (sym is ∙ w.if-index.false) c.loop-edge.invariant.fed;
+        ready = w.ready-is ∙ ready_skips g o c.args.starts.now c.args.process c.loop-edge.edge-index e 0 short at
+            (sym is ∙ w.if-index.false) c.loop-edge.ready c.loop-edge.invariant.ready;
+        fed = fed_skips g o c.args.starts.now c.args.process c.loop-edge.edge-index e 0 short at
+            (sym is ∙ w.if-index.false) c.loop-edge.invariant.fed;
       }
     ]
 
@@ -72,16 +90,20 @@ returns-then-is_some-clause-none c f = true≢false (sym c.if-is_some.true ∙ c
 pub returns-clause-fed : goal.returns-clause-fed
 returns-clause-fed c =
     let g = c.args.problem.now in
-    let done = take_all c.loop-edge.edge-index (inputs g c.args.process) (omega (arith, ap length (c.inputs-edge-items.ensures.of_graph g c.requires.timing.links), c.loop-edge-test.false)) in
+    let done = take_all c.loop-edge.edge-index (inputs g c.args.process) (omega
+    (arith, ap length (c.inputs-edge-items.ensures.of_graph g c.requires.timing.links), c.loop-edge-test.false)) in
     record {
       within = c.requires.process;
       active = c.requires.active;
       unplaced = sym c.is_some.ensures ∙ c.if-is_some.false;
-      inputs = λ e k. c.loop-edge.invariant.fed e (subst (λ es. Contains (filter (live g (outcome_of c.args.timing.now)) es) e) (sym done) k);
+      inputs = λ e k. c.loop-edge.invariant.fed e
+          (subst (λ es. Contains (filter (live g (outcome_of c.args.timing.now)) es) e) (sym done) k);
     }
 
 pub returns-clause-ready : goal.returns-clause-ready
 returns-clause-ready c =
     let g = c.args.problem.now in
-    let done = take_all c.loop-edge.edge-index (inputs g c.args.process) (omega (arith, ap length (c.inputs-edge-items.ensures.of_graph g c.requires.timing.links), c.loop-edge-test.false)) in
-    c.loop-edge.invariant.ready ∙ ap (λ es. greatest ((process_at g c.args.process).release ∷ map (input_ready g c.args.starts.now) (filter (live g (outcome_of c.args.timing.now)) es))) done
+    let done = take_all c.loop-edge.edge-index (inputs g c.args.process) (omega
+    (arith, ap length (c.inputs-edge-items.ensures.of_graph g c.requires.timing.links), c.loop-edge-test.false)) in
+    c.loop-edge.invariant.ready ∙ ap (λ es. greatest ((process_at g c.args.process).release
+    ∷ map (input_ready g c.args.starts.now) (filter (live g (outcome_of c.args.timing.now)) es))) done

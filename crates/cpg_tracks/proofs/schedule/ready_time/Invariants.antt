@@ -11,5 +11,7 @@ abbrev pub invariant-loop-edge : goal.invariant-loop-edge
 invariant-loop-edge l = record {
   ready : l.ready ≡ greatest ((process_at l.problem l.process).release ∷ map (input_ready l.problem l.starts)
       (filter (live l.problem (outcome_of l.timing)) (take l.edge-index (inputs l.problem l.process))));
-  fed : (e : ℕ) → Contains (filter (live l.problem (outcome_of l.timing)) (take l.edge-index (inputs l.problem l.process))) e → has_start l.starts (source l.problem e) ≡ true;
+  fed : (e : ℕ) →
+      Contains (filter (live l.problem (outcome_of l.timing)) (take l.edge-index (inputs l.problem l.process))) e →
+      has_start l.starts (source l.problem e) ≡ true;
 }

@@ -4,6 +4,8 @@ use Rattle.cpg_base.proofs.Lists.{map_below_push}
 use Rattle.cpg_tracks.proofs.timing.durations.Goals as goal
 
 pub loop-process-preserved : goal.loop-process-preserved
-loop-process-preserved c = map_below_push (λ p. duration c.args.problem.now p c.args.problem.now.faults) c.loop-process.found.items c.push.new.self.items c.duration.result c.loop-process.process
+loop-process-preserved c = map_below_push (λ p. duration c.args.problem.now p c.args.problem.now.faults)
+    c.loop-process.found.items c.push.new.self.items c.duration.result c.loop-process.process
     c.loop-process.invariant
-    (c.duration.ensures.duration ∙ ap (λ f. duration c.args.problem.now c.loop-process.process f) c.faults-faults.ensures.faults) c.in_ok-push.ensures.items
+    (c.duration.ensures.duration ∙ ap (λ f. duration c.args.problem.now c.loop-process.process f)
+    c.faults-faults.ensures.faults) c.in_ok-push.ensures.items

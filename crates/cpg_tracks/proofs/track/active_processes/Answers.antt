@@ -5,10 +5,15 @@ use Rattle.cpg_tracks.proofs.track.active_processes.Goals as goal
 use Rattle.cpg_tracks.proofs.track.active_processes.Goals.{then-active+in_ok-push, else-active}
 
 pub loop-process-preserved : goal.loop-process-preserved
-loop-process-preserved c = let a = c.requires.admitted in let is = sym (c.active.ensures.active c.args.problem.now a.0 a.1.guards) in elim c.if-active.branch [
-  | then-active+in_ok-push w ↦ filter_below_takes (active c.args.problem.now c.args.scenario.now.values) c.loop-process.found.items c.if-active.found.items c.loop-process.process
-      c.loop-process.invariant
-      (is ∙ w.if-active.true) (ap (λ v. v.items) w.found-is ∙ w.in_ok-push.ensures.items)
-  | else-active w ↦ ap (λ v. v.items) w.found-is ∙ filter_below_skips (active c.args.problem.now c.args.scenario.now.values) c.loop-process.found.items c.loop-process.process c.loop-process.invariant
-      (is ∙ w.if-active.false)
-]
+loop-process-preserved c = let a = c.requires.admitted in
+    let is = sym (c.active.ensures.active c.args.problem.now a.0 a.1.guards) in
+    elim c.if-active.branch [
+      | then-active+in_ok-push w ↦ filter_below_takes (active c.args.problem.now c.args.scenario.now.values)
+          c.loop-process.found.items c.if-active.found.items c.loop-process.process
+          c.loop-process.invariant
+          (is ∙ w.if-active.true) (ap (λ v. v.items) w.found-is ∙ w.in_ok-push.ensures.items)
+      | else-active w ↦ ap (λ v. v.items) w.found-is
+          ∙ filter_below_skips (active c.args.problem.now c.args.scenario.now.values) c.loop-process.found.items
+          c.loop-process.process c.loop-process.invariant
+          (is ∙ w.if-active.false)
+    ]

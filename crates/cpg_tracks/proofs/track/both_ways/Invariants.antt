@@ -6,6 +6,7 @@ use Rattle.cpg_tracks.proofs.track.both_ways.Given as goal
 
 abbrev pub invariant-loop-scenario : goal.invariant-loop-scenario
 invariant-loop-scenario l = record {
-  ways : outcomes_of l.found.items ≡ flat_map (both_ways_at l.problem l.condition) (outcomes_of (take l.scenario-index l.scenarios));
+  ways : outcomes_of l.found.items
+      ≡ flat_map (both_ways_at l.problem l.condition) (outcomes_of (take l.scenario-index l.scenarios));
   values : All (HasValues l.problem) l.found.items;
 }

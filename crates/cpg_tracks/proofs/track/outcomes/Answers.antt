@@ -16,7 +16,8 @@ use Rattle.cpg_tracks.proofs.track.outcomes.Goals.{in-Some+in_ok-scenarios+else-
 pub condition_of-requires : goal.condition_of-requires
 condition_of-requires c =
     let same = c.processes-process-items.ensures.processes in
-    let within = process_within c.args.order.now c.processes-process-items.ensures.order c.loop-process.process-index (omega (arith, ap length same, c.loop-process-test.true)) in
+    let within = process_within c.args.order.now c.processes-process-items.ensures.order c.loop-process.process-index
+    (omega (arith, ap length same, c.loop-process-test.true)) in
     rw same (omega (arith, length_order (process_count c.args.problem.now) c.args.order.now c.requires.topological.all))
 
 pub returns-then-len-gt-MOST_TRACKS-clause-many : goal.returns-then-len-gt-MOST_TRACKS-clause-many
@@ -25,11 +26,18 @@ returns-then-len-gt-MOST_TRACKS-clause-many c =
     let order = c.args.order.now in
     let same = c.processes-process-items.ensures.processes in
     let at = ap (λ xs. condition_of g (get_or xs c.loop-process.process-index 0)) same in
-    let walked = walk_takes g order c.loop-process.process-index c.in-Some.condition c.loop-process.scenarios.items c.in_ok-scenarios.scenarios.items
+    let walked = walk_takes g order c.loop-process.process-index c.in-Some.condition c.loop-process.scenarios.items
+    c.in_ok-scenarios.scenarios.items
     (omega (arith, ap length same, c.loop-process-test.true)) (sym at ∙ sym c.in-Some.ensures)
     c.loop-process.invariant.walked (rw c.as_slice.ensures.value at c.in_ok-scenarios.ensures.ways) in
     stopped_at g order c.requires.urgency c.requires.topological (c.loop-process.process-index + 1)
-    (omega (arith, c.if-len-gt-MOST_TRACKS.true, c.len.ensures, ap length walked, length-map c.in_ok-scenarios.scenarios.items (λ (s : Scenario). s.values)))
+    (omega (
+      arith,
+      c.if-len-gt-MOST_TRACKS.true,
+      c.len.ensures,
+      ap length walked,
+      length-map c.in_ok-scenarios.scenarios.items (λ (s : Scenario). s.values),
+    ))
 
 pub loop-process-preserved : goal.loop-process-preserved
 loop-process-preserved c =
@@ -37,18 +45,22 @@ loop-process-preserved c =
     let order = c.args.order.now in
     let same = c.processes-process-items.ensures.processes in
     let at = ap (λ xs. condition_of g (get_or xs c.loop-process.process-index 0)) same in
-    let inside : c.loop-process.process-index < length order = omega (arith, ap length same, c.loop-process-test.true) in
+    let inside : c.loop-process.process-index < length order =
+    omega (arith, ap length same, c.loop-process-test.true) in
     elim c.match-condition_of.branch [
       | in-Some+in_ok-scenarios+else-len-gt-MOST_TRACKS w ↦ let is = ap (λ v. v.items) w.scenarios-is in record {
-        walked = ap outcomes_of is ∙ walk_takes g order c.loop-process.process-index w.in-Some.condition c.loop-process.scenarios.items w.in_ok-scenarios.scenarios.items inside
+        walked = ap outcomes_of is ∙ walk_takes g order c.loop-process.process-index w.in-Some.condition
+            c.loop-process.scenarios.items w.in_ok-scenarios.scenarios.items inside
             (sym at ∙ sym w.in-Some.ensures)
             c.loop-process.invariant.walked (rw w.as_slice.ensures.value at w.in_ok-scenarios.ensures.ways);
         values = subst (All (HasValues g)) (sym is) w.in_ok-scenarios.ensures.values;
         few = omega (arith, ap length is, w.if-len-gt-MOST_TRACKS.false, w.len.ensures);
       }
       | in_default w ↦ let is = ap (λ v. v.items) w.scenarios-is in record {
-        walked = ap outcomes_of is ∙ walk_skips g order c.loop-process.process-index c.loop-process.scenarios.items inside
-            (sym at ∙ sym c.condition_of.ensures ∙ none_if c.condition_of.result w.in_default.not-Some) c.loop-process.invariant.walked;
+        walked =
+            ap outcomes_of is ∙ walk_skips g order c.loop-process.process-index c.loop-process.scenarios.items inside
+            (sym at ∙ sym c.condition_of.ensures ∙ none_if c.condition_of.result w.in_default.not-Some)
+            c.loop-process.invariant.walked;
         values = subst (All (HasValues g)) (sym is) c.loop-process.invariant.values;
         few = omega (arith, ap length is, c.loop-process.invariant.few);
       }
@@ -58,6 +70,8 @@ pub returns-clause-tracks : goal.returns-clause-tracks
 returns-clause-tracks c =
     let g = c.args.problem.now in
     let order = c.args.order.now in
-    let done = take_all c.loop-process.process-index order (omega (arith, ap length c.processes-process-items.ensures.processes, c.loop-process-test.false)) in
-    subst (AreTracks g) (sym (c.loop-process.invariant.walked ∙ ap (λ xs. tracks_over g (conditions_along g xs) (all_false g ∷ [])) done))
+    let done = take_all c.loop-process.process-index order
+    (omega (arith, ap length c.processes-process-items.ensures.processes, c.loop-process-test.false)) in
+    subst (AreTracks g) (sym (c.loop-process.invariant.walked
+    ∙ ap (λ xs. tracks_over g (conditions_along g xs) (all_false g ∷ [])) done))
     (walk_finds_tracks g order c.requires.urgency c.requires.topological)

@@ -7,7 +7,8 @@ use Rattle.cpg_tracks.proofs.track.outcomes.Given as goal
 
 abbrev pub invariant-loop-process : goal.invariant-loop-process
 invariant-loop-process l = record {
-  walked : outcomes_of l.scenarios.items ≡ tracks_over l.problem (conditions_along l.problem (take l.process-index l.order)) (all_false l.problem ∷ []);
+  walked : outcomes_of l.scenarios.items
+      ≡ tracks_over l.problem (conditions_along l.problem (take l.process-index l.order)) (all_false l.problem ∷ []);
   values : All (HasValues l.problem) l.scenarios.items;
   few : length l.scenarios.items ≤ most_scheduled_tracks;
 }

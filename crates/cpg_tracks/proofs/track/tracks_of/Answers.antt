@@ -7,9 +7,12 @@ use Rattle.cpg_tracks.proofs.track.tracks_of.Goals as goal
 
 pub loop-scenario-preserved : goal.loop-scenario-preserved
 loop-scenario-preserved c = record {
-  outcomes = outcomes_more c.args.scenarios.now c.loop-scenario.tracks.items c.push.new.self.items c.in_ok-track_of.field-0 c.loop-scenario.scenario-index _ c.loop-scenario-test.true
+  outcomes = outcomes_more c.args.scenarios.now c.loop-scenario.tracks.items c.push.new.self.items
+      c.in_ok-track_of.field-0 c.loop-scenario.scenario-index _ c.loop-scenario-test.true
       c.loop-scenario.invariant.outcomes
-      (c.in_ok-track_of.ensures.outcome ∙ ap (λ (s : Scenario). s.values) c.scenario-item.is) c.in_ok-push.ensures.items;
+      (c.in_ok-track_of.ensures.outcome ∙ ap (λ (s : Scenario). s.values) c.scenario-item.is)
+      c.in_ok-push.ensures.items;
   each = subst (All (IsTrackOf c.args.problem.now)) (sym c.in_ok-push.ensures.items)
-      (All-push (IsTrackOf c.args.problem.now) c.loop-scenario.tracks.items c.in_ok-track_of.field-0 c.loop-scenario.invariant.each c.in_ok-track_of.ensures.track);
+      (All-push (IsTrackOf c.args.problem.now) c.loop-scenario.tracks.items c.in_ok-track_of.field-0
+      c.loop-scenario.invariant.each c.in_ok-track_of.ensures.track);
 }

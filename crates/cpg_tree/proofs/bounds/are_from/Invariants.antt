@@ -3,4 +3,5 @@ use Rattle.cpg_tree.specs.Greater.{are_from}
 use Rattle.cpg_tree.proofs.bounds.are_from.Given as goal
 
 abbrev pub invariant-loop-item : goal.invariant-loop-item
-invariant-loop-item g l = are_from (g.R.Reading.number l.read) l.least l.items ≡ are_from (g.R.Reading.number l.read) l.least (drop l.item-index l.items)
+invariant-loop-item g l = are_from (g.R.Reading.number l.read) l.least l.items
+    ≡ are_from (g.R.Reading.number l.read) l.least (drop l.item-index l.items)

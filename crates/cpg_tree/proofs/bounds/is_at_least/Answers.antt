@@ -10,5 +10,7 @@ on_true false h = tt
 
 pub returns : goal.returns
 returns g c = on_true c.are_from.result (λ h n m are others.
-    at_least_is (g.R.Reading.number c.args.read.now) (g.S.Reading.number c.args.other_reading.now) c.args.own.now c.args.other.now n m are others
-    (ap (λ k. are_from (g.R.Reading.number c.args.read.now) k c.args.own.now) (sym c.most_from.ensures) ∙ sym c.are_from.ensures ∙ h))
+    at_least_is (g.R.Reading.number c.args.read.now)
+    (g.S.Reading.number c.args.other_reading.now) c.args.own.now c.args.other.now n m are others
+    (ap (λ k. are_from (g.R.Reading.number c.args.read.now) k c.args.own.now) (sym c.most_from.ensures)
+    ∙ sym c.are_from.ensures ∙ h))

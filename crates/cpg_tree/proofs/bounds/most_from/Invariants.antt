@@ -3,4 +3,5 @@ use Rattle.cpg_tree.specs.Greater.{most_from}
 use Rattle.cpg_tree.proofs.bounds.most_from.Given as goal
 
 abbrev pub invariant-loop-item : goal.invariant-loop-item
-invariant-loop-item g l = most_from (g.R.Reading.number l.read) l.number l.items ≡ most_from (g.R.Reading.number l.read) l.most (drop l.item-index l.items)
+invariant-loop-item g l = most_from (g.R.Reading.number l.read) l.number l.items
+    ≡ most_from (g.R.Reading.number l.read) l.most (drop l.item-index l.items)

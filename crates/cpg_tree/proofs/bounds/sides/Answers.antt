@@ -5,4 +5,5 @@ use Rattle.cpg_tree.proofs.bounds.sides.Goals as goal
 
 pub returns-clause-bounds : goal.returns-clause-bounds
 returns-clause-bounds g c number v cut x y is are =
-    c.bounds_of_sides.ensures (bounds_in number x) (bounds_in number y) (span_in number (Fork v cut x y)) are (forks_are number x c.args.below.now is)
+    c.bounds_of_sides.ensures (bounds_in number x) (bounds_in number y) (span_in number (Fork v cut x y)) are
+    (forks_are number x c.args.below.now is)

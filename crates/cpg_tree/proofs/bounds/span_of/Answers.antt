@@ -8,13 +8,16 @@ unreachable-requires g c =
     absurd (omega (
       arith,
       c.in-None.ensures.cases,
-      fork_bounded (g.R.Reading.number c.args.read.now) c.args.tree.items.now c.args.tree.bounds.now c.requires c.in-Cut.variable c.in-Cut.cut shows.0 shows.1 shows.4,
+      fork_bounded (g.R.Reading.number c.args.read.now) c.args.tree.items.now c.args.tree.bounds.now c.requires
+          c.in-Cut.variable c.in-Cut.cut shows.0 shows.1 shows.4,
     ))
 
 pub returns-in-Some : goal.returns-in-Some
 returns-in-Some g c n are =
-    span_last (g.R.Reading.number c.args.read.now) c.args.tree.items.now c.args.tree.bounds.now c.requires c.in-Some.span.now _ c.in-Some.ensures.cases.0 n are
+    span_last (g.R.Reading.number c.args.read.now) c.args.tree.items.now c.args.tree.bounds.now c.requires
+    c.in-Some.span.now _ c.in-Some.ensures.cases.0 n are
 
 pub returns-in-Value : goal.returns-in-Value
 returns-in-Value g c n are =
-    span_leaf (g.R.Reading.number c.args.read.now) c.in-Value.value n c.args.tree.items.now c.in-Value.ensures.shows are c.number.result c.of.result c.number.ensures c.of.ensures
+    span_leaf (g.R.Reading.number c.args.read.now) c.in-Value.value n c.args.tree.items.now c.in-Value.ensures.shows are
+    c.number.result c.of.result c.number.ensures c.of.ensures

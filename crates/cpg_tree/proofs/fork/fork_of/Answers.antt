@@ -5,5 +5,6 @@ use Rattle.cpg_tree.proofs.fork.fork_of.Goals as goal
 pub returns-clause-made : goal.returns-clause-made
 returns-clause-made g c =
     of_answer c.push_cut.result _ _ c.push_cut.ensures
-    (λ u added before below above split. forks_plain c.args.start c.args.middle c.args.out.now.items before below above split c.args.variable c.args.cut c.push_cut.new.out.items
+    (λ u added before below above split. forks_plain c.args.start c.args.middle c.args.out.now.items before below above
+    split c.args.variable c.args.cut c.push_cut.new.out.items
     c.ranges.variable.fits added)

@@ -8,12 +8,14 @@ loop-i-init g c = record { long = search rules; is = moved_none c.args.out.now.i
 pub loop-i-preserved : goal.loop-i-preserved
 loop-i-preserved g c = record {
   long = search rules;
-  is = moved_on c.args.out.now.items c.args.from c.args.count c.loop-i.out.items c.loop-i.i c.index.result.now (search rules) (search rules) c.loop-i.invariant.is c.index.ensures;
+  is = moved_on c.args.out.now.items c.args.from c.args.count c.loop-i.out.items c.loop-i.i c.index.result.now
+      (search rules) (search rules) c.loop-i.invariant.is c.index.ensures;
 }
 
 pub returns : goal.returns
 returns g c =
     let left : ℕ = c.len.result - c.args.count in
     let done : c.loop-i.i ≡ left = search rules in
-    c.truncate.ensures.items ∙ ap (take left) (c.loop-i.invariant.is ∙ ap (moved c.args.out.now.items c.args.from c.args.count) done)
+    c.truncate.ensures.items
+    ∙ ap (take left) (c.loop-i.invariant.is ∙ ap (moved c.args.out.now.items c.args.from c.args.count) done)
     ∙ moved_all c.args.out.now.items c.args.from c.args.count left (search rules) (search rules)

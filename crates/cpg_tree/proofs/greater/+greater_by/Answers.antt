@@ -7,7 +7,8 @@ use Rattle.cpg_tree.specs.TreeNode.{TreeNode, Leaf, Fork}
 use Rattle.cpg_tree.proofs.BoundLaws.{at_least_by}
 use Rattle.cpg_tree.proofs.Flats.{flat-same}
 use Rattle.cpg_tree.proofs.Forks.{both_opened, both_reopened, of_answer}
-use Rattle.cpg_tree.proofs.GreaterLaws.{added_above, added_below, added_fork, leaf_added, other_added, own_added, part_bounded, side_bounded}
+use Rattle.cpg_tree.proofs.GreaterLaws.{added_above, added_below, added_fork, leaf_added, other_added, own_added}
+use Rattle.cpg_tree.proofs.GreaterLaws.{part_bounded, side_bounded}
 use Rattle.cpg_tree.proofs.greater.+greater_by.Goals as goal
 
 pub returns-then-is_at_least-clause-made : goal.returns-then-is_at_least-clause-made
@@ -18,8 +19,10 @@ returns-then-is_at_least-clause-made g t c =
     of_answer c.at_least.result _ _ c.at_least.ensures.made
     (λ u made n m are others.
     let part = c.bounded_part-other.ensures.part m others in
-    own_added number other_number makes c.args.spaces.now n m part.0 part.2 c.args.out.now.items c.at_least.new.out.items
-    (at_least_by number other_number n part.0 c.span_of-own_span.result c.span_of-other_span.result c.is_at_least.result (c.span_of-own_span.ensures n are)
+    own_added number other_number makes c.args.spaces.now n m part.0 part.2 c.args.out.now.items
+    c.at_least.new.out.items
+    (at_least_by number other_number n part.0 c.span_of-own_span.result c.span_of-other_span.result c.is_at_least.result
+    (c.span_of-own_span.ensures n are)
     (c.span_of-other_span.ensures part.0 part.1) c.is_at_least.ensures c.if-is_at_least.true)
     (made n are))
 
@@ -31,8 +34,10 @@ returns-then-is_at_least-2-clause-made g t c =
     of_answer c.at_least-then-is_at_least-2.result _ _ c.at_least-then-is_at_least-2.ensures.made
     (λ u made n m are others.
     let part = c.bounded_part-other.ensures.part m others in
-    other_added number other_number makes c.args.spaces.now n m part.0 part.2 c.args.out.now.items c.at_least-then-is_at_least-2.new.out.items
-    (at_least_by other_number number part.0 n c.span_of-other_span.result c.span_of-own_span.result c.is_at_least-2.result (c.span_of-other_span.ensures part.0 part.1)
+    other_added number other_number makes c.args.spaces.now n m part.0 part.2 c.args.out.now.items
+    c.at_least-then-is_at_least-2.new.out.items
+    (at_least_by other_number number part.0 n c.span_of-other_span.result c.span_of-own_span.result
+    c.is_at_least-2.result (c.span_of-other_span.ensures part.0 part.1)
     (c.span_of-own_span.ensures n are) c.is_at_least-2.ensures c.if-is_at_least-2.true)
     (made part.0 part.1))
 
@@ -44,8 +49,10 @@ returns-in-Value-clause-made g t c =
     of_answer c.at_least-in-Value.result _ _ c.at_least-in-Value.ensures.made
     (λ u made n m are others.
     let part = c.bounded_part-other.ensures.part m others in
-    leaf_added number other_number makes c.args.spaces.now n m part.0 part.2 c.args.out.now.items c.at_least-in-Value.new.out.items c.in-Value.value c.number-number.result
-    (flat-same n (Leaf c.in-Value.value) (sym are ∙ c.in-Value.ensures.shows)) c.number-number.ensures (made part.0 part.1))
+    leaf_added number other_number makes c.args.spaces.now n m part.0 part.2 c.args.out.now.items
+    c.at_least-in-Value.new.out.items c.in-Value.value c.number-number.result
+    (flat-same n (Leaf c.in-Value.value) (sym are ∙ c.in-Value.ensures.shows)) c.number-number.ensures
+    (made part.0 part.1))
 
 pub returns-in_ok-greater_by-in-Above-clause-made : goal.returns-in_ok-greater_by-in-Above-clause-made
 returns-in_ok-greater_by-in-Above-clause-made g t c n m are others =
@@ -56,9 +63,11 @@ returns-in_ok-greater_by-in-Above-clause-made g t c n m are others =
     let inner : SpacePair = c.way.new.self in
     let shows = c.in-Cut.ensures.shows in
     let part = c.bounded_part-other.ensures.part m others in
-    let way : IsInner spaces (λ s. c.in-Cut.cut < number_of s c.in-Cut.variable) inner × (raised_back inner c.in-Cut.variable c.in-Above.lows ≡ spaces) =
+    let way : IsInner spaces (λ s. c.in-Cut.cut < number_of s c.in-Cut.variable) inner ×
+    (raised_back inner c.in-Cut.variable c.in-Above.lows ≡ spaces) =
     subst (IsWay spaces inner c.in-Cut.variable c.in-Cut.cut) c.in-Above.is c.way.ensures in
-    added_above (λ (x : g.row.T.Denot) (y : g.row.U.Denot) (z : g.row.V.Denot). makes (max (number x) (other_number y)) z) spaces c.in-Cut.variable c.in-Cut.cut shows.0 shows.1 n
+    added_above (λ (x : g.row.T.Denot) (y : g.row.U.Denot) (z : g.row.V.Denot).
+    makes (max (number x) (other_number y)) z) spaces c.in-Cut.variable c.in-Cut.cut shows.0 shows.1 n
     c.args.own.items.now shows.4 are m part.0 part.2 c.args.out.now.items c.greater_by.new.out.items inner way.0
     (c.in_ok-greater_by-in-Above.ensures.made shows.1 part.0 (c.sides.ensures.above ∙ shows.3) part.1)
 
@@ -71,10 +80,13 @@ returns-in_ok-greater_by-in-Below-clause-made g t c n m are others =
     let inner : SpacePair = c.way.new.self in
     let shows = c.in-Cut.ensures.shows in
     let part = c.bounded_part-other.ensures.part m others in
-    let way : IsInner spaces (λ s. number_of s c.in-Cut.variable ≤ c.in-Cut.cut) inner × (lowered inner c.in-Cut.variable c.in-Below.highs ≡ spaces) =
+    let way : IsInner spaces (λ s. number_of s c.in-Cut.variable ≤ c.in-Cut.cut) inner ×
+    (lowered inner c.in-Cut.variable c.in-Below.highs ≡ spaces) =
     subst (IsWay spaces inner c.in-Cut.variable c.in-Cut.cut) c.in-Below.is c.way.ensures in
-    added_below (λ (x : g.row.T.Denot) (y : g.row.U.Denot) (z : g.row.V.Denot). makes (max (number x) (other_number y)) z) spaces c.in-Cut.variable c.in-Cut.cut shows.0 shows.1 n
-    c.args.own.items.now shows.4 are m part.0 part.2 c.args.out.now.items c.greater_by-in-Below.new.out.items inner way.0
+    added_below (λ (x : g.row.T.Denot) (y : g.row.U.Denot) (z : g.row.V.Denot).
+    makes (max (number x) (other_number y)) z) spaces c.in-Cut.variable c.in-Cut.cut shows.0 shows.1 n
+    c.args.own.items.now shows.4 are m part.0 part.2 c.args.out.now.items
+    c.greater_by-in-Below.new.out.items inner way.0
     (c.in_ok-greater_by-in-Below.ensures.made shows.0 part.0 (c.sides.ensures.below ∙ shows.2) part.1)
 
 pub returns-in_ok-greater_by-in-Both-2-clause-made : goal.returns-in_ok-greater_by-in-Both-2-clause-made
@@ -85,20 +97,27 @@ returns-in_ok-greater_by-in-Both-2-clause-made g t c =
     let spaces : SpacePair = c.args.spaces.now in
     let met : SpacePair = c.way.new.self in
     let shows = c.in-Cut.ensures.shows in
-    let way : AreBothOpen spaces c.in-Cut.variable c.in-Cut.cut × (met ≡ spaces) = subst (IsWay spaces met c.in-Cut.variable c.in-Cut.cut) c.in-Both.is c.way.ensures in
+    let way : AreBothOpen spaces c.in-Cut.variable c.in-Cut.cut × (met ≡ spaces) =
+    subst (IsWay spaces met c.in-Cut.variable c.in-Cut.cut) c.in-Both.is c.way.ensures in
     of_answer c.fork.result _ _ c.fork.ensures.made
     (λ u forks n m are others.
     let part = c.bounded_part-other.ensures.part m others in
-    added_fork (λ (x : g.row.T.Denot) (y : g.row.U.Denot) (z : g.row.V.Denot). makes (max (number x) (other_number y)) z) spaces c.in-Cut.variable c.in-Cut.cut shows.0 shows.1 n
-    c.args.own.items.now shows.4 are m part.0 part.2 c.args.out.now.items c.fork.new.out.items met c.close_above-highs.new.self c.close_below-lows.new.self way.0 way.1
+    added_fork (λ (x : g.row.T.Denot) (y : g.row.U.Denot) (z : g.row.V.Denot).
+    makes (max (number x) (other_number y)) z) spaces c.in-Cut.variable c.in-Cut.cut shows.0 shows.1 n
+    c.args.own.items.now shows.4 are m part.0 part.2 c.args.out.now.items c.fork.new.out.items met
+    c.close_above-highs.new.self c.close_below-lows.new.self way.0 way.1
     c.close_above-highs.ensures.asked
     (c.close_below-lows.ensures.asked ∙ ap (λ (q : SpacePair). above_cut q.asked c.in-Cut.variable c.in-Cut.cut)
-    (both_opened met c.close_above-highs.new.self c.greater_by-in-Both.new.spaces c.reopen_above-in-Both.new.self c.in-Cut.variable c.close_above-highs.result c.close_above-highs.ensures.back
+    (both_opened met c.close_above-highs.new.self c.greater_by-in-Both.new.spaces c.reopen_above-in-Both.new.self
+    c.in-Cut.variable c.close_above-highs.result c.close_above-highs.ensures.back
     c.in_ok-greater_by-in-Both.ensures.back c.reopen_above-in-Both.ensures))
     c.close_above-highs.ensures.lies
-    (both_reopened met c.close_above-highs.new.self c.greater_by-in-Both.new.spaces c.reopen_above-in-Both.new.self c.in-Cut.variable c.close_above-highs.result c.close_above-highs.ensures.back
-    c.in_ok-greater_by-in-Both.ensures.back c.reopen_above-in-Both.ensures c.close_below-lows.new.self c.in-Cut.cut c.close_below-lows.ensures.lies)
-    c.len-start.result c.len-middle.result c.greater_by-in-Both.new.out.items c.greater_by-in-Both-2.new.out.items (c.len-start.ensures ∙ c.args.out.now.ok.0)
+    (both_reopened met c.close_above-highs.new.self c.greater_by-in-Both.new.spaces c.reopen_above-in-Both.new.self
+    c.in-Cut.variable c.close_above-highs.result c.close_above-highs.ensures.back
+    c.in_ok-greater_by-in-Both.ensures.back c.reopen_above-in-Both.ensures c.close_below-lows.new.self c.in-Cut.cut
+    c.close_below-lows.ensures.lies)
+    c.len-start.result c.len-middle.result c.greater_by-in-Both.new.out.items c.greater_by-in-Both-2.new.out.items
+    (c.len-start.ensures ∙ c.args.out.now.ok.0)
     (c.len-middle.ensures ∙ c.greater_by-in-Both.new.out.ok.0) forks
     (c.in_ok-greater_by-in-Both.ensures.made shows.0 part.0 (c.sides.ensures.below ∙ shows.2) part.1)
     (c.in_ok-greater_by-in-Both-2.ensures.made shows.1 part.0 (c.sides.ensures.above ∙ shows.3) part.1))
@@ -108,13 +127,16 @@ greater_by-requires g t c κs within =
     let number : g.row.T.Denot → ℕ = g.R.Reading.number c.args.how.now.read.now in
     let other_number : g.row.U.Denot → ℕ = g.S.Reading.number c.args.how.now.other_reading.now in
     let shows = c.in-Cut.ensures.shows in
-    let small : length c.sides.result.1.items.now < t = omega (arith, c.decreases, ap length c.sides.ensures.above, c.in-Cut.ensures.less.1) in
+    let small : length c.sides.result.1.items.now < t =
+    omega (arith, c.decreases, ap length c.sides.ensures.above, c.in-Cut.ensures.less.1) in
     let own : IsBounded number c.sides.result.1.items.now c.sides.result.1.bounds.now =
-    side_bounded number (Fork c.in-Cut.variable c.in-Cut.cut shows.0 shows.1) shows.1 c.args.own.items.now c.sides.result.1.items.now c.args.own.bounds.now
+    side_bounded number (Fork c.in-Cut.variable c.in-Cut.cut shows.0 shows.1) shows.1 c.args.own.items.now
+    c.sides.result.1.items.now c.args.own.bounds.now
     c.sides.result.1.bounds.now c.requires.own shows.4 (c.sides.ensures.above ∙ shows.3)
     (λ e. (c.sides.ensures.bounds number c.in-Cut.variable c.in-Cut.cut shows.0 shows.1 shows.2 e).1) in
     let others : IsBounded other_number c.bounded_part-other.result.items.now c.bounded_part-other.result.bounds.now =
-    part_bounded other_number c.args.spaces.now.walked c.args.other.items.now c.bounded_part-other.result.items.now c.args.other.bounds.now c.bounded_part-other.result.bounds.now
+    part_bounded other_number c.args.spaces.now.walked c.args.other.items.now c.bounded_part-other.result.items.now
+    c.args.other.bounds.now c.bounded_part-other.result.bounds.now
     c.requires.others c.bounded_part-other.ensures.part in (
       small,
       (
@@ -146,13 +168,16 @@ greater_by-requires-in-Below g t c κs within =
     let number : g.row.T.Denot → ℕ = g.R.Reading.number c.args.how.now.read.now in
     let other_number : g.row.U.Denot → ℕ = g.S.Reading.number c.args.how.now.other_reading.now in
     let shows = c.in-Cut.ensures.shows in
-    let small : length c.sides.result.0.items.now < t = omega (arith, c.decreases, ap length c.sides.ensures.below, c.in-Cut.ensures.less.0) in
+    let small : length c.sides.result.0.items.now < t =
+    omega (arith, c.decreases, ap length c.sides.ensures.below, c.in-Cut.ensures.less.0) in
     let own : IsBounded number c.sides.result.0.items.now c.sides.result.0.bounds.now =
-    side_bounded number (Fork c.in-Cut.variable c.in-Cut.cut shows.0 shows.1) shows.0 c.args.own.items.now c.sides.result.0.items.now c.args.own.bounds.now
+    side_bounded number (Fork c.in-Cut.variable c.in-Cut.cut shows.0 shows.1) shows.0 c.args.own.items.now
+    c.sides.result.0.items.now c.args.own.bounds.now
     c.sides.result.0.bounds.now c.requires.own shows.4 (c.sides.ensures.below ∙ shows.2)
     (λ e. (c.sides.ensures.bounds number c.in-Cut.variable c.in-Cut.cut shows.0 shows.1 shows.2 e).0) in
     let others : IsBounded other_number c.bounded_part-other.result.items.now c.bounded_part-other.result.bounds.now =
-    part_bounded other_number c.args.spaces.now.walked c.args.other.items.now c.bounded_part-other.result.items.now c.args.other.bounds.now c.bounded_part-other.result.bounds.now
+    part_bounded other_number c.args.spaces.now.walked c.args.other.items.now c.bounded_part-other.result.items.now
+    c.args.other.bounds.now c.bounded_part-other.result.bounds.now
     c.requires.others c.bounded_part-other.ensures.part in (
       small,
       (
@@ -184,13 +209,16 @@ greater_by-requires-in-Both g t c κs within =
     let number : g.row.T.Denot → ℕ = g.R.Reading.number c.args.how.now.read.now in
     let other_number : g.row.U.Denot → ℕ = g.S.Reading.number c.args.how.now.other_reading.now in
     let shows = c.in-Cut.ensures.shows in
-    let small : length c.sides.result.0.items.now < t = omega (arith, c.decreases, ap length c.sides.ensures.below, c.in-Cut.ensures.less.0) in
+    let small : length c.sides.result.0.items.now < t =
+    omega (arith, c.decreases, ap length c.sides.ensures.below, c.in-Cut.ensures.less.0) in
     let own : IsBounded number c.sides.result.0.items.now c.sides.result.0.bounds.now =
-    side_bounded number (Fork c.in-Cut.variable c.in-Cut.cut shows.0 shows.1) shows.0 c.args.own.items.now c.sides.result.0.items.now c.args.own.bounds.now
+    side_bounded number (Fork c.in-Cut.variable c.in-Cut.cut shows.0 shows.1) shows.0 c.args.own.items.now
+    c.sides.result.0.items.now c.args.own.bounds.now
     c.sides.result.0.bounds.now c.requires.own shows.4 (c.sides.ensures.below ∙ shows.2)
     (λ e. (c.sides.ensures.bounds number c.in-Cut.variable c.in-Cut.cut shows.0 shows.1 shows.2 e).0) in
     let others : IsBounded other_number c.bounded_part-other.result.items.now c.bounded_part-other.result.bounds.now =
-    part_bounded other_number c.args.spaces.now.walked c.args.other.items.now c.bounded_part-other.result.items.now c.args.other.bounds.now c.bounded_part-other.result.bounds.now
+    part_bounded other_number c.args.spaces.now.walked c.args.other.items.now c.bounded_part-other.result.items.now
+    c.args.other.bounds.now c.bounded_part-other.result.bounds.now
     c.requires.others c.bounded_part-other.ensures.part in (
       small,
       (
@@ -222,13 +250,16 @@ greater_by-requires-in-Both-2 g t c κs within =
     let number : g.row.T.Denot → ℕ = g.R.Reading.number c.args.how.now.read.now in
     let other_number : g.row.U.Denot → ℕ = g.S.Reading.number c.args.how.now.other_reading.now in
     let shows = c.in-Cut.ensures.shows in
-    let small : length c.sides.result.1.items.now < t = omega (arith, c.decreases, ap length c.sides.ensures.above, c.in-Cut.ensures.less.1) in
+    let small : length c.sides.result.1.items.now < t =
+    omega (arith, c.decreases, ap length c.sides.ensures.above, c.in-Cut.ensures.less.1) in
     let own : IsBounded number c.sides.result.1.items.now c.sides.result.1.bounds.now =
-    side_bounded number (Fork c.in-Cut.variable c.in-Cut.cut shows.0 shows.1) shows.1 c.args.own.items.now c.sides.result.1.items.now c.args.own.bounds.now
+    side_bounded number (Fork c.in-Cut.variable c.in-Cut.cut shows.0 shows.1) shows.1 c.args.own.items.now
+    c.sides.result.1.items.now c.args.own.bounds.now
     c.sides.result.1.bounds.now c.requires.own shows.4 (c.sides.ensures.above ∙ shows.3)
     (λ e. (c.sides.ensures.bounds number c.in-Cut.variable c.in-Cut.cut shows.0 shows.1 shows.2 e).1) in
     let others : IsBounded other_number c.bounded_part-other.result.items.now c.bounded_part-other.result.bounds.now =
-    part_bounded other_number c.args.spaces.now.walked c.args.other.items.now c.bounded_part-other.result.items.now c.args.other.bounds.now c.bounded_part-other.result.bounds.now
+    part_bounded other_number c.args.spaces.now.walked c.args.other.items.now c.bounded_part-other.result.items.now
+    c.args.other.bounds.now c.bounded_part-other.result.bounds.now
     c.requires.others c.bounded_part-other.ensures.part in (
       small,
       (
@@ -263,10 +294,13 @@ pub returns-in_ok-greater_by-in-Both-2-clause-back : goal.returns-in_ok-greater_
 returns-in_ok-greater_by-in-Both-2-clause-back g t c =
     let spaces : SpacePair = c.args.spaces.now in
     let met : SpacePair = c.way.new.self in
-    let way : AreBothOpen spaces c.in-Cut.variable c.in-Cut.cut × (met ≡ spaces) = subst (IsWay spaces met c.in-Cut.variable c.in-Cut.cut) c.in-Both.is c.way.ensures in
+    let way : AreBothOpen spaces c.in-Cut.variable c.in-Cut.cut × (met ≡ spaces) =
+    subst (IsWay spaces met c.in-Cut.variable c.in-Cut.cut) c.in-Both.is c.way.ensures in
     of_answer c.fork.result _ _ c.fork.ensures.long
     (λ u h. c.reopen_below-in-Both.ensures
-    ∙ ap (λ (q : SpacePair). raised_back q c.in-Cut.variable c.close_below-lows.result) c.in_ok-greater_by-in-Both-2.ensures.back
+    ∙ ap (λ (q : SpacePair). raised_back q c.in-Cut.variable c.close_below-lows.result)
+    c.in_ok-greater_by-in-Both-2.ensures.back
     ∙ c.close_below-lows.ensures.back
-    ∙ both_opened met c.close_above-highs.new.self c.greater_by-in-Both.new.spaces c.reopen_above-in-Both.new.self c.in-Cut.variable c.close_above-highs.result c.close_above-highs.ensures.back
+    ∙ both_opened met c.close_above-highs.new.self c.greater_by-in-Both.new.spaces c.reopen_above-in-Both.new.self
+    c.in-Cut.variable c.close_above-highs.result c.close_above-highs.ensures.back
     c.in_ok-greater_by-in-Both.ensures.back c.reopen_above-in-Both.ensures ∙ way.1)

@@ -13,7 +13,8 @@ returns-clause-made g c =
     let makes : ℕ → g.row.V.Denot → Type 0 = λ k z. g.F.Fn.post c.args.how.now.made.now (k, tt) z in
     of_answer c.greater_by.result _ _ c.greater_by.ensures.made
     (λ u made n m are others.
-    let q = joined_added number other_number makes c.args.space.now n m c.reserve.new.self.items c.greater_by.new.out.items (made n m are others) in
+    let q = joined_added number other_number makes c.args.space.now n m c.reserve.new.self.items
+    c.greater_by.new.out.items (made n m are others) in
     (q.0, q.1 ∙ ap (λ (xs : List (TreeItem g.row.V.Denot)). xs ++ flat q.0) c.in_ok-reserve.ensures.items, q.2))
 
 pub greater_by-requires-clause-own : goal.greater_by-requires-clause-own
@@ -22,9 +23,11 @@ greater_by-requires-clause-own g c =
     let m = c.requires.other_flat in (
       n.0,
       n.1,
-      c.split_at.ensures.front ∙ ap (take c.len-forks.result) c.deref.ensures.value ∙ first_bounds (g.R.Reading.number c.args.how.now.read.now)
+      c.split_at.ensures.front ∙ ap (take c.len-forks.result) c.deref.ensures.value
+          ∙ first_bounds (g.R.Reading.number c.args.how.now.read.now)
           (g.S.Reading.number c.args.how.now.other_reading.now) n.0 m.0 c.in_ok-bounds.bounds.items
-          c.push_bounds.new.bounds.items c.push_bounds-2.new.bounds.items c.len-forks.result c.in_ok-bounds.ensures.items (c.in_ok-push_bounds.ensures.bounds n.0 n.1)
+          c.push_bounds.new.bounds.items c.push_bounds-2.new.bounds.items c.len-forks.result
+          c.in_ok-bounds.ensures.items (c.in_ok-push_bounds.ensures.bounds n.0 n.1)
           (c.in_ok-push_bounds-2.ensures.bounds m.0 m.1) (c.len-forks.ensures ∙ c.push_bounds.new.bounds.ok.0),
     )
 
@@ -34,8 +37,10 @@ greater_by-requires-clause-others g c =
     let m = c.requires.other_flat in (
       m.0,
       m.1,
-      c.split_at.ensures.back ∙ ap (drop c.len-forks.result) c.deref.ensures.value ∙ second_bounds (g.R.Reading.number c.args.how.now.read.now)
+      c.split_at.ensures.back ∙ ap (drop c.len-forks.result) c.deref.ensures.value
+          ∙ second_bounds (g.R.Reading.number c.args.how.now.read.now)
           (g.S.Reading.number c.args.how.now.other_reading.now) n.0 m.0 c.in_ok-bounds.bounds.items
-          c.push_bounds.new.bounds.items c.push_bounds-2.new.bounds.items c.len-forks.result c.in_ok-bounds.ensures.items (c.in_ok-push_bounds.ensures.bounds n.0 n.1)
+          c.push_bounds.new.bounds.items c.push_bounds-2.new.bounds.items c.len-forks.result
+          c.in_ok-bounds.ensures.items (c.in_ok-push_bounds.ensures.bounds n.0 n.1)
           (c.in_ok-push_bounds-2.ensures.bounds m.0 m.1) (c.len-forks.ensures ∙ c.push_bounds.new.bounds.ok.0),
     )

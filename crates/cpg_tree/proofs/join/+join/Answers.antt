@@ -13,11 +13,14 @@ join_items-returns-then-not-is_open_below-clause-made g t c =
     of_answer c.join_items.result _ _ c.join_items.ensures.made
     (λ u made n m are others.
     let part = c.part_in-other.ensures.part m others in
-    joins_whole (λ (x : g.row.T.Denot) (y : g.row.U.Denot) (z : g.row.V.Denot). g.F.Fn.post c.args.f.now (x, (y, tt)) z) c.args.space.now n m part.0 c.args.out.now.items c.join_items.new.out.items
+    joins_whole (λ (x : g.row.T.Denot) (y : g.row.U.Denot) (z : g.row.V.Denot). g.F.Fn.post c.args.f.now (x, (y, tt)) z)
+    c.args.space.now n m part.0 c.args.out.now.items c.join_items.new.out.items
     part.2
     (joins_above c.args.space.now c.in-Cut.variable c.in-Cut.cut shows.0 shows.1 n c.args.items.now shows.4 are
-    (λ (x : g.row.T.Denot) (y : g.row.U.Denot) (z : g.row.V.Denot). g.F.Fn.post c.args.f.now (x, (y, tt)) z) part.0 c.args.out.now.items c.join_items.new.out.items
-    (from_false c.is_open_below.result c.if-not-is_open_below.true c.is_open_below.ensures.none) (made shows.1 part.0 shows.3 part.1)))
+    (λ (x : g.row.T.Denot) (y : g.row.U.Denot) (z : g.row.V.Denot). g.F.Fn.post c.args.f.now (x, (y, tt)) z) part.0
+    c.args.out.now.items c.join_items.new.out.items
+    (from_false c.is_open_below.result c.if-not-is_open_below.true c.is_open_below.ensures.none)
+    (made shows.1 part.0 shows.3 part.1)))
 
 pub join_items-returns-then-not-is_open_above-clause-made : goal.join_items-returns-then-not-is_open_above-clause-made
 join_items-returns-then-not-is_open_above-clause-made g t c =
@@ -25,20 +28,25 @@ join_items-returns-then-not-is_open_above-clause-made g t c =
     of_answer c.join_items-then-not-is_open_above.result _ _ c.join_items-then-not-is_open_above.ensures.made
     (λ u made n m are others.
     let part = c.part_in-other.ensures.part m others in
-    joins_whole (λ (x : g.row.T.Denot) (y : g.row.U.Denot) (z : g.row.V.Denot). g.F.Fn.post c.args.f.now (x, (y, tt)) z) c.args.space.now n m part.0 c.args.out.now.items
+    joins_whole (λ (x : g.row.T.Denot) (y : g.row.U.Denot) (z : g.row.V.Denot). g.F.Fn.post c.args.f.now (x, (y, tt)) z)
+    c.args.space.now n m part.0 c.args.out.now.items
     c.join_items-then-not-is_open_above.new.out.items part.2
     (joins_below c.args.space.now c.in-Cut.variable c.in-Cut.cut shows.0 shows.1 n c.args.items.now shows.4 are
-    (λ (x : g.row.T.Denot) (y : g.row.U.Denot) (z : g.row.V.Denot). g.F.Fn.post c.args.f.now (x, (y, tt)) z) part.0 c.args.out.now.items c.join_items-then-not-is_open_above.new.out.items
-    (from_false c.is_open_above.result c.if-not-is_open_above.true c.is_open_above.ensures.none) (made shows.0 part.0 shows.2 part.1)))
+    (λ (x : g.row.T.Denot) (y : g.row.U.Denot) (z : g.row.V.Denot). g.F.Fn.post c.args.f.now (x, (y, tt)) z) part.0
+    c.args.out.now.items c.join_items-then-not-is_open_above.new.out.items
+    (from_false c.is_open_above.result c.if-not-is_open_above.true c.is_open_above.ensures.none)
+    (made shows.0 part.0 shows.2 part.1)))
 
 pub join_items-returns-in-Value-clause-made : goal.join_items-returns-in-Value-clause-made
 join_items-returns-in-Value-clause-made g t c =
     of_answer c.fill_items.result _ _ c.fill_items.ensures.made
     (λ u made n m are others.
     let part = c.part_in-other.ensures.part m others in
-    joins_whole (λ (x : g.row.T.Denot) (y : g.row.U.Denot) (z : g.row.V.Denot). g.F.Fn.post c.args.f.now (x, (y, tt)) z) c.args.space.now n m part.0 c.args.out.now.items c.fill_items.new.out.items
+    joins_whole (λ (x : g.row.T.Denot) (y : g.row.U.Denot) (z : g.row.V.Denot). g.F.Fn.post c.args.f.now (x, (y, tt)) z)
+    c.args.space.now n m part.0 c.args.out.now.items c.fill_items.new.out.items
     part.2
-    (joins_leaf (λ (x : g.row.T.Denot) (y : g.row.U.Denot) (z : g.row.V.Denot). g.F.Fn.post c.args.f.now (x, (y, tt)) z) c.args.space.now c.in-Value.value n part.0 c.args.items.now
+    (joins_leaf (λ (x : g.row.T.Denot) (y : g.row.U.Denot) (z : g.row.V.Denot). g.F.Fn.post c.args.f.now (x, (y, tt)) z)
+    c.args.space.now c.in-Value.value n part.0 c.args.items.now
     c.args.out.now.items c.fill_items.new.out.items
     c.in-Value.ensures.shows are (made part.0 part.1)))
 
@@ -47,42 +55,57 @@ join_side-returns-in-Value-clause-made g t c =
     of_answer c.fill_items.result _ _ c.fill_items.ensures.made
     (λ u made n m are others.
     let part = c.part_in-other.ensures.part m others in
-    joins_whole (λ (x : g.row.T.Denot) (y : g.row.U.Denot) (z : g.row.V.Denot). g.F.Fn.post c.args.f.now (x, (y, tt)) z) c.args.space.now n m part.0 c.args.out.now.items c.fill_items.new.out.items
+    joins_whole (λ (x : g.row.T.Denot) (y : g.row.U.Denot) (z : g.row.V.Denot). g.F.Fn.post c.args.f.now (x, (y, tt)) z)
+    c.args.space.now n m part.0 c.args.out.now.items c.fill_items.new.out.items
     part.2
-    (joins_leaf (λ (x : g.row.T.Denot) (y : g.row.U.Denot) (z : g.row.V.Denot). g.F.Fn.post c.args.f.now (x, (y, tt)) z) c.args.space.now c.in-Value.value n part.0 c.args.items.now
+    (joins_leaf (λ (x : g.row.T.Denot) (y : g.row.U.Denot) (z : g.row.V.Denot). g.F.Fn.post c.args.f.now (x, (y, tt)) z)
+    c.args.space.now c.in-Value.value n part.0 c.args.items.now
     c.args.out.now.items c.fill_items.new.out.items
     c.in-Value.ensures.shows are (made part.0 part.1)))
 
-pub join_items-returns-in_ok-join_side-in-Cut-2-clause-long : goal.join_items-returns-in_ok-join_side-in-Cut-2-clause-long
+pub join_items-returns-in_ok-join_side-in-Cut-2-clause-long :
+    goal.join_items-returns-in_ok-join_side-in-Cut-2-clause-long
 join_items-returns-in_ok-join_side-in-Cut-2-clause-long g t c =
     of_answer c.fork.result _ _ c.fork.ensures.long (λ u h. omega (arith, h, c.len-start.ensures, c.fork.new.out.ok.0))
 
-pub join_items-returns-in_ok-join_side-in-Cut-2-clause-back : goal.join_items-returns-in_ok-join_side-in-Cut-2-clause-back
+pub join_items-returns-in_ok-join_side-in-Cut-2-clause-back :
+    goal.join_items-returns-in_ok-join_side-in-Cut-2-clause-back
 join_items-returns-in_ok-join_side-in-Cut-2-clause-back g t c =
     of_answer c.fork.result _ _ c.fork.ensures.long
     (λ u h. c.reopen_below.ensures
-    ∙ ap (λ (r : Space). reopened_below r c.in-Cut.variable c.close_below-least.result) c.in_ok-join_side-in-Cut-2.ensures.back
+    ∙ ap (λ (r : Space). reopened_below r c.in-Cut.variable c.close_below-least.result)
+    c.in_ok-join_side-in-Cut-2.ensures.back
     ∙ c.close_below-least.ensures.back ∙ c.reopen_above.ensures
     ∙ ap (λ (r : Space). below_cut r c.in-Cut.variable c.close_above-most.result) c.in_ok-join_side-in-Cut.ensures.back
     ∙ c.close_above-most.ensures.back)
 
-pub join_items-returns-in_ok-join_side-in-Cut-2-clause-made : goal.join_items-returns-in_ok-join_side-in-Cut-2-clause-made
+pub join_items-returns-in_ok-join_side-in-Cut-2-clause-made :
+    goal.join_items-returns-in_ok-join_side-in-Cut-2-clause-made
 join_items-returns-in_ok-join_side-in-Cut-2-clause-made g t c =
     let shows = c.in-Cut.ensures.shows in
     of_answer c.fork.result _ _ c.fork.ensures.made
     (λ u forks n m are others.
     let part = c.part_in-other.ensures.part m others in
-    joins_whole (λ (x : g.row.T.Denot) (y : g.row.U.Denot) (z : g.row.V.Denot). g.F.Fn.post c.args.f.now (x, (y, tt)) z) c.args.space.now n m part.0 c.args.out.now.items c.fork.new.out.items part.2
+    joins_whole (λ (x : g.row.T.Denot) (y : g.row.U.Denot) (z : g.row.V.Denot). g.F.Fn.post c.args.f.now (x, (y, tt)) z)
+    c.args.space.now n m part.0 c.args.out.now.items c.fork.new.out.items part.2
     (joins_fork c.args.space.now c.in-Cut.variable c.in-Cut.cut shows.0 shows.1 n c.args.items.now shows.4 are
-    (λ (x : g.row.T.Denot) (y : g.row.U.Denot) (z : g.row.V.Denot). g.F.Fn.post c.args.f.now (x, (y, tt)) z) part.0 c.args.out.now.items c.fork.new.out.items
-    c.close_above-most.new.self c.close_below-least.new.self c.len-start.result c.len-middle.result c.join_side.new.out.items c.join_side-in-Cut.new.out.items
-    (sym c.is_open_below.ensures.is ∙ c.if-not-is_open_below.false) (sym c.is_open_above.ensures.is ∙ c.if-not-is_open_above.false) c.close_above-most.ensures.is
-    (above_reopened c.args.space.now c.close_above-most.new.self c.join_side.new.space c.reopen_above.new.self c.close_below-least.new.self c.in-Cut.variable c.close_above-most.result
+    (λ (x : g.row.T.Denot) (y : g.row.U.Denot) (z : g.row.V.Denot). g.F.Fn.post c.args.f.now (x, (y, tt)) z) part.0
+    c.args.out.now.items c.fork.new.out.items
+    c.close_above-most.new.self c.close_below-least.new.self c.len-start.result c.len-middle.result
+    c.join_side.new.out.items c.join_side-in-Cut.new.out.items
+    (sym c.is_open_below.ensures.is ∙ c.if-not-is_open_below.false)
+    (sym c.is_open_above.ensures.is ∙ c.if-not-is_open_above.false) c.close_above-most.ensures.is
+    (above_reopened c.args.space.now c.close_above-most.new.self c.join_side.new.space c.reopen_above.new.self
+    c.close_below-least.new.self c.in-Cut.variable c.close_above-most.result
     c.in-Cut.cut
-    c.close_above-most.ensures.back c.in_ok-join_side-in-Cut.ensures.back c.reopen_above.ensures c.close_below-least.ensures.is)
+    c.close_above-most.ensures.back c.in_ok-join_side-in-Cut.ensures.back c.reopen_above.ensures
+    c.close_below-least.ensures.is)
     c.close_above-most.ensures.lies
-    (lies_reopened c.args.space.now c.close_above-most.new.self c.join_side.new.space c.reopen_above.new.self c.close_below-least.new.self c.in-Cut.variable c.close_above-most.result
+    (lies_reopened c.args.space.now c.close_above-most.new.self c.join_side.new.space c.reopen_above.new.self
+    c.close_below-least.new.self c.in-Cut.variable c.close_above-most.result
     c.in-Cut.cut
-    c.close_above-most.ensures.back c.in_ok-join_side-in-Cut.ensures.back c.reopen_above.ensures c.close_below-least.ensures.lies)
+    c.close_above-most.ensures.back c.in_ok-join_side-in-Cut.ensures.back c.reopen_above.ensures
+    c.close_below-least.ensures.lies)
     (c.len-start.ensures ∙ c.args.out.now.ok.0) (c.len-middle.ensures ∙ c.join_side.new.out.ok.0) forks
-    (c.in_ok-join_side-in-Cut.ensures.made shows.0 part.0 shows.2 part.1) (c.in_ok-join_side-in-Cut-2.ensures.made shows.1 part.0 shows.3 part.1)))
+    (c.in_ok-join_side-in-Cut.ensures.made shows.0 part.0 shows.2 part.1)
+    (c.in_ok-join_side-in-Cut-2.ensures.made shows.1 part.0 shows.3 part.1)))

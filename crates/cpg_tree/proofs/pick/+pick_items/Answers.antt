@@ -15,8 +15,10 @@ returns-then-not-is_open_below-clause-made g t c =
     let on = c.part_in-on.ensures.part a ons in
     let off = c.part_in-off.ensures.part b offs in
     picks_whole c.args.space.now n a b on.0 off.0 c.args.out.now.items c.pick_items.new.out.items on.2 off.2
-    (picks_above c.args.space.now on.0 off.0 c.args.out.now.items c.pick_items.new.out.items c.in-Cut.variable c.in-Cut.cut shows.0 shows.1 n c.args.items.now shows.4 are
-    (from_false c.is_open_below.result c.if-not-is_open_below.true c.is_open_below.ensures.none) (made shows.1 on.0 off.0 shows.3 on.1 off.1)))
+    (picks_above c.args.space.now on.0 off.0 c.args.out.now.items c.pick_items.new.out.items c.in-Cut.variable
+    c.in-Cut.cut shows.0 shows.1 n c.args.items.now shows.4 are
+    (from_false c.is_open_below.result c.if-not-is_open_below.true c.is_open_below.ensures.none)
+    (made shows.1 on.0 off.0 shows.3 on.1 off.1)))
 
 pub returns-then-not-is_open_above-clause-made : goal.returns-then-not-is_open_above-clause-made
 returns-then-not-is_open_above-clause-made g t c =
@@ -25,9 +27,12 @@ returns-then-not-is_open_above-clause-made g t c =
     (λ u made n a b are ons offs.
     let on = c.part_in-on.ensures.part a ons in
     let off = c.part_in-off.ensures.part b offs in
-    picks_whole c.args.space.now n a b on.0 off.0 c.args.out.now.items c.pick_items-then-not-is_open_above.new.out.items on.2 off.2
-    (picks_below c.args.space.now on.0 off.0 c.args.out.now.items c.pick_items-then-not-is_open_above.new.out.items c.in-Cut.variable c.in-Cut.cut shows.0 shows.1 n c.args.items.now shows.4 are
-    (from_false c.is_open_above.result c.if-not-is_open_above.true c.is_open_above.ensures.none) (made shows.0 on.0 off.0 shows.2 on.1 off.1)))
+    picks_whole c.args.space.now n a b on.0 off.0 c.args.out.now.items
+    c.pick_items-then-not-is_open_above.new.out.items on.2 off.2
+    (picks_below c.args.space.now on.0 off.0 c.args.out.now.items c.pick_items-then-not-is_open_above.new.out.items
+    c.in-Cut.variable c.in-Cut.cut shows.0 shows.1 n c.args.items.now shows.4 are
+    (from_false c.is_open_above.result c.if-not-is_open_above.true c.is_open_above.ensures.none)
+    (made shows.0 on.0 off.0 shows.2 on.1 off.1)))
 
 pub returns-then-is_on-clause-made : goal.returns-then-is_on-clause-made
 returns-then-is_on-clause-made g t c =
@@ -45,8 +50,10 @@ returns-else-is_on-clause-made g t c =
     (λ u made n a b are ons offs.
     let on = c.part_in-on.ensures.part a ons in
     let off = c.part_in-off.ensures.part b offs in
-    picks_whole c.args.space.now n a b on.0 off.0 c.args.out.now.items c.within_items-else-is_on.new.out.items on.2 off.2
-    (picks_off c.args.space.now on.0 off.0 c.args.out.now.items c.within_items-else-is_on.new.out.items n c.args.items.now are
+    picks_whole c.args.space.now n a b on.0 off.0 c.args.out.now.items
+    c.within_items-else-is_on.new.out.items on.2 off.2
+    (picks_off c.args.space.now on.0 off.0 c.args.out.now.items c.within_items-else-is_on.new.out.items n
+    c.args.items.now are
     (c.in-Value.ensures.shows ∙ ap (λ (b : Bool). flat (Leaf b)) c.if-is_on.false) (made off.0 off.1)))
 
 pub returns-in_ok-pick_items-in-Cut-2-clause-long : goal.returns-in_ok-pick_items-in-Cut-2-clause-long
@@ -57,7 +64,8 @@ pub returns-in_ok-pick_items-in-Cut-2-clause-back : goal.returns-in_ok-pick_item
 returns-in_ok-pick_items-in-Cut-2-clause-back g t c =
     of_answer c.fork.result _ _ c.fork.ensures.long
     (λ u h. c.reopen_below.ensures
-    ∙ ap (λ (r : Space). reopened_below r c.in-Cut.variable c.close_below-least.result) c.in_ok-pick_items-in-Cut-2.ensures.back
+    ∙ ap (λ (r : Space). reopened_below r c.in-Cut.variable c.close_below-least.result)
+    c.in_ok-pick_items-in-Cut-2.ensures.back
     ∙ c.close_below-least.ensures.back ∙ c.reopen_above.ensures
     ∙ ap (λ (r : Space). below_cut r c.in-Cut.variable c.close_above-most.result) c.in_ok-pick_items-in-Cut.ensures.back
     ∙ c.close_above-most.ensures.back)
@@ -70,15 +78,23 @@ returns-in_ok-pick_items-in-Cut-2-clause-made g t c =
     let on = c.part_in-on.ensures.part a ons in
     let off = c.part_in-off.ensures.part b offs in
     picks_whole c.args.space.now n a b on.0 off.0 c.args.out.now.items c.fork.new.out.items on.2 off.2
-    (picks_fork c.args.space.now on.0 off.0 c.args.out.now.items c.fork.new.out.items c.in-Cut.variable c.in-Cut.cut shows.0 shows.1 n c.args.items.now shows.4 are
-    c.close_above-most.new.self c.close_below-least.new.self c.len-start.result c.len-middle.result c.pick_items-in-Cut.new.out.items c.pick_items-in-Cut-2.new.out.items
-    (sym c.is_open_below.ensures.is ∙ c.if-not-is_open_below.false) (sym c.is_open_above.ensures.is ∙ c.if-not-is_open_above.false) c.close_above-most.ensures.is
-    (above_reopened c.args.space.now c.close_above-most.new.self c.pick_items-in-Cut.new.space c.reopen_above.new.self c.close_below-least.new.self c.in-Cut.variable c.close_above-most.result
+    (picks_fork c.args.space.now on.0 off.0 c.args.out.now.items c.fork.new.out.items c.in-Cut.variable c.in-Cut.cut
+    shows.0 shows.1 n c.args.items.now shows.4 are
+    c.close_above-most.new.self c.close_below-least.new.self c.len-start.result c.len-middle.result
+    c.pick_items-in-Cut.new.out.items c.pick_items-in-Cut-2.new.out.items
+    (sym c.is_open_below.ensures.is ∙ c.if-not-is_open_below.false)
+    (sym c.is_open_above.ensures.is ∙ c.if-not-is_open_above.false) c.close_above-most.ensures.is
+    (above_reopened c.args.space.now c.close_above-most.new.self c.pick_items-in-Cut.new.space c.reopen_above.new.self
+    c.close_below-least.new.self c.in-Cut.variable c.close_above-most.result
     c.in-Cut.cut
-    c.close_above-most.ensures.back c.in_ok-pick_items-in-Cut.ensures.back c.reopen_above.ensures c.close_below-least.ensures.is)
+    c.close_above-most.ensures.back c.in_ok-pick_items-in-Cut.ensures.back c.reopen_above.ensures
+    c.close_below-least.ensures.is)
     c.close_above-most.ensures.lies
-    (lies_reopened c.args.space.now c.close_above-most.new.self c.pick_items-in-Cut.new.space c.reopen_above.new.self c.close_below-least.new.self c.in-Cut.variable c.close_above-most.result
+    (lies_reopened c.args.space.now c.close_above-most.new.self c.pick_items-in-Cut.new.space c.reopen_above.new.self
+    c.close_below-least.new.self c.in-Cut.variable c.close_above-most.result
     c.in-Cut.cut
-    c.close_above-most.ensures.back c.in_ok-pick_items-in-Cut.ensures.back c.reopen_above.ensures c.close_below-least.ensures.lies)
+    c.close_above-most.ensures.back c.in_ok-pick_items-in-Cut.ensures.back c.reopen_above.ensures
+    c.close_below-least.ensures.lies)
     (c.len-start.ensures ∙ c.args.out.now.ok.0) (c.len-middle.ensures ∙ c.pick_items-in-Cut.new.out.ok.0) forks
-    (c.in_ok-pick_items-in-Cut.ensures.made shows.0 on.0 off.0 shows.2 on.1 off.1) (c.in_ok-pick_items-in-Cut-2.ensures.made shows.1 on.0 off.0 shows.3 on.1 off.1)))
+    (c.in_ok-pick_items-in-Cut.ensures.made shows.0 on.0 off.0 shows.2 on.1 off.1)
+    (c.in_ok-pick_items-in-Cut-2.ensures.made shows.1 on.0 off.0 shows.3 on.1 off.1)))

@@ -9,7 +9,11 @@ returns-clause-made g c =
       p.0,
       p.1,
       record {
-        made = record { value = λ s d. let z = p.2.made.value s d in search rules; lows = p.2.made.lows; highs = p.2.made.highs };
+        made = record {
+          value = λ s d. let z = p.2.made.value s d in search rules;
+          lows = p.2.made.lows;
+          highs = p.2.made.highs;
+        };
         fit = p.2.fit;
         pass = p.2.pass;
       },

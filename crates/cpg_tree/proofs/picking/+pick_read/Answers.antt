@@ -17,9 +17,12 @@ returns-then-not-is_open_below-clause-made g t c =
     (λ u made n a b are ons offs.
     let on = c.part_in-on.ensures.part a ons in
     let off = c.part_in-off.ensures.part b offs in
-    picks_whole c.args.space.now n (read_by number a) b (read_by number on.0) off.0 c.args.out.now.items c.pick_read.new.out.items (part_read number c.args.space.now a on.0 on.2) off.2
-    (picks_above c.args.space.now (read_by number on.0) off.0 c.args.out.now.items c.pick_read.new.out.items c.in-Cut.variable c.in-Cut.cut shows.0 shows.1 n c.args.items.now shows.4 are
-    (from_false c.is_open_below.result c.if-not-is_open_below.true c.is_open_below.ensures.none) (made shows.1 on.0 off.0 shows.3 on.1 off.1)))
+    picks_whole c.args.space.now n (read_by number a) b (read_by number on.0) off.0 c.args.out.now.items
+    c.pick_read.new.out.items (part_read number c.args.space.now a on.0 on.2) off.2
+    (picks_above c.args.space.now (read_by number on.0) off.0 c.args.out.now.items c.pick_read.new.out.items
+    c.in-Cut.variable c.in-Cut.cut shows.0 shows.1 n c.args.items.now shows.4 are
+    (from_false c.is_open_below.result c.if-not-is_open_below.true c.is_open_below.ensures.none)
+    (made shows.1 on.0 off.0 shows.3 on.1 off.1)))
 
 pub returns-then-not-is_open_above-clause-made : goal.returns-then-not-is_open_above-clause-made
 returns-then-not-is_open_above-clause-made g t c =
@@ -29,11 +32,15 @@ returns-then-not-is_open_above-clause-made g t c =
     (λ u made n a b are ons offs.
     let on = c.part_in-on.ensures.part a ons in
     let off = c.part_in-off.ensures.part b offs in
-    picks_whole c.args.space.now n (read_by number a) b (read_by number on.0) off.0 c.args.out.now.items c.pick_read-then-not-is_open_above.new.out.items
+    picks_whole c.args.space.now n (read_by number a) b
+    (read_by number on.0) off.0 c.args.out.now.items c.pick_read-then-not-is_open_above.new.out.items
     (part_read number c.args.space.now a on.0 on.2) off.2
-    (picks_below c.args.space.now (read_by number on.0) off.0 c.args.out.now.items c.pick_read-then-not-is_open_above.new.out.items c.in-Cut.variable c.in-Cut.cut shows.0 shows.1 n c.args.items.now
+    (picks_below c.args.space.now
+    (read_by number on.0) off.0 c.args.out.now.items c.pick_read-then-not-is_open_above.new.out.items
+    c.in-Cut.variable c.in-Cut.cut shows.0 shows.1 n c.args.items.now
     shows.4 are
-    (from_false c.is_open_above.result c.if-not-is_open_above.true c.is_open_above.ensures.none) (made shows.0 on.0 off.0 shows.2 on.1 off.1)))
+    (from_false c.is_open_above.result c.if-not-is_open_above.true c.is_open_above.ensures.none)
+    (made shows.0 on.0 off.0 shows.2 on.1 off.1)))
 
 pub returns-then-is_on-clause-made : goal.returns-then-is_on-clause-made
 returns-then-is_on-clause-made g t c =
@@ -42,14 +49,21 @@ returns-then-is_on-clause-made g t c =
     (λ u made n a b are ons offs.
     let on = c.part_in-on.ensures.part a ons in
     let off = c.part_in-off.ensures.part b offs in
-    picks_whole c.args.space.now n (read_by number a) b (read_by number on.0) off.0 c.args.out.now.items c.at_least.new.out.items (part_read number c.args.space.now a on.0 on.2) off.2
-    (picks_on c.args.space.now (read_by number on.0) off.0 c.args.out.now.items c.at_least.new.out.items n c.args.items.now are
-    (c.in-Value.ensures.shows ∙ ap (λ (b : Bool). flat (Leaf b)) c.if-is_on.true) (kept_read number c.args.space.now on.0 c.args.out.now.items c.at_least.new.out.items
+    picks_whole c.args.space.now n (read_by number a) b (read_by number on.0) off.0 c.args.out.now.items
+    c.at_least.new.out.items (part_read number c.args.space.now a on.0 on.2) off.2
+    (picks_on c.args.space.now
+    (read_by number on.0) off.0 c.args.out.now.items c.at_least.new.out.items n c.args.items.now are
+    (c.in-Value.ensures.shows ∙ ap (λ (b : Bool). flat (Leaf b)) c.if-is_on.true)
+    (kept_read number c.args.space.now on.0 c.args.out.now.items c.at_least.new.out.items
     (let p = made on.0 on.1 in (
       p.0,
       p.1,
       record {
-        made = record { value = λ s d. let z = p.2.made.value s d in search rules; lows = p.2.made.lows; highs = p.2.made.highs };
+        made = record {
+          value = λ s d. let z = p.2.made.value s d in search rules;
+          lows = p.2.made.lows;
+          highs = p.2.made.highs;
+        };
         fit = p.2.fit;
         pass = p.2.pass;
       },
@@ -62,8 +76,10 @@ returns-else-is_on-clause-made g t c =
     (λ u made n a b are ons offs.
     let on = c.part_in-on.ensures.part a ons in
     let off = c.part_in-off.ensures.part b offs in
-    picks_whole c.args.space.now n (read_by number a) b (read_by number on.0) off.0 c.args.out.now.items c.within_items.new.out.items (part_read number c.args.space.now a on.0 on.2) off.2
-    (picks_off c.args.space.now (read_by number on.0) off.0 c.args.out.now.items c.within_items.new.out.items n c.args.items.now are
+    picks_whole c.args.space.now n (read_by number a) b (read_by number on.0) off.0 c.args.out.now.items
+    c.within_items.new.out.items (part_read number c.args.space.now a on.0 on.2) off.2
+    (picks_off c.args.space.now
+    (read_by number on.0) off.0 c.args.out.now.items c.within_items.new.out.items n c.args.items.now are
     (c.in-Value.ensures.shows ∙ ap (λ (b : Bool). flat (Leaf b)) c.if-is_on.false) (made off.0 off.1)))
 
 pub returns-in_ok-pick_read-in-Cut-2-clause-long : goal.returns-in_ok-pick_read-in-Cut-2-clause-long
@@ -74,7 +90,8 @@ pub returns-in_ok-pick_read-in-Cut-2-clause-back : goal.returns-in_ok-pick_read-
 returns-in_ok-pick_read-in-Cut-2-clause-back g t c =
     of_answer c.fork.result _ _ c.fork.ensures.long
     (λ u h. c.reopen_below.ensures
-    ∙ ap (λ (r : Space). reopened_below r c.in-Cut.variable c.close_below-least.result) c.in_ok-pick_read-in-Cut-2.ensures.back
+    ∙ ap (λ (r : Space). reopened_below r c.in-Cut.variable c.close_below-least.result)
+    c.in_ok-pick_read-in-Cut-2.ensures.back
     ∙ c.close_below-least.ensures.back ∙ c.reopen_above.ensures
     ∙ ap (λ (r : Space). below_cut r c.in-Cut.variable c.close_above-most.result) c.in_ok-pick_read-in-Cut.ensures.back
     ∙ c.close_above-most.ensures.back)
@@ -87,16 +104,25 @@ returns-in_ok-pick_read-in-Cut-2-clause-made g t c =
     (λ u forks n a b are ons offs.
     let on = c.part_in-on.ensures.part a ons in
     let off = c.part_in-off.ensures.part b offs in
-    picks_whole c.args.space.now n (read_by number a) b (read_by number on.0) off.0 c.args.out.now.items c.fork.new.out.items (part_read number c.args.space.now a on.0 on.2) off.2
-    (picks_fork c.args.space.now (read_by number on.0) off.0 c.args.out.now.items c.fork.new.out.items c.in-Cut.variable c.in-Cut.cut shows.0 shows.1 n c.args.items.now shows.4 are
-    c.close_above-most.new.self c.close_below-least.new.self c.len-start.result c.len-middle.result c.pick_read-in-Cut.new.out.items c.pick_read-in-Cut-2.new.out.items
-    (sym c.is_open_below.ensures.is ∙ c.if-not-is_open_below.false) (sym c.is_open_above.ensures.is ∙ c.if-not-is_open_above.false) c.close_above-most.ensures.is
-    (above_reopened c.args.space.now c.close_above-most.new.self c.pick_read-in-Cut.new.space c.reopen_above.new.self c.close_below-least.new.self c.in-Cut.variable c.close_above-most.result
+    picks_whole c.args.space.now n (read_by number a) b (read_by number on.0) off.0 c.args.out.now.items
+    c.fork.new.out.items (part_read number c.args.space.now a on.0 on.2) off.2
+    (picks_fork c.args.space.now (read_by number on.0) off.0 c.args.out.now.items c.fork.new.out.items c.in-Cut.variable
+    c.in-Cut.cut shows.0 shows.1 n c.args.items.now shows.4 are
+    c.close_above-most.new.self c.close_below-least.new.self c.len-start.result c.len-middle.result
+    c.pick_read-in-Cut.new.out.items c.pick_read-in-Cut-2.new.out.items
+    (sym c.is_open_below.ensures.is ∙ c.if-not-is_open_below.false)
+    (sym c.is_open_above.ensures.is ∙ c.if-not-is_open_above.false) c.close_above-most.ensures.is
+    (above_reopened c.args.space.now c.close_above-most.new.self c.pick_read-in-Cut.new.space c.reopen_above.new.self
+    c.close_below-least.new.self c.in-Cut.variable c.close_above-most.result
     c.in-Cut.cut
-    c.close_above-most.ensures.back c.in_ok-pick_read-in-Cut.ensures.back c.reopen_above.ensures c.close_below-least.ensures.is)
+    c.close_above-most.ensures.back c.in_ok-pick_read-in-Cut.ensures.back c.reopen_above.ensures
+    c.close_below-least.ensures.is)
     c.close_above-most.ensures.lies
-    (lies_reopened c.args.space.now c.close_above-most.new.self c.pick_read-in-Cut.new.space c.reopen_above.new.self c.close_below-least.new.self c.in-Cut.variable c.close_above-most.result
+    (lies_reopened c.args.space.now c.close_above-most.new.self c.pick_read-in-Cut.new.space c.reopen_above.new.self
+    c.close_below-least.new.self c.in-Cut.variable c.close_above-most.result
     c.in-Cut.cut
-    c.close_above-most.ensures.back c.in_ok-pick_read-in-Cut.ensures.back c.reopen_above.ensures c.close_below-least.ensures.lies)
+    c.close_above-most.ensures.back c.in_ok-pick_read-in-Cut.ensures.back c.reopen_above.ensures
+    c.close_below-least.ensures.lies)
     (c.len-start.ensures ∙ c.args.out.now.ok.0) (c.len-middle.ensures ∙ c.pick_read-in-Cut.new.out.ok.0) forks
-    (c.in_ok-pick_read-in-Cut.ensures.made shows.0 on.0 off.0 shows.2 on.1 off.1) (c.in_ok-pick_read-in-Cut-2.ensures.made shows.1 on.0 off.0 shows.3 on.1 off.1)))
+    (c.in_ok-pick_read-in-Cut.ensures.made shows.0 on.0 off.0 shows.2 on.1 off.1)
+    (c.in_ok-pick_read-in-Cut-2.ensures.made shows.1 on.0 off.0 shows.3 on.1 off.1)))

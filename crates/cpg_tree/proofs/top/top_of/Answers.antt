@@ -4,7 +4,8 @@ use Rattle.cpg_tree.proofs.Flats.{shows_value, shows_cut, flat-long}
 use Rattle.cpg_tree.proofs.top.top_of.Goals as goal
 
 pub unreachable-requires : goal.unreachable-requires
-unreachable-requires g c = absurd (omega (arith, c.in_default.ensures.cases, flat-long c.requires.0, ap length c.requires.1))
+unreachable-requires g c =
+    absurd (omega (arith, c.in_default.ensures.cases, flat-long c.requires.0, ap length c.requires.1))
 
 pub returns-in-Value-clause-shows : goal.returns-in-Value-clause-shows
 returns-in-Value-clause-shows g c =
@@ -13,7 +14,8 @@ returns-in-Value-clause-shows g c =
 
 pub returns-in-Cut-clause-shows : goal.returns-in-Cut-clause-shows
 returns-in-Cut-clause-shows g c =
-    let shows = shows_cut c.requires.0 c.args.items.now c.in-Some.sides.now c.in-Cut.variable c.in-Cut.cut c.in-Cut.below c.requires.1
+    let shows = shows_cut c.requires.0 c.args.items.now c.in-Some.sides.now c.in-Cut.variable c.in-Cut.cut
+    c.in-Cut.below c.requires.1
     (c.in-Some.ensures.cases.0 ∙ ap (λ (i : TreeItem g.row.T.Denot). c.in-Some.sides.now ++ (i ∷ [])) c.in-Cut.is) in (
       shows.0,
       shows.1,

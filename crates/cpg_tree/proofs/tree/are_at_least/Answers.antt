@@ -7,9 +7,11 @@ use Rattle.cpg_tree.proofs.AtLeast.{at_least_listed}
 use Rattle.cpg_tree.proofs.tree.are_at_least.Goals as goal
 
 pub loop-item-preserved : goal.loop-item-preserved
-loop-item-preserved c = All-more (IsItemFrom c.args.least) c.args.items.now c.loop-item.item-index _ c.loop-item-test.true c.loop-item.invariant
+loop-item-preserved c = All-more (IsItemFrom c.args.least) c.args.items.now c.loop-item.item-index _
+    c.loop-item-test.true c.loop-item.invariant
     (OnTrue_at c.if-not-is_item_from.false c.is_item_from.ensures)
 
 pub returns : goal.returns
 returns c n are = at_least_listed c.args.least n (subst (All (IsItemFrom c.args.least)) are
-    (subst (All (IsItemFrom c.args.least)) (take_all c.loop-item.item-index c.args.items.now c.loop-item-test.false) c.loop-item.invariant))
+    (subst (All (IsItemFrom c.args.least))
+    (take_all c.loop-item.item-index c.args.items.now c.loop-item-test.false) c.loop-item.invariant))

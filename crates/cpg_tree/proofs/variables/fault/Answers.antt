@@ -25,12 +25,14 @@ returns-clause-is c =
     let p : ℕ = c.args.process in
     let w = some_whole k in
     let r = c.in_ok-push_counts.ensures.made in
-    subst (IsNumber p k (λ (n : ℕ). n)) (sym (c.of.ensures.is r.0 (all_added c.in_ok-items.items.items c.push_counts.new.out.items r.0 c.in_ok-items.ensures.items r.1)))
+    subst (IsNumber p k (λ (n : ℕ). n)) (sym (c.of.ensures.is r.0
+    (all_added c.in_ok-items.items.items c.push_counts.new.out.items r.0 c.in_ok-items.ensures.items r.1)))
     (number_paths p k (λ (n : ℕ). n) r.0 (w.0, w.1, r.2.fit w.0 (whole_counts k w.0 p c.requires.process w.1))
     (λ s few. r.2.counts.value s (omega arith) (count_at_most k s few p c.requires.process)) r.2.counts.only)
 
 pub returns-clause-pass : goal.returns-clause-pass
 returns-clause-pass c test on =
     let r = c.in_ok-push_counts.ensures.made in
-    subst (λ (x : TreeState ℕ). DoPathsPass test x.paths) (sym (c.of.ensures.is r.0 (all_added c.in_ok-items.items.items c.push_counts.new.out.items r.0 c.in_ok-items.ensures.items r.1)))
+    subst (λ (x : TreeState ℕ). DoPathsPass test x.paths) (sym (c.of.ensures.is r.0
+    (all_added c.in_ok-items.items.items c.push_counts.new.out.items r.0 c.in_ok-items.ensures.items r.1)))
     (paths_of_forks test c.args.k r.0 (r.2.pass test on))

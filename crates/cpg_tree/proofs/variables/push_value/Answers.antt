@@ -6,5 +6,7 @@ use Rattle.cpg_tree.proofs.variables.push_value.Goals as goal
 pub returns : goal.returns
 returns c =
     of_answer c.fork_of.result _ _ c.fork_of.ensures.made
-    (λ u forks. adds_value c.len-start.result c.len-middle.result (128 + c.args.condition) c.args.out.now.items c.push.new.self.items c.push-2.new.self.items c.fork_of.new.out.items
-    (omega arith) (omega (arith, c.requires)) c.in_ok-push.ensures.items c.in_ok-push-2.ensures.items (c.len-start.ensures ∙ c.args.out.now.ok.0) (c.len-middle.ensures ∙ c.push.new.self.ok.0) forks)
+    (λ u forks. adds_value c.len-start.result c.len-middle.result (128 + c.args.condition) c.args.out.now.items
+    c.push.new.self.items c.push-2.new.self.items c.fork_of.new.out.items
+    (omega arith) (omega (arith, c.requires)) c.in_ok-push.ensures.items c.in_ok-push-2.ensures.items
+    (c.len-start.ensures ∙ c.args.out.now.ok.0) (c.len-middle.ensures ∙ c.push.new.self.ok.0) forks)

@@ -9,8 +9,11 @@ use Rattle.cpg_tree.proofs.variables.value.Goals as goal
 pub of-requires : goal.of-requires
 of-requires c =
     let w = some_whole c.args.k in
-    let r = c.in_ok-push_value.ensures in
-    (r.0, all_added c.in_ok-items.items.items c.push_value.new.out.items r.0 c.in_ok-items.ensures.items r.1, (w.0, w.1, r.2.fit c.args.k w.0 w.1))
+    let r = c.in_ok-push_value.ensures in (
+      r.0,
+      all_added c.in_ok-items.items.items c.push_value.new.out.items r.0 c.in_ok-items.ensures.items r.1,
+      (w.0, w.1, r.2.fit c.args.k w.0 w.1),
+    )
 
 pub returns-clause-is : goal.returns-clause-is
 returns-clause-is c =
@@ -18,11 +21,14 @@ returns-clause-is c =
     let v : ℕ = 128 + c.args.condition in
     let w = some_whole k in
     let r = c.in_ok-push_value.ensures in
-    subst (IsNumber v k number_of_value) (sym (c.of.ensures.is r.0 (all_added c.in_ok-items.items.items c.push_value.new.out.items r.0 c.in_ok-items.ensures.items r.1)))
-    (number_paths v k number_of_value r.0 (w.0, w.1, r.2.fit k w.0 w.1) (λ s few. r.2.value.value s (value_at_most k s few v (omega arith))) r.2.value.only)
+    subst (IsNumber v k number_of_value) (sym (c.of.ensures.is r.0
+    (all_added c.in_ok-items.items.items c.push_value.new.out.items r.0 c.in_ok-items.ensures.items r.1)))
+    (number_paths v k number_of_value r.0 (w.0, w.1, r.2.fit k w.0 w.1)
+    (λ s few. r.2.value.value s (value_at_most k s few v (omega arith))) r.2.value.only)
 
 pub returns-clause-pass : goal.returns-clause-pass
 returns-clause-pass c test on =
     let r = c.in_ok-push_value.ensures in
-    subst (λ (x : TreeState Bool). DoPathsPass test x.paths) (sym (c.of.ensures.is r.0 (all_added c.in_ok-items.items.items c.push_value.new.out.items r.0 c.in_ok-items.ensures.items r.1)))
+    subst (λ (x : TreeState Bool). DoPathsPass test x.paths) (sym (c.of.ensures.is r.0
+    (all_added c.in_ok-items.items.items c.push_value.new.out.items r.0 c.in_ok-items.ensures.items r.1)))
     (paths_of_forks test c.args.k r.0 (r.2.pass test on))

@@ -16,5 +16,6 @@ returns c =
     let g = c.args.problem.now in
     let order = c.args.order.now in
     let k : ℕ = c.args.tree.now.faults in
-    IfSome_then c.leaves_along-count.result c.leaves_along-count.ensures (λ count along. subst (AreByLows (λ (c : Column). c.cube) g order) (ap columns_of_paths (sym seen_paths))
+    IfSome_then c.leaves_along-count.result c.leaves_along-count.ensures
+    (λ count along. subst (AreByLows (λ (c : Column). c.cube) g order) (ap columns_of_paths (sym seen_paths))
     (sorted_columns g order c.in_ok-places.places c.in_ok-places.ensures k root good (along root are)))

@@ -13,57 +13,75 @@ overflow_add-upper t c =
 pub push_columns-requires : goal.push_columns-requires
 push_columns-requires t c =
     let shows = c.in-Cut.ensures.shows in
-    let cuts = c.requires.cuts (Fork c.in-Cut.variable c.in-Cut.cut shows.0 shows.1) shows.4 in
-    (omega (arith, c.decreases, c.in-Cut.ensures.less.0), ((shows.0, shows.2), λ n are. side_cuts c.args.k c.in-Cut.below.now shows.0 n shows.2 cuts.2 are))
+    let cuts = c.requires.cuts (Fork c.in-Cut.variable c.in-Cut.cut shows.0 shows.1) shows.4 in (
+      omega (arith, c.decreases, c.in-Cut.ensures.less.0),
+      ((shows.0, shows.2), λ n are. side_cuts c.args.k c.in-Cut.below.now shows.0 n shows.2 cuts.2 are),
+    )
 
 pub push_columns-requires-then-exchange : goal.push_columns-requires-then-exchange
 push_columns-requires-then-exchange t c =
     let shows = c.in-Cut.ensures.shows in
-    let cuts = c.requires.cuts (Fork c.in-Cut.variable c.in-Cut.cut shows.0 shows.1) shows.4 in
-    (omega (arith, c.decreases, c.in-Cut.ensures.less.1), ((shows.1, shows.3), λ n are. side_cuts c.args.k c.in-Cut.above.now shows.1 n shows.3 cuts.3 are))
+    let cuts = c.requires.cuts (Fork c.in-Cut.variable c.in-Cut.cut shows.0 shows.1) shows.4 in (
+      omega (arith, c.decreases, c.in-Cut.ensures.less.1),
+      ((shows.1, shows.3), λ n are. side_cuts c.args.k c.in-Cut.above.now shows.1 n shows.3 cuts.3 are),
+    )
 
 pub push_columns-requires-in-Some-high : goal.push_columns-requires-in-Some-high
 push_columns-requires-in-Some-high t c =
     let shows = c.in-Cut.ensures.shows in
-    let cuts = c.requires.cuts (Fork c.in-Cut.variable c.in-Cut.cut shows.0 shows.1) shows.4 in
-    (omega (arith, c.decreases, c.in-Cut.ensures.less.1), ((shows.1, shows.3), λ n are. side_cuts c.args.k c.in-Cut.above.now shows.1 n shows.3 cuts.3 are))
+    let cuts = c.requires.cuts (Fork c.in-Cut.variable c.in-Cut.cut shows.0 shows.1) shows.4 in (
+      omega (arith, c.decreases, c.in-Cut.ensures.less.1),
+      ((shows.1, shows.3), λ n are. side_cuts c.args.k c.in-Cut.above.now shows.1 n shows.3 cuts.3 are),
+    )
 
 pub returns-in_ok-push-in-Value-clause-columns : goal.returns-in_ok-push-in-Value-clause-columns
 returns-in_ok-push-in-Value-clause-columns t c n are =
-    leaf_columns c.args.k c.args.cube.now c.args.items.now n (Some c.in-Some.time) c.args.columns.now.items c.push.new.self.items (rw c.in-Some.is at c.in-Value.ensures.shows) are (search rules)
+    leaf_columns c.args.k c.args.cube.now c.args.items.now n (Some c.in-Some.time) c.args.columns.now.items
+    c.push.new.self.items (rw c.in-Some.is at c.in-Value.ensures.shows) are (search rules)
 
 pub returns-in_default-clause-columns : goal.returns-in_default-clause-columns
 returns-in_default-clause-columns t c n are =
     leaf_columns c.args.k c.args.cube.now c.args.items.now n None c.args.columns.now.items c.args.columns.now.items
     (rw c.in_default.is at c.in-Value.ensures.shows) are (sym (append-nil c.args.columns.now.items))
 
-pub returns-in_ok-push_columns-in-Some-low-2-clause-columns : goal.returns-in_ok-push_columns-in-Some-low-2-clause-columns
+pub returns-in_ok-push_columns-in-Some-low-2-clause-columns :
+    goal.returns-in_ok-push_columns-in-Some-low-2-clause-columns
 returns-in_ok-push_columns-in-Some-low-2-clause-columns t c n are =
     let shows = c.in-Cut.ensures.shows in
-    fork_columns c.args.k c.args.cube.now c.in-Cut.variable c.in-Cut.cut shows.0 shows.1 n c.args.items.now shows.4 are (Some c.narrow.new.self) (Some c.exchange.new.self)
+    fork_columns c.args.k c.args.cube.now c.in-Cut.variable c.in-Cut.cut shows.0 shows.1 n c.args.items.now shows.4 are
+    (Some c.narrow.new.self) (Some c.exchange.new.self)
     (rw c.in-Some-low.is at c.in_ok-low-in-Cut.ensures.narrowed)
-    (above_again c.args.k c.in-Cut.variable c.in-Cut.cut c.top.result c.in-Some-low.low c.args.cube.now c.narrow.new.self c.push_columns.new.cube (Some c.exchange.new.self) c.top.ensures
-    (rw c.in-Some-low.is at c.in_ok-low-in-Cut.ensures.undo) c.in_ok-push_columns-in-Some-low.ensures.cube c.if-exchange.ensures.narrowed)
+    (above_again c.args.k c.in-Cut.variable c.in-Cut.cut c.top.result c.in-Some-low.low c.args.cube.now
+    c.narrow.new.self c.push_columns.new.cube (Some c.exchange.new.self) c.top.ensures
+    (rw c.in-Some-low.is at c.in_ok-low-in-Cut.ensures.undo) c.in_ok-push_columns-in-Some-low.ensures.cube
+    c.if-exchange.ensures.narrowed)
     c.args.columns.now.items c.push_columns.new.columns.items c.push_columns-then-exchange.new.columns.items
-    (c.in_ok-push_columns-in-Some-low.ensures.columns shows.0 shows.2) (c.in_ok-push_columns-in-Some-low-2.ensures.columns shows.1 shows.3)
+    (c.in_ok-push_columns-in-Some-low.ensures.columns shows.0 shows.2)
+    (c.in_ok-push_columns-in-Some-low-2.ensures.columns shows.1 shows.3)
 
 pub returns-else-exchange-clause-columns : goal.returns-else-exchange-clause-columns
 returns-else-exchange-clause-columns t c n are =
     let shows = c.in-Cut.ensures.shows in
-    fork_columns c.args.k c.args.cube.now c.in-Cut.variable c.in-Cut.cut shows.0 shows.1 n c.args.items.now shows.4 are (Some c.narrow.new.self) None
+    fork_columns c.args.k c.args.cube.now c.in-Cut.variable c.in-Cut.cut shows.0 shows.1 n c.args.items.now shows.4 are
+    (Some c.narrow.new.self) None
     (rw c.in-Some-low.is at c.in_ok-low-in-Cut.ensures.narrowed)
-    (above_again c.args.k c.in-Cut.variable c.in-Cut.cut c.top.result c.in-Some-low.low c.args.cube.now c.narrow.new.self c.push_columns.new.cube None c.top.ensures
-    (rw c.in-Some-low.is at c.in_ok-low-in-Cut.ensures.undo) c.in_ok-push_columns-in-Some-low.ensures.cube c.if-exchange.ensures.none)
+    (above_again c.args.k c.in-Cut.variable c.in-Cut.cut c.top.result c.in-Some-low.low c.args.cube.now
+    c.narrow.new.self c.push_columns.new.cube None c.top.ensures
+    (rw c.in-Some-low.is at c.in_ok-low-in-Cut.ensures.undo) c.in_ok-push_columns-in-Some-low.ensures.cube
+    c.if-exchange.ensures.none)
     c.args.columns.now.items c.push_columns.new.columns.items c.push_columns.new.columns.items
-    (c.in_ok-push_columns-in-Some-low.ensures.columns shows.0 shows.2) (sym (append-nil c.push_columns.new.columns.items))
+    (c.in_ok-push_columns-in-Some-low.ensures.columns shows.0 shows.2)
+    (sym (append-nil c.push_columns.new.columns.items))
 
 pub returns-in_ok-push_columns-in-None-clause-columns : goal.returns-in_ok-push_columns-in-None-clause-columns
 returns-in_ok-push_columns-in-None-clause-columns t c n are =
     let shows = c.in-Cut.ensures.shows in
     let same : c.narrow.new.self ≡ c.args.cube.now = rw c.in-None.is at c.in_ok-low-in-Cut.ensures.same in
-    fork_columns c.args.k c.args.cube.now c.in-Cut.variable c.in-Cut.cut shows.0 shows.1 n c.args.items.now shows.4 are None (Some c.narrow-in-None.new.self)
+    fork_columns c.args.k c.args.cube.now c.in-Cut.variable c.in-Cut.cut shows.0 shows.1 n c.args.items.now shows.4 are
+    None (Some c.narrow-in-None.new.self)
     (rw c.in-None.is at c.in_ok-low-in-Cut.ensures.none)
-    (above_of c.args.k c.in-Cut.variable c.in-Cut.cut c.top.result c.args.cube.now c.narrow.new.self (Some c.narrow-in-None.new.self) c.top.ensures same
+    (above_of c.args.k c.in-Cut.variable c.in-Cut.cut c.top.result c.args.cube.now c.narrow.new.self
+    (Some c.narrow-in-None.new.self) c.top.ensures same
     (rw c.in-Some-high.is at c.in_ok-high-in-None.ensures.narrowed))
     c.args.columns.now.items c.args.columns.now.items c.push_columns-in-Some-high.new.columns.items
     (sym (append-nil c.args.columns.now.items)) (c.in_ok-push_columns-in-None.ensures.columns shows.1 shows.3)
@@ -72,9 +90,11 @@ pub returns-in_default-high-clause-columns : goal.returns-in_default-high-clause
 returns-in_default-high-clause-columns t c n are =
     let shows = c.in-Cut.ensures.shows in
     let same : c.narrow.new.self ≡ c.args.cube.now = rw c.in-None.is at c.in_ok-low-in-Cut.ensures.same in
-    fork_columns c.args.k c.args.cube.now c.in-Cut.variable c.in-Cut.cut shows.0 shows.1 n c.args.items.now shows.4 are None None
+    fork_columns c.args.k c.args.cube.now c.in-Cut.variable c.in-Cut.cut shows.0 shows.1 n c.args.items.now
+    shows.4 are None None
     (rw c.in-None.is at c.in_ok-low-in-Cut.ensures.none)
-    (above_of c.args.k c.in-Cut.variable c.in-Cut.cut c.top.result c.args.cube.now c.narrow.new.self None c.top.ensures same
+    (above_of c.args.k c.in-Cut.variable c.in-Cut.cut c.top.result c.args.cube.now c.narrow.new.self None
+    c.top.ensures same
     (rw c.in_default-high.is at c.in_ok-high-in-None.ensures.none))
     c.args.columns.now.items c.args.columns.now.items c.args.columns.now.items
     (sym (append-nil c.args.columns.now.items)) (sym (append-nil c.args.columns.now.items))

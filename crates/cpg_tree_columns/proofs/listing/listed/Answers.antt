@@ -14,7 +14,11 @@ use Rattle.cpg_tree_columns.proofs.listing.listed.Goals as goal
 
 pub push_columns-requires : goal.push_columns-requires
 push_columns-requires c =
-    record { flat = c.items.ensures.flat; cuts = λ n are. subst (λ (k : ℕ). HasCuts k n) (sym c.faults.ensures) (good_cuts c.args.tree.now.faults n (c.items.ensures.good n are)) }
+    record {
+      flat = c.items.ensures.flat;
+      cuts = λ n are. subst (λ (k : ℕ). HasCuts k n) (sym c.faults.ensures)
+          (good_cuts c.args.tree.now.faults n (c.items.ensures.good n are));
+    }
 
 pub returns-clause-all : goal.returns-clause-all
 returns-clause-all c =
@@ -23,7 +27,8 @@ returns-clause-all c =
     let good = c.items.ensures.good root are in
     let seen_paths = c.items.ensures.paths root are in
     let k : ℕ = c.args.tree.now.faults in
-    c.in_ok-push_columns.ensures.columns root are ∙ ap₂ ◌++◌ (c.in_ok-reserve.ensures.items ∙ c.new-columns.ensures.items)
+    c.in_ok-push_columns.ensures.columns root are
+    ∙ ap₂ ◌++◌ (c.in_ok-reserve.ensures.items ∙ c.new-columns.ensures.items)
     (ap₂ (λ (m : ℕ) (cube : List Literal). columns_from m cube root) c.faults.ensures c.whole-whole.ensures)
     ∙ all_columns k root good ∙ ap columns_of_paths (sym seen_paths)
 
@@ -38,9 +43,11 @@ returns-clause-tidy c =
     let same : k ≡ g.faults = c.requires.faults in
     let paths : c.args.tree.now.paths ≡ paths_of g.faults root = seen_paths ∙ ap (λ (m : ℕ). paths_of m root) same in
     let is : c.push_columns.new.columns.items ≡ columns_of_paths (paths_of g.faults root) =
-    c.in_ok-push_columns.ensures.columns root are ∙ ap₂ ◌++◌ (c.in_ok-reserve.ensures.items ∙ c.new-columns.ensures.items)
+    c.in_ok-push_columns.ensures.columns root are
+    ∙ ap₂ ◌++◌ (c.in_ok-reserve.ensures.items ∙ c.new-columns.ensures.items)
     (ap₂ (λ (m : ℕ) (cube : List Literal). columns_from m cube root) c.faults.ensures c.whole-whole.ensures)
     ∙ all_columns k root good ∙ ap (λ (m : ℕ). columns_of_paths (paths_of m root)) same in
     tidy_columns g c.processes-processes.ensures.within.few_processes root (subst (λ (m : ℕ). IsGood m root) same good)
     (subst (All (λ (p : Path (Option ℕ)). IsKnown g p.0)) paths c.requires.known) c.push_columns.new.columns.items
-    (subst (IsPermutation (columns_of_paths (paths_of g.faults root))) (sym is) (IsPermutation-refl (columns_of_paths (paths_of g.faults root))))
+    (subst (IsPermutation (columns_of_paths (paths_of g.faults root))) (sym is)
+    (IsPermutation-refl (columns_of_paths (paths_of g.faults root))))

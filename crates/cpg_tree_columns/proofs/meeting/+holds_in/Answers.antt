@@ -4,7 +4,8 @@ use Rattle.cpg_tree.specs.declared.space.Space.{Space}
 use Rattle.cpg_tree.specs.Space.{below_cut, above_cut}
 use Rattle.cpg_tree.proofs.Flats.{flat-same}
 use Rattle.cpg_tree.proofs.Forks.{from_false, from_true}
-use Rattle.cpg_tree_columns.proofs.Meetings.{IsTrueIn, leaf_met, leaf_never, true_low, true_high, true_below, true_above, never_low, never_high, never_both}
+use Rattle.cpg_tree_columns.proofs.Meetings.{IsTrueIn, leaf_met, leaf_never, true_low, true_high, true_below}
+use Rattle.cpg_tree_columns.proofs.Meetings.{true_above, never_low, never_high, never_both}
 use Rattle.cpg_tree.proofs.Passes.{of_true, of_false}
 use Rattle.cpg_tree.proofs.Spaces.{lies_reopened}
 use Rattle.cpg_tree_columns.proofs.meeting.+holds_in.Goals as goal
@@ -29,7 +30,8 @@ returns-then-not-is_open_below-clause-never t c =
     of_false c.holds_in.result c.holds_in.ensures.never
     (λ never n are. never_high c.in-Cut.variable c.in-Cut.cut c.in-Cut.ensures.variable shows.0 shows.1 n
     (flat-same n (Fork c.in-Cut.variable c.in-Cut.cut shows.0 shows.1) (sym are ∙ shows.4)) c.args.space.now
-    (from_false c.is_open_below.result c.if-not-is_open_below.true c.is_open_below.ensures.none) (never shows.1 shows.3))
+    (from_false c.is_open_below.result c.if-not-is_open_below.true c.is_open_below.ensures.none)
+    (never shows.1 shows.3))
 
 pub returns-then-not-is_open_above-clause-met : goal.returns-then-not-is_open_above-clause-met
 returns-then-not-is_open_above-clause-met t c =
@@ -45,26 +47,34 @@ returns-then-not-is_open_above-clause-never t c =
     of_false c.holds_in-then-not-is_open_above.result c.holds_in-then-not-is_open_above.ensures.never
     (λ never n are. never_low c.in-Cut.variable c.in-Cut.cut c.in-Cut.ensures.variable shows.0 shows.1 n
     (flat-same n (Fork c.in-Cut.variable c.in-Cut.cut shows.0 shows.1) (sym are ∙ shows.4)) c.args.space.now
-    (from_false c.is_open_above.result c.if-not-is_open_above.true c.is_open_above.ensures.none) (never shows.0 shows.2))
+    (from_false c.is_open_above.result c.if-not-is_open_above.true c.is_open_above.ensures.none)
+    (never shows.0 shows.2))
 
 pub returns-then-low-clause-met : goal.returns-then-low-clause-met
 returns-then-low-clause-met t c n are =
     let shows = c.in-Cut.ensures.shows in
-    true_below c.in-Cut.variable c.in-Cut.cut c.in-Cut.ensures.variable shows.0 shows.1 n (flat-same n (Fork c.in-Cut.variable c.in-Cut.cut shows.0 shows.1) (sym are ∙ shows.4)) c.args.space.now
-    (sym c.is_open_below.ensures.is ∙ c.if-not-is_open_below.false) (sym c.is_open_above.ensures.is ∙ c.if-not-is_open_above.false)
-    (subst (λ (r : Space). IsTrueIn r shows.0) c.close_above-most.ensures.is (from_true c.holds_in-low.result c.if-low.true c.holds_in-low.ensures.met shows.0 shows.2))
+    true_below c.in-Cut.variable c.in-Cut.cut c.in-Cut.ensures.variable shows.0 shows.1 n
+    (flat-same n (Fork c.in-Cut.variable c.in-Cut.cut shows.0 shows.1) (sym are ∙ shows.4)) c.args.space.now
+    (sym c.is_open_below.ensures.is ∙ c.if-not-is_open_below.false)
+    (sym c.is_open_above.ensures.is ∙ c.if-not-is_open_above.false)
+    (subst (λ (r : Space). IsTrueIn r shows.0) c.close_above-most.ensures.is
+    (from_true c.holds_in-low.result c.if-low.true c.holds_in-low.ensures.met shows.0 shows.2))
 
 pub returns-else-low-clause-met : goal.returns-else-low-clause-met
 returns-else-low-clause-met t c =
     let shows = c.in-Cut.ensures.shows in
     let space : Space = c.args.space.now in
-    let back : c.reopen_above.new.self ≡ space = c.reopen_above.ensures ∙ ap (λ (r : Space). below_cut r c.in-Cut.variable c.close_above-most.result) c.holds_in-low.ensures.back ∙
+    let back : c.reopen_above.new.self ≡ space = c.reopen_above.ensures
+    ∙ ap (λ (r : Space). below_cut r c.in-Cut.variable c.close_above-most.result) c.holds_in-low.ensures.back ∙
     c.close_above-most.ensures.back in
-    let upper : c.close_below-least.new.self ≡ above_cut space c.in-Cut.variable c.in-Cut.cut = c.close_below-least.ensures.is ∙
+    let upper : c.close_below-least.new.self ≡ above_cut space c.in-Cut.variable c.in-Cut.cut =
+    c.close_below-least.ensures.is ∙
     ap (λ (r : Space). above_cut r c.in-Cut.variable c.in-Cut.cut) back in
     of_true c.holds_in-high.result c.holds_in-high.ensures.met
-    (λ met n are. true_above c.in-Cut.variable c.in-Cut.cut c.in-Cut.ensures.variable shows.0 shows.1 n (flat-same n (Fork c.in-Cut.variable c.in-Cut.cut shows.0 shows.1) (sym are ∙ shows.4)) space
-    (sym c.is_open_below.ensures.is ∙ c.if-not-is_open_below.false) (sym c.is_open_above.ensures.is ∙ c.if-not-is_open_above.false)
+    (λ met n are. true_above c.in-Cut.variable c.in-Cut.cut c.in-Cut.ensures.variable shows.0 shows.1 n
+    (flat-same n (Fork c.in-Cut.variable c.in-Cut.cut shows.0 shows.1) (sym are ∙ shows.4)) space
+    (sym c.is_open_below.ensures.is ∙ c.if-not-is_open_below.false)
+    (sym c.is_open_above.ensures.is ∙ c.if-not-is_open_above.false)
     (subst (λ (r : Space). IsTrueIn r shows.1) upper (met shows.1 shows.3)))
 
 pub returns-else-low-clause-never : goal.returns-else-low-clause-never
@@ -73,8 +83,11 @@ returns-else-low-clause-never t c =
     let space : Space = c.args.space.now in
     let low = from_false c.holds_in-low.result c.if-low.false c.holds_in-low.ensures.never shows.0 shows.2 in
     of_false c.holds_in-high.result c.holds_in-high.ensures.never
-    (λ high n are. never_both c.in-Cut.variable c.in-Cut.cut c.in-Cut.ensures.variable shows.0 shows.1 n (flat-same n (Fork c.in-Cut.variable c.in-Cut.cut shows.0 shows.1) (sym are ∙ shows.4)) space
+    (λ high n are. never_both c.in-Cut.variable c.in-Cut.cut c.in-Cut.ensures.variable shows.0 shows.1 n
+    (flat-same n (Fork c.in-Cut.variable c.in-Cut.cut shows.0 shows.1) (sym are ∙ shows.4)) space
     (λ s lies h. low s (c.close_above-most.ensures.lies s lies h))
-    (λ s lies h. high shows.1 shows.3 s (lies_reopened space c.close_above-most.new.self c.holds_in-low.new.space c.reopen_above.new.self c.close_below-least.new.self c.in-Cut.variable
+    (λ s lies h. high shows.1 shows.3 s (lies_reopened space c.close_above-most.new.self c.holds_in-low.new.space
+    c.reopen_above.new.self c.close_below-least.new.self c.in-Cut.variable
     c.close_above-most.result c.in-Cut.cut
-    c.close_above-most.ensures.back c.holds_in-low.ensures.back c.reopen_above.ensures c.close_below-least.ensures.lies s lies h)))
+    c.close_above-most.ensures.back c.holds_in-low.ensures.back c.reopen_above.ensures
+    c.close_below-least.ensures.lies s lies h)))

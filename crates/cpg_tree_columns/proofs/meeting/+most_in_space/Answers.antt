@@ -13,47 +13,64 @@ pub returns-then-not-is_open_below-clause-most : goal.returns-then-not-is_open_b
 returns-then-not-is_open_below-clause-most t c n w are wanted =
     let shows = c.in-Cut.ensures.shows in
     most_high c.in-Cut.variable c.in-Cut.cut c.in-Cut.ensures.variable shows.0 shows.1 n
-    (flat-same n (Fork c.in-Cut.variable c.in-Cut.cut shows.0 shows.1) (sym are ∙ shows.4)) w c.args.space.now c.args.best
+    (flat-same n (Fork c.in-Cut.variable c.in-Cut.cut shows.0 shows.1) (sym are ∙ shows.4)) w
+    c.args.space.now c.args.best
     c.most_in_space.result
-    (from_false c.is_open_below.result c.if-not-is_open_below.true c.is_open_below.ensures.none) (c.most_in_space.ensures.most shows.1 w shows.3 wanted)
+    (from_false c.is_open_below.result c.if-not-is_open_below.true c.is_open_below.ensures.none)
+    (c.most_in_space.ensures.most shows.1 w shows.3 wanted)
 
 pub returns-then-not-is_open_above-clause-most : goal.returns-then-not-is_open_above-clause-most
 returns-then-not-is_open_above-clause-most t c n w are wanted =
     let shows = c.in-Cut.ensures.shows in
     most_low c.in-Cut.variable c.in-Cut.cut c.in-Cut.ensures.variable shows.0 shows.1 n
-    (flat-same n (Fork c.in-Cut.variable c.in-Cut.cut shows.0 shows.1) (sym are ∙ shows.4)) w c.args.space.now c.args.best
+    (flat-same n (Fork c.in-Cut.variable c.in-Cut.cut shows.0 shows.1) (sym are ∙ shows.4)) w
+    c.args.space.now c.args.best
     c.most_in_space-then-not-is_open_above.result
-    (from_false c.is_open_above.result c.if-not-is_open_above.true c.is_open_above.ensures.none) (c.most_in_space-then-not-is_open_above.ensures.most shows.0 w shows.2 wanted)
+    (from_false c.is_open_above.result c.if-not-is_open_above.true c.is_open_above.ensures.none)
+    (c.most_in_space-then-not-is_open_above.ensures.most shows.0 w shows.2 wanted)
 
 pub returns-then-not-is_greater-clause-most : goal.returns-then-not-is_greater-clause-most
 returns-then-not-is_greater-clause-most t c n w are wanted =
-    most_least c.args.space.now n w c.in-Value.number c.args.best (flat-same n (Leaf c.in-Value.number) (sym are ∙ c.in-Value.ensures.shows))
+    most_least c.args.space.now n w c.in-Value.number c.args.best
+    (flat-same n (Leaf c.in-Value.number) (sym are ∙ c.in-Value.ensures.shows))
     (from_false c.is_greater.result c.if-not-is_greater.true c.is_greater.ensures.none)
 
 pub returns-then-holds_in-clause-most : goal.returns-then-holds_in-clause-most
 returns-then-holds_in-clause-most t c n w are wanted =
-    most_leaf c.args.space.now n w c.in-Value.number c.args.best (flat-same n (Leaf c.in-Value.number) (sym are ∙ c.in-Value.ensures.shows))
-    (from_true c.is_greater.result c.if-not-is_greater.false c.is_greater.ensures.some) (from_true c.holds_in.result c.if-holds_in.true c.holds_in.ensures.met w wanted)
+    most_leaf c.args.space.now n w c.in-Value.number c.args.best
+    (flat-same n (Leaf c.in-Value.number) (sym are ∙ c.in-Value.ensures.shows))
+    (from_true c.is_greater.result c.if-not-is_greater.false c.is_greater.ensures.some)
+    (from_true c.holds_in.result c.if-holds_in.true c.holds_in.ensures.met w wanted)
 
 pub returns-else-holds_in-clause-most : goal.returns-else-holds_in-clause-most
 returns-else-holds_in-clause-most t c n w are wanted =
-    most_never c.args.space.now n w c.args.best (from_false c.holds_in.result c.if-holds_in.false c.holds_in.ensures.never w wanted)
+    most_never c.args.space.now n w c.args.best
+    (from_false c.holds_in.result c.if-holds_in.false c.holds_in.ensures.never w wanted)
 
 pub returns-else-not-is_open_above-clause-most : goal.returns-else-not-is_open_above-clause-most
 returns-else-not-is_open_above-clause-most t c n w are wanted =
     let shows = c.in-Cut.ensures.shows in
     let space : Space = c.args.space.now in
-    let back : c.reopen_above.new.self ≡ space = c.reopen_above.ensures ∙ ap (λ (r : Space). below_cut r c.in-Cut.variable c.close_above-most.result) c.most_in_space-low.ensures.back ∙
+    let back : c.reopen_above.new.self ≡ space = c.reopen_above.ensures
+    ∙ ap (λ (r : Space). below_cut r c.in-Cut.variable c.close_above-most.result) c.most_in_space-low.ensures.back ∙
     c.close_above-most.ensures.back in
-    let upper : c.close_below-least.new.self ≡ above_cut space c.in-Cut.variable c.in-Cut.cut = c.close_below-least.ensures.is ∙
+    let upper : c.close_below-least.new.self ≡ above_cut space c.in-Cut.variable c.in-Cut.cut =
+    c.close_below-least.ensures.is ∙
     ap (λ (r : Space). above_cut r c.in-Cut.variable c.in-Cut.cut) back in
     most_both c.in-Cut.variable c.in-Cut.cut c.in-Cut.ensures.variable shows.0 shows.1 n
-    (flat-same n (Fork c.in-Cut.variable c.in-Cut.cut shows.0 shows.1) (sym are ∙ shows.4)) w space c.args.best c.most_in_space-low.result
+    (flat-same n (Fork c.in-Cut.variable c.in-Cut.cut shows.0 shows.1) (sym are ∙ shows.4)) w space c.args.best
+    c.most_in_space-low.result
     c.most_in_space-high.result
-    (sym c.is_open_below.ensures.is ∙ c.if-not-is_open_below.false) (sym c.is_open_above.ensures.is ∙ c.if-not-is_open_above.false)
-    (λ s lies h. subst (λ (r : Space). IsInSpace r s) c.close_above-most.ensures.is (c.close_above-most.ensures.lies s lies h))
+    (sym c.is_open_below.ensures.is ∙ c.if-not-is_open_below.false)
+    (sym c.is_open_above.ensures.is ∙ c.if-not-is_open_above.false)
+    (λ s lies h.
+    subst (λ (r : Space). IsInSpace r s) c.close_above-most.ensures.is (c.close_above-most.ensures.lies s lies h))
     (λ s lies h. subst (λ (r : Space). IsInSpace r s) upper
-    (lies_reopened space c.close_above-most.new.self c.most_in_space-low.new.space c.reopen_above.new.self c.close_below-least.new.self c.in-Cut.variable c.close_above-most.result c.in-Cut.cut
-    c.close_above-most.ensures.back c.most_in_space-low.ensures.back c.reopen_above.ensures c.close_below-least.ensures.lies s lies h))
-    (subst (λ (r : Space). IsMostInSpace r shows.0 w c.args.best c.most_in_space-low.result) c.close_above-most.ensures.is (c.most_in_space-low.ensures.most shows.0 w shows.2 wanted))
-    (subst (λ (r : Space). IsMostInSpace r shows.1 w c.most_in_space-low.result c.most_in_space-high.result) upper (c.most_in_space-high.ensures.most shows.1 w shows.3 wanted))
+    (lies_reopened space c.close_above-most.new.self c.most_in_space-low.new.space c.reopen_above.new.self
+    c.close_below-least.new.self c.in-Cut.variable c.close_above-most.result c.in-Cut.cut
+    c.close_above-most.ensures.back c.most_in_space-low.ensures.back c.reopen_above.ensures
+    c.close_below-least.ensures.lies s lies h))
+    (subst (λ (r : Space). IsMostInSpace r shows.0 w c.args.best c.most_in_space-low.result)
+    c.close_above-most.ensures.is (c.most_in_space-low.ensures.most shows.0 w shows.2 wanted))
+    (subst (λ (r : Space). IsMostInSpace r shows.1 w c.most_in_space-low.result c.most_in_space-high.result) upper
+    (c.most_in_space-high.ensures.most shows.1 w shows.3 wanted))

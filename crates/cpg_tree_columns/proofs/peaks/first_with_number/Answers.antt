@@ -15,8 +15,10 @@ use Rattle.cpg_tree_columns.proofs.peaks.first_with_number.Goals as goal
 
 pub returns-in_default-clause-none : goal.returns-in_default-clause-none
 returns-in_default-clause-none c k d l =
-    no_numbers c.args.tree.now.paths c.in_ok-columns.columns.items (permutation_of_equal (columns_of_paths c.args.tree.now.paths) c.in_ok-columns.columns.items (sym c.in_ok-columns.ensures.all))
-    (sym c.as_slice-columns.ensures.value ∙ rw c.in_default.is at c.in_ok-place.ensures.none) (get_or c.args.tree.now.paths k d) (Contains-get_or c.args.tree.now.paths k d l)
+    no_numbers c.args.tree.now.paths c.in_ok-columns.columns.items (permutation_of_equal
+    (columns_of_paths c.args.tree.now.paths) c.in_ok-columns.columns.items (sym c.in_ok-columns.ensures.all))
+    (sym c.as_slice-columns.ensures.value ∙ rw c.in_default.is at c.in_ok-place.ensures.none)
+    (get_or c.args.tree.now.paths k d) (Contains-get_or c.args.tree.now.paths k d l)
 
 pub returns-clause-some : goal.returns-clause-some
 returns-clause-some c =
@@ -25,14 +27,18 @@ returns-clause-some c =
     let paths : List (Path (Option ℕ)) = c.args.tree.now.paths in
     let columns : List Column = c.as_slice-columns.result.now in
     let at : ℕ = c.in-Some.place in
-    let first : IsFirstByLows (λ (c : Column). c.cube) g order columns at = rw c.in-Some.is at c.in_ok-place.ensures.first in
+    let first : IsFirstByLows (λ (c : Column). c.cube) g order columns at =
+    rw c.in-Some.is at c.in_ok-place.ensures.first in
     let column : Column = get_or columns at c.index-columns-place.result in
     let same = sym c.as_slice-columns.ensures.value in
     let few = c.processes-processes.ensures.within.few_processes in
-    let all : IsPermutation (columns_of_paths paths) columns = permutation_of_equal (columns_of_paths paths) columns (sym c.in_ok-columns.ensures.all ∙ same) in
+    let all : IsPermutation (columns_of_paths paths) columns =
+    permutation_of_equal (columns_of_paths paths) columns (sym c.in_ok-columns.ensures.all ∙ same) in
     let tidy : All (IsTidyColumn g) columns = subst (All (IsTidyColumn g)) same c.in_ok-columns.ensures.tidy in
-    let is : get_or columns at column ≡ column = get_or_default columns at column c.index-columns-place.result first.there in
+    let is : get_or columns at column ≡ column =
+    get_or_default columns at column c.index-columns-place.result first.there in
     let least : Some c.in-Some-2.least ≡ Some (lows g column.cube) = sym c.in-Some-2.is ∙ c.in_ok-least.ensures.exact
     ∙ cond-true _ _ _ (column_met paths columns all g few order c.requires.order tidy at first column is) in
-    subst (IsLeast g order (HasNumberAt paths)) (sym (ap (λ (o : Option Scenario). unwrap_or o c.in-Some-2.least) least))
+    subst (IsLeast g order (HasNumberAt paths))
+    (sym (ap (λ (o : Option Scenario). unwrap_or o c.in-Some-2.least) least))
     (least_of_columns paths columns all g few order c.requires.order tidy at first column is)

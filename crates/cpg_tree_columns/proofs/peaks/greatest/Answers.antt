@@ -15,7 +15,8 @@ returns-in_default-clause-none c k d l =
     let most = c.most_of.ensures root are in
     let path : Path (Option ℕ) = get_or c.args.tree.now.paths k d in
     no_most c.args.tree.now.faults root (sym most ∙ c.in_default.is) path
-    (subst (λ (paths : List (Path (Option ℕ))). Contains paths path) seen_paths (Contains-get_or c.args.tree.now.paths k d l))
+    (subst (λ (paths : List (Path (Option ℕ))). Contains paths path) seen_paths
+    (Contains-get_or c.args.tree.now.paths k d l))
 
 pub unreachable-requires : goal.unreachable-requires
 unreachable-requires c =
@@ -24,7 +25,8 @@ unreachable-requires c =
     let seen_paths = c.items.ensures.paths root are in
     let most = c.most_of.ensures root are in
     not_without c.args.tree.now.faults root c.in-Some.most (sym most ∙ c.in-Some.is)
-    (subst (All (λ (p : Path (Option ℕ)). p.1 ≢ Some c.in-Some.most)) seen_paths (rw c.in-None.is at c.in_ok-least.ensures.none))
+    (subst (All (λ (p : Path (Option ℕ)). p.1 ≢ Some c.in-Some.most)) seen_paths
+    (rw c.in-None.is at c.in_ok-least.ensures.none))
 
 pub returns-clause-some : goal.returns-clause-some
 returns-clause-some c =
@@ -34,6 +36,9 @@ returns-clause-some c =
     let most = c.most_of.ensures root are in
     let g = c.args.problem.now in
     let order = c.args.order.now in
-    subst (λ (paths : List (Path (Option ℕ))). IsGreatestOf g order paths c.in-Some.most c.in-Some-2.least) (sym seen_paths)
+    subst (λ (paths : List (Path (Option ℕ))). IsGreatestOf g order paths c.in-Some.most c.in-Some-2.least)
+    (sym seen_paths)
     (greatest_of g order c.args.tree.now.faults root c.in-Some.most (sym most ∙ c.in-Some.is) c.in-Some-2.least
-    (subst (λ (paths : List (Path (Option ℕ))). IsLeast g order (HasValueAt paths (Some c.in-Some.most)) c.in-Some-2.least) seen_paths (rw c.in-Some-2.is at c.in_ok-least.ensures.some)))
+    (subst
+    (λ (paths : List (Path (Option ℕ))). IsLeast g order (HasValueAt paths (Some c.in-Some.most)) c.in-Some-2.least)
+    seen_paths (rw c.in-Some-2.is at c.in_ok-least.ensures.some)))

@@ -17,7 +17,11 @@ use Rattle.cpg_tree_columns.proofs.peaks.least_found.Goals as goal
 
 pub narrow_to_first-requires : goal.narrow_to_first-requires
 narrow_to_first-requires c =
-    record { flat = c.items.ensures.flat; cuts = λ n are. subst (λ (k : ℕ). HasCuts k n) (sym c.faults.ensures) (good_cuts c.args.tree.now.faults n (c.items.ensures.good n are)) }
+    record {
+      flat = c.items.ensures.flat;
+      cuts = λ n are. subst (λ (k : ℕ). HasCuts k n) (sym c.faults.ensures)
+          (good_cuts c.args.tree.now.faults n (c.items.ensures.good n are));
+    }
 
 pub returns-then-not-branch-clause-is : goal.returns-then-not-branch-clause-is
 returns-then-not-branch-clause-is c =
@@ -25,10 +29,12 @@ returns-then-not-branch-clause-is c =
     let are = c.items.ensures.flat.1 in
     let good = c.items.ensures.good root are in
     let seen_paths = c.items.ensures.paths root are in
-    let seen = columns_seen c.args.tree.now.faults root good c.args.tree.now.paths seen_paths c.faults.result c.faults.ensures c.whole-cube.result
+    let seen = columns_seen c.args.tree.now.faults root good c.args.tree.now.paths seen_paths c.faults.result
+    c.faults.ensures c.whole-cube.result
     c.whole-cube.ensures in
     ap (option_map (lows c.args.problem.now))
-    (sym (from_false c.in_ok-narrow_to_first.field-0 c.if-not-branch.true c.in_ok-narrow_to_first.ensures.none root are) ∙ ap (first_with c.args.wanted) seen)
+    (sym (from_false c.in_ok-narrow_to_first.field-0 c.if-not-branch.true c.in_ok-narrow_to_first.ensures.none root are)
+    ∙ ap (first_with c.args.wanted) seen)
 
 pub least-requires : goal.least-requires
 least-requires c =
@@ -36,13 +42,16 @@ least-requires c =
     let are = c.items.ensures.flat.1 in
     let good = c.items.ensures.good root are in
     let seen_paths = c.items.ensures.paths root are in
-    let seen = columns_seen c.args.tree.now.faults root good c.args.tree.now.paths seen_paths c.faults.result c.faults.ensures c.whole-cube.result
+    let seen = columns_seen c.args.tree.now.faults root good c.args.tree.now.paths seen_paths c.faults.result
+    c.faults.ensures c.whole-cube.result
     c.whole-cube.ensures in
     let cube : List Literal = c.narrow_to_first.new.cube in
-    let first : first_with c.args.wanted (columns_of_paths c.args.tree.now.paths) ≡ Some cube = sym (ap (first_with c.args.wanted) seen) ∙
+    let first : first_with c.args.wanted (columns_of_paths c.args.tree.now.paths) ≡ Some cube =
+    sym (ap (first_with c.args.wanted) seen) ∙
     from_true c.in_ok-narrow_to_first.field-0 c.if-not-branch.false c.in_ok-narrow_to_first.ensures.some root are in
     record {
-      known = first_known c.args.problem.now c.processes-processes.ensures.within.few_processes c.args.tree.now.faults root good c.args.tree.now.paths
+      known = first_known c.args.problem.now c.processes-processes.ensures.within.few_processes c.args.tree.now.faults
+          root good c.args.tree.now.paths
           seen_paths c.requires.faults c.requires.known c.args.wanted cube first;
     }
 
@@ -53,13 +62,16 @@ returns-clause-is c =
     let good = c.items.ensures.good root are in
     let seen_paths = c.items.ensures.paths root are in
     let g = c.args.problem.now in
-    let seen = columns_seen c.args.tree.now.faults root good c.args.tree.now.paths seen_paths c.faults.result c.faults.ensures c.whole-cube.result
+    let seen = columns_seen c.args.tree.now.faults root good c.args.tree.now.paths seen_paths c.faults.result
+    c.faults.ensures c.whole-cube.result
     c.whole-cube.ensures in
     let cube : List Literal = c.narrow_to_first.new.cube in
-    let first : first_with c.args.wanted (columns_of_paths c.args.tree.now.paths) ≡ Some cube = sym (ap (first_with c.args.wanted) seen) ∙
+    let first : first_with c.args.wanted (columns_of_paths c.args.tree.now.paths) ≡ Some cube =
+    sym (ap (first_with c.args.wanted) seen) ∙
     from_true c.in_ok-narrow_to_first.field-0 c.if-not-branch.false c.in_ok-narrow_to_first.ensures.some root are in
     c.in_ok-least.ensures.exact
-    ∙ cond-true _ _ _ (first_met g c.processes-processes.ensures.within.few_processes c.args.tree.now.faults root good c.args.tree.now.paths seen_paths
+    ∙ cond-true _ _ _ (first_met g c.processes-processes.ensures.within.few_processes c.args.tree.now.faults root good
+    c.args.tree.now.paths seen_paths
     c.requires.faults c.requires.known c.args.wanted cube first)
     ∙ sym (ap (option_map (lows g)) first)
 
@@ -71,14 +83,18 @@ returns-clause-least c =
     let seen_paths = c.items.ensures.paths root are in
     let g = c.args.problem.now in
     let paths : List (Path (Option ℕ)) = c.args.tree.now.paths in
-    let seen = columns_seen c.args.tree.now.faults root good c.args.tree.now.paths seen_paths c.faults.result c.faults.ensures c.whole-cube.result
+    let seen = columns_seen c.args.tree.now.faults root good c.args.tree.now.paths seen_paths c.faults.result
+    c.faults.ensures c.whole-cube.result
     c.whole-cube.ensures in
     let cube : List Literal = c.narrow_to_first.new.cube in
-    let first : first_with c.args.wanted (columns_of_paths paths) ≡ Some cube = sym (ap (first_with c.args.wanted) seen) ∙
+    let first : first_with c.args.wanted (columns_of_paths paths) ≡ Some cube =
+    sym (ap (first_with c.args.wanted) seen) ∙
     from_true c.in_ok-narrow_to_first.field-0 c.if-not-branch.false c.in_ok-narrow_to_first.ensures.some root are in
     let few = c.processes-processes.ensures.within.few_processes in
     subst (λ (o : Option Scenario). IfSome o (IsLeastWhereSorted g paths c.args.wanted))
     (sym (c.in_ok-least.ensures.exact
-    ∙ cond-true _ _ _ (first_met g few c.args.tree.now.faults root good c.args.tree.now.paths seen_paths c.requires.faults c.requires.known c.args.wanted cube
+    ∙ cond-true _ _ _ (first_met g few c.args.tree.now.faults root good c.args.tree.now.paths seen_paths
+    c.requires.faults c.requires.known c.args.wanted cube
     first)))
-    (first_least g few c.args.tree.now.faults root good c.args.tree.now.paths seen_paths c.requires.faults c.requires.known c.args.wanted cube first)
+    (first_least g few c.args.tree.now.faults root good c.args.tree.now.paths seen_paths c.requires.faults
+    c.requires.known c.args.wanted cube first)

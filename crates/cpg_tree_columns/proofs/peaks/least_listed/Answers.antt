@@ -17,7 +17,8 @@ use Rattle.cpg_tree_columns.proofs.peaks.least_listed.Goals as goal
 pub first_with_number-requires-clause-known : goal.first_with_number-requires-clause-known
 first_with_number-requires-clause-known c =
     let g = c.args.problem.now in
-    known_from g c.in_ok-alone.alone.paths (c.in_ok-alone.ensures.pass (is_variable g) (known_passes g c.args.tree.now.paths c.requires.known))
+    known_from g c.in_ok-alone.alone.paths
+    (c.in_ok-alone.ensures.pass (is_variable g) (known_passes g c.args.tree.now.paths c.requires.known))
 
 pub returns-clause-none : goal.returns-clause-none
 returns-clause-none c =
@@ -29,14 +30,19 @@ returns-clause-none c =
     let all : TreeState (Option ℕ) = c.args.tree.now in
     let only : TreeState (Option ℕ) = c.in_ok-alone.alone in
     let same : c.args.tree.now.faults ≡ g.faults = c.requires.faults in
-    let is : record { faults = g.faults; paths = paths_of g.faults root } ≡ all = subst (λ (n : ℕ). record { faults = n; paths = paths_of n root } ≡ all) same
+    let is : record { faults = g.faults; paths = paths_of g.faults root } ≡ all =
+    subst (λ (n : ℕ). record { faults = n; paths = paths_of n root } ≡ all) same
     (state_seen c.args.tree.now root seen_paths) in
-    of_answer c.first_with_number.result (λ (r : Option Scenario). IfNone r (All (λ (p : Path (Option ℕ)). p.1 ≡ None) only.paths))
-    (λ (r : Option Scenario). IfNone r (All (λ (p : Path (Option ℕ)). p.1 ≢ Some c.args.wanted) all.paths)) c.first_with_number.ensures.none
+    of_answer c.first_with_number.result
+    (λ (r : Option Scenario). IfNone r (All (λ (p : Path (Option ℕ)). p.1 ≡ None) only.paths))
+    (λ (r : Option Scenario). IfNone r (All (λ (p : Path (Option ℕ)). p.1 ≢ Some c.args.wanted) all.paths))
+    c.first_with_number.ensures.none
     (listed_none g root (subst (λ (n : ℕ). IsGood n root) same good) c.args.wanted all only is
-    (subst (λ (n : ℕ). HasOnePathEach n only.paths) (c.in_ok-alone.ensures.is.faults ∙ c.requires.faults) c.in_ok-alone.ensures.each) c.in_ok-alone.ensures.is
+    (subst (λ (n : ℕ). HasOnePathEach n only.paths)
+    (c.in_ok-alone.ensures.is.faults ∙ c.requires.faults) c.in_ok-alone.ensures.each) c.in_ok-alone.ensures.is
     c.processes-processes.ensures.within.few_processes
-    (subst (λ (t : TreeState (Option ℕ)). All (λ (p : Path (Option ℕ)). IsKnown g p.0) t.paths) (sym is) c.requires.known))
+    (subst (λ (t : TreeState (Option ℕ)). All (λ (p : Path (Option ℕ)). IsKnown g p.0) t.paths)
+    (sym is) c.requires.known))
 
 pub returns-clause-some : goal.returns-clause-some
 returns-clause-some c =
@@ -49,9 +55,12 @@ returns-clause-some c =
     let all : TreeState (Option ℕ) = c.args.tree.now in
     let only : TreeState (Option ℕ) = c.in_ok-alone.alone in
     let same : c.args.tree.now.faults ≡ g.faults = c.requires.faults in
-    let is : record { faults = g.faults; paths = paths_of g.faults root } ≡ all = subst (λ (n : ℕ). record { faults = n; paths = paths_of n root } ≡ all) same
+    let is : record { faults = g.faults; paths = paths_of g.faults root } ≡ all =
+    subst (λ (n : ℕ). record { faults = n; paths = paths_of n root } ≡ all) same
     (state_seen c.args.tree.now root seen_paths) in
     of_answer c.first_with_number.result (λ (r : Option Scenario). IfSome r (IsLeast g order (HasNumberAt only.paths)))
-    (λ (r : Option Scenario). IfSome r (IsLeast g order (HasValueAt all.paths (Some c.args.wanted)))) c.first_with_number.ensures.some
+    (λ (r : Option Scenario). IfSome r (IsLeast g order (HasValueAt all.paths (Some c.args.wanted))))
+    c.first_with_number.ensures.some
     (listed_some g root (subst (λ (n : ℕ). IsGood n root) same good) c.args.wanted all only is
-    (subst (λ (n : ℕ). HasOnePathEach n only.paths) (c.in_ok-alone.ensures.is.faults ∙ c.requires.faults) c.in_ok-alone.ensures.each) c.in_ok-alone.ensures.is order)
+    (subst (λ (n : ℕ). HasOnePathEach n only.paths) (c.in_ok-alone.ensures.is.faults ∙ c.requires.faults)
+    c.in_ok-alone.ensures.each) c.in_ok-alone.ensures.is order)

@@ -13,7 +13,8 @@ pub returns-then-branch-clause-none : goal.returns-then-branch-clause-none
 returns-then-branch-clause-none c =
     let g = c.args.problem.now in
     let paths : List (Path (Option ℕ)) = c.args.tree.now.paths in
-    of_answer c.least_found.result (λ (r : Option Scenario). r ≡ option_map (lows g) (first_with c.args.wanted (columns_of_paths paths)))
+    of_answer c.least_found.result
+    (λ (r : Option Scenario). r ≡ option_map (lows g) (first_with c.args.wanted (columns_of_paths paths)))
     (λ (r : Option Scenario). IfNone r (All (λ (p : Path (Option ℕ)). p.1 ≢ Some c.args.wanted) paths))
     c.least_found.ensures.is (none_first g paths c.args.wanted)
 
@@ -24,4 +25,5 @@ returns-then-branch-clause-some c =
     let paths : List (Path (Option ℕ)) = c.args.tree.now.paths in
     of_answer c.least_found.result (λ (r : Option Scenario). IfSome r (IsLeastWhereSorted g paths c.args.wanted))
     (λ (r : Option Scenario). IfSome r (IsLeast g order (HasValueAt paths (Some c.args.wanted))))
-    c.least_found.ensures.least (some_sorted g paths c.args.wanted order c.requires.order (from_true c.in_ok-stand_along.field-0 c.if-branch.true c.in_ok-stand_along.ensures))
+    c.least_found.ensures.least (some_sorted g paths c.args.wanted order c.requires.order
+    (from_true c.in_ok-stand_along.field-0 c.if-branch.true c.in_ok-stand_along.ensures))

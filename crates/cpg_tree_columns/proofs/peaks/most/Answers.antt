@@ -13,7 +13,8 @@ returns-clause-none c =
     let are = c.items.ensures.flat.1 in
     let seen_paths = c.items.ensures.paths root are in
     let most = c.most_of.ensures root are in
-    subst (λ (paths : List (Path (Option ℕ))). IfNone c.most_of.result (All (λ (p : Path (Option ℕ)). p.1 ≡ None) paths)) (sym seen_paths)
+    subst (λ (paths : List (Path (Option ℕ))).
+    IfNone c.most_of.result (All (λ (p : Path (Option ℕ)). p.1 ≡ None) paths)) (sym seen_paths)
     (most_none c.args.tree.now.faults root c.most_of.result most)
 
 pub returns-clause-some : goal.returns-clause-some
@@ -23,5 +24,6 @@ returns-clause-some c =
     let good = c.items.ensures.good root are in
     let seen_paths = c.items.ensures.paths root are in
     let most = c.most_of.ensures root are in
-    subst (λ (t : TreeState (Option ℕ)). IfSome c.most_of.result (IsGreatestNumber t)) (state_seen c.args.tree.now root seen_paths)
+    subst (λ (t : TreeState (Option ℕ)). IfSome c.most_of.result (IsGreatestNumber t))
+    (state_seen c.args.tree.now root seen_paths)
     (most_some c.args.tree.now.faults root good c.most_of.result most)

@@ -11,11 +11,13 @@ loop-parts-preserved c =
     let next = c.duration_in-duration.ensures in
     elim c.if-duration-least.branch [
       | then-duration-least w ↦ record {
-        best = w.best-is ∙ takes_next c.args.process.now c.args.faults c.loop-parts.best c.loop-parts.parts some c.loop-parts.invariant.best (omega (arith, w.if-duration-least, lasts, next));
+        best = w.best-is ∙ takes_next c.args.process.now c.args.faults c.loop-parts.best c.loop-parts.parts some
+            c.loop-parts.invariant.best (omega (arith, w.if-duration-least, lasts, next));
         least = w.least-is ∙ (next ∙ ap (duration_in c.args.process.now c.args.faults) (sym w.best-is));
       }
       | else-duration-least w ↦ record {
-        best = w.best-is ∙ keeps_best c.args.process.now c.args.faults c.loop-parts.best c.loop-parts.parts some c.loop-parts.invariant.best (omega (arith, w.if-duration-least, lasts, next));
+        best = w.best-is ∙ keeps_best c.args.process.now c.args.faults c.loop-parts.best c.loop-parts.parts some
+            c.loop-parts.invariant.best (omega (arith, w.if-duration-least, lasts, next));
         least = w.least-is ∙ (lasts ∙ ap (duration_in c.args.process.now c.args.faults) (sym w.best-is));
       }
     ]
@@ -24,4 +26,5 @@ pub returns : goal.returns
 returns c =
     let within = c.requires.within.1 in
     let last = c.loop-parts-test.false in
-    c.loop-parts.invariant.best ∙ best_is_fewest c.args.process.now c.args.faults (c.loop-parts.parts - 1) within.works (search rules)
+    c.loop-parts.invariant.best
+    ∙ best_is_fewest c.args.process.now c.args.faults (c.loop-parts.parts - 1) within.works (search rules)

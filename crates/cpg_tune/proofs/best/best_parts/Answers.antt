@@ -12,6 +12,7 @@ returns-clause-best c =
     let is : c.best_of.result ≡ best_of p faults =
     c.best_of.ensures
     ∙ ap₂ best_of (c.index-processes-process.is ∙
-    (ap (λ ps. get_or ps c.args.process c.index-processes-process.result) c.processes.ensures.processes ∙ get_or_default c.args.problem.now.processes c.args.process _ _ c.requires))
+    (ap (λ ps. get_or ps c.args.process c.index-processes-process.result) c.processes.ensures.processes
+    ∙ get_or_default c.args.problem.now.processes c.args.process _ _ c.requires))
     c.faults.ensures.faults in
     subst (IsBest p faults) (sym is) (best_is_best p faults)

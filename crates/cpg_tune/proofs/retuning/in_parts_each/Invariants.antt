@@ -5,4 +5,5 @@ use Rattle.cpg_tune.proofs.retuning.in_parts_each.Given as goal
 
 abbrev pub invariant-loop-process : goal.invariant-loop-process
 invariant-loop-process l =
-    in_parts_each l.fn.processes l.fn.parts ≡ l.copies.items ++ in_parts_each (iter_rest l.process-iterator.a) (iter_rest l.process-iterator.b)
+    in_parts_each l.fn.processes l.fn.parts ≡ l.copies.items
+    ++ in_parts_each (iter_rest l.process-iterator.a) (iter_rest l.process-iterator.b)

@@ -7,7 +7,8 @@ use Rattle.cpg_tune.proofs.AsBefore.{retuned_within, orderless_within}
 use Rattle.cpg_tune.proofs.retuning.retuned.Goals as goal
 
 -- what holds of a view of what is there holds of it
-of_view : {X Y : Type 0} (f : X → Y) (P : Y → Type 0) (r : Option X) (o : Option Y) → option_map f r ≡ o → IfSome o P → IfSome r (λ x. P (f x))
+of_view : {X Y : Type 0} (f : X → Y) (P : Y → Type 0) (r : Option X) (o : Option Y) → option_map f r ≡ o → IfSome o P →
+    IfSome r (λ x. P (f x))
 of_view f P None o e h = tt
 of_view f P (Some x) o e h = subst (λ q. IfSome q P) (sym e) h
 
@@ -23,8 +24,10 @@ of-retuned-requires c =
       edges = c.in_ok-edges.edges.items;
       order = None;
     } in
-    let is : made ≡ record (retuned c.args.problem.now c.args.parts.now c.args.faults) { order = None } = search rules in
-    let whole = retuned_within c.args.problem.now c.args.parts.now c.args.faults c.nodes.ensures.within c.requires.parts c.requires.faults in
+    let is : made ≡ record (retuned c.args.problem.now c.args.parts.now c.args.faults) { order = None } =
+    search rules in
+    let whole = retuned_within c.args.problem.now c.args.parts.now c.args.faults c.nodes.ensures.within c.requires.parts
+    c.requires.faults in
     rw is (orderless_within (retuned c.args.problem.now c.args.parts.now c.args.faults) whole)
 
 pub with_order-requires : goal.with_order-requires
@@ -41,7 +44,10 @@ with_order-requires c =
       order = None;
     } in
     let is : made ≡ record (retuned g c.args.parts.now c.args.faults) { order = None } = search rules in
-    let count : process_count c.of-retuned.result ≡ process_count (retuned g c.args.parts.now c.args.faults) = ap process_count (c.of-retuned.ensures ∙ is) in
-    let whole = retuned_within g c.args.parts.now c.args.faults c.nodes.ensures.within c.requires.parts c.requires.faults in
+    let count : process_count c.of-retuned.result ≡ process_count (retuned g c.args.parts.now c.args.faults) =
+    ap process_count (c.of-retuned.ensures ∙ is) in
+    let whole =
+    retuned_within g c.args.parts.now c.args.faults c.nodes.ensures.within c.requires.parts c.requires.faults in
     subst (λ n. IfSome c.in_ok-order.order (λ list. IsOrderWithin n list.items)) (sym count)
-    (of_view (λ list. list.items) (IsOrderWithin (process_count (retuned g c.args.parts.now c.args.faults))) c.in_ok-order.order g.order c.in_ok-order.ensures whole.order)
+    (of_view (λ list. list.items) (IsOrderWithin (process_count (retuned g c.args.parts.now c.args.faults)))
+    c.in_ok-order.order g.order c.in_ok-order.ensures whole.order)

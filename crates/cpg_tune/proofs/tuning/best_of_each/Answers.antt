@@ -4,5 +4,6 @@ use Rattle.cpg_tune.proofs.tuning.best_of_each.Goals as goal
 
 pub loop-process-preserved : goal.loop-process-preserved
 loop-process-preserved c =
-    rw c.in_ok-push.ensures.items (best_parts_push c.args.problem.now c.loop-process.process c.best_parts.result c.loop-process.parts.items
+    rw c.in_ok-push.ensures.items
+    (best_parts_push c.args.problem.now c.loop-process.process c.best_parts.result c.loop-process.parts.items
     (search rules) c.loop-process.invariant c.best_parts.ensures.parts)

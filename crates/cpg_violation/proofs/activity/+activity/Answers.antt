@@ -13,18 +13,22 @@ abbrev seen : Bor (List Literal) → List Literal
 seen b = b.now
 
 pub least_at-uncovered-requires-clause-order : goal.least_at-uncovered-requires-clause-order
-least_at-uncovered-requires-clause-order t c = rw (c.order-order.ensures.order, c.problem-problem.ensures.problem) (long_order c.order-order.ensures.admitted)
+least_at-uncovered-requires-clause-order t c =
+    rw (c.order-order.ensures.order, c.problem-problem.ensures.problem) (long_order c.order-order.ensures.admitted)
 
 pub least_at-earlier-requires-clause-order : goal.least_at-earlier-requires-clause-order
-least_at-earlier-requires-clause-order t c = rw (c.order-order.ensures.order, c.problem-problem.ensures.problem) (long_order c.order-order.ensures.admitted)
+least_at-earlier-requires-clause-order t c =
+    rw (c.order-order.ensures.order, c.problem-problem.ensures.problem) (long_order c.order-order.ensures.admitted)
 
 pub least_at-returns-in_ok-second-in-Test : goal.least_at-returns-in_ok-second-in-Test
 least_at-returns-in_ok-second-in-Test t c =
     let g = c.args.admitted.now.graph in
     let by = map seen c.args.by.now in
     rw (c.earlier.ensures, c.in-Test.ensures, c.problem-problem.ensures.problem, c.order-order.ensures.order)
-    (at_test g c.args.admitted.now.order by c.args.wanted c.args.cube.now c.in-Test.condition c.in-Test.no.now c.in-Test.yes.now c.in_ok-first-in-Test.first c.in_ok-second-in-Test.second
-    (rw c.value_literal-off.ensures at c.in_ok-first-in-Test.ensures) (rw c.value_literal-on.ensures at c.in_ok-second-in-Test.ensures))
+    (at_test g c.args.admitted.now.order by c.args.wanted c.args.cube.now c.in-Test.condition c.in-Test.no.now
+    c.in-Test.yes.now c.in_ok-first-in-Test.first c.in_ok-second-in-Test.second
+    (rw c.value_literal-off.ensures at c.in_ok-first-in-Test.ensures)
+    (rw c.value_literal-on.ensures at c.in_ok-second-in-Test.ensures))
 
 pub least_where-least_at-requires : goal.least_where-least_at-requires
 least_where-least_at-requires t c =
@@ -36,5 +40,6 @@ least_where-least_at-requires t c =
 
 pub least_where-returns : goal.least_where-returns
 least_where-returns t c =
-    where_holds c.args.admitted.now.graph c.args.admitted.now.order (map seen c.args.by.now) c.args.wanted c.args.cube.now c.args.literal c.args.tree.now c.in-Some.part c.in_ok-found.found
+    where_holds c.args.admitted.now.graph c.args.admitted.now.order (map seen c.args.by.now) c.args.wanted
+    c.args.cube.now c.args.literal c.args.tree.now c.in-Some.part c.in_ok-found.found
     (rw c.in-Some.is at c.in_ok-part.ensures.both) c.in_ok-found.ensures

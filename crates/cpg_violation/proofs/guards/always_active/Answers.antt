@@ -10,11 +10,14 @@ use Rattle.cpg_violation.proofs.guards.always_active.Goals as goal
 pub loop-process-preserved : goal.loop-process-preserved
 loop-process-preserved c =
     let g = c.args.admitted.now.graph in
-    let faults : c.faults.result ≡ g.faults = c.faults.ensures.faults ∙ ap (λ (h : Graph). h.faults) c.problem-problem.ensures.problem in
+    let faults : c.faults.result ≡ g.faults =
+    c.faults.ensures.faults ∙ ap (λ (h : Graph). h.faults) c.problem-problem.ensures.problem in
     rw c.in_ok-push.ensures.items (
       omega (arith, length-append c.loop-process.marks.items (c.is_running.result ∷ []), c.loop-process.invariant.0),
-      marked_push (IsAlways g) c.loop-process.process c.loop-process.marks.items c.loop-process.invariant.0 c.loop-process.invariant.1 c.is_running.result
-          (of_true c.is_running.result c.is_running.ensures (λ told s law. told s law (c.whole-space.ensures.lies s (few_of g c.faults.result faults s law)))),
+      marked_push (IsAlways g) c.loop-process.process c.loop-process.marks.items c.loop-process.invariant.0
+          c.loop-process.invariant.1 c.is_running.result
+          (of_true c.is_running.result c.is_running.ensures
+          (λ told s law. told s law (c.whole-space.ensures.lies s (few_of g c.faults.result faults s law)))),
     )
 
 pub returns : goal.returns

@@ -3,4 +3,5 @@ use Rattle.cpg_violation.specs.Always.{IsAlways}
 use Rattle.cpg_violation.proofs.guards.always_active.Given as goal
 
 abbrev pub invariant-loop-process : goal.invariant-loop-process
-invariant-loop-process l = (length l.marks.items ≡ l.process) × ((p : ℕ) → get_or l.marks.items p false ≡ true → IsAlways l.admitted.graph p)
+invariant-loop-process l =
+    (length l.marks.items ≡ l.process) × ((p : ℕ) → get_or l.marks.items p false ≡ true → IsAlways l.admitted.graph p)

@@ -8,10 +8,17 @@ use Rattle.cpg_violation.proofs.guards.is_idle.Goals as goal
 pub is_never-requires : goal.is_never-requires
 is_never-requires c =
     let few : c.guards.result.now.conditions ≤ MOST_CONDITIONS =
-    omega (arith, ap (λ (t : Guards). t.conditions) c.guards.ensures.guards, c.guards.ensures.admitted.guards.conditions, c.guards.ensures.admitted.limits.few_conditions) in
+    omega (
+      arith,
+      ap (λ (t : Guards). t.conditions) c.guards.ensures.guards,
+      c.guards.ensures.admitted.guards.conditions,
+      c.guards.ensures.admitted.limits.few_conditions,
+    ) in
     (c.guards.result.now.conditions, few, c.guard_of.ensures.below)
 
 pub returns : goal.returns
 returns c =
-    let tree : c.guard_of.result.now ≡ tree_of c.args.admitted.now.guards c.args.process = c.guard_of.ensures.tree ∙ ap (λ guards. tree_of guards c.args.process) c.guards.ensures.guards in
-    of_true c.is_never.result c.is_never.ensures (λ never s law lies. idle_of c.guards.ensures.admitted c.args.process c.requires s law (rw tree at (never s lies)))
+    let tree : c.guard_of.result.now ≡ tree_of c.args.admitted.now.guards c.args.process =
+    c.guard_of.ensures.tree ∙ ap (λ guards. tree_of guards c.args.process) c.guards.ensures.guards in
+    of_true c.is_never.result c.is_never.ensures (λ never s law lies.
+    idle_of c.guards.ensures.admitted c.args.process c.requires s law (rw tree at (never s lies)))

@@ -6,5 +6,6 @@ use Rattle.cpg_head.specs.Head.{Head}
 use Rattle.cpg_violation.proofs.heads.are_processes_of.Goals as goal
 
 pub are_same_extras-requires : goal.are_same_extras-requires
-are_same_extras-requires c = ap length (sym c.processes.ensures.processes ∙ c.if-not-are_same_processes.ensures.0 refl ∙ c.processes-2.ensures.processes ∙ ap (λ (h : Head). h.processes) c.requires)
+are_same_extras-requires c = ap length (sym c.processes.ensures.processes ∙ c.if-not-are_same_processes.ensures.0 refl
+    ∙ c.processes-2.ensures.processes ∙ ap (λ (h : Head). h.processes) c.requires)
     ∙ length-map-range_with_len (head_process c.args.problem.now) 0 (process_count c.args.problem.now)

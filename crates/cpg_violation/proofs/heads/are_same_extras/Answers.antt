@@ -6,14 +6,20 @@ use Rattle.cpg_violation.proofs.ExtraLists.{extras_more, extras_whole}
 use Rattle.cpg_violation.proofs.heads.are_same_extras.Goals as goal
 
 pub loop-process-preserved : goal.loop-process-preserved
-loop-process-preserved c = extras_more c.args.problem.now.processes c.loop-process.process c.in-Some.extra.now c.index-processes-process.result
-    (omega (arith, c.loop-process-test.true, ap length c.processes-processes.ensures.processes)) c.args.head.now.extras c.in-Some.ensures.extra
+loop-process-preserved c =
+    extras_more c.args.problem.now.processes c.loop-process.process c.in-Some.extra.now c.index-processes-process.result
+    (omega (arith, c.loop-process-test.true, ap length c.processes-processes.ensures.processes)) c.args.head.now.extras
+    c.in-Some.ensures.extra
     (c.if-not-is_same_extra.ensures.0 refl ∙ ap extra_of c.index-processes-process.is ∙
-    ap (λ (ps : List Process). extra_of (get_or ps c.loop-process.process c.index-processes-process.result)) c.processes-processes.ensures.processes) c.loop-process.invariant
+    ap (λ (ps : List Process). extra_of (get_or ps c.loop-process.process c.index-processes-process.result))
+    c.processes-processes.ensures.processes) c.loop-process.invariant
 
 pub returns : goal.returns
 returns c =
-    let past : length c.args.problem.now.processes ≤ c.loop-process.process = omega (arith, c.loop-process-test.false, ap length c.processes-processes.ensures.processes) in
+    let past : length c.args.problem.now.processes ≤ c.loop-process.process =
+    omega (arith, c.loop-process-test.false, ap length c.processes-processes.ensures.processes) in
     let few : IfSome c.args.head.now.extras (AreExtras (length c.args.problem.now.processes)) =
     subst (λ n. IfSome c.args.head.now.extras (AreExtras n)) c.requires c.processes-described.ensures.within.extras in
-    let all = extras_whole c.args.problem.now.processes c.loop-process.process c.args.head.now.extras past few c.loop-process.invariant in (λ _. all, λ _. refl)
+    let all = extras_whole c.args.problem.now.processes c.loop-process.process c.args.head.now.extras past few
+    c.loop-process.invariant in
+    (λ _. all, λ _. refl)

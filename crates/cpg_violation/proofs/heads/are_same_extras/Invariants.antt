@@ -3,4 +3,5 @@ use Rattle.cpg_head.specs.GraphHead.{extra_of}
 use Rattle.cpg_violation.proofs.heads.are_same_extras.Given as goal
 
 abbrev pub invariant-loop-process : goal.invariant-loop-process
-invariant-loop-process l = IfSome l.head.extras (λ extras. take l.process extras ≡ take l.process (map extra_of l.problem.processes))
+invariant-loop-process l =
+    IfSome l.head.extras (λ extras. take l.process extras ≡ take l.process (map extra_of l.problem.processes))

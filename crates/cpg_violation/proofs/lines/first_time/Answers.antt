@@ -7,16 +7,20 @@ use Rattle.cpg_violation.proofs.lines.first_time.Goals as goal
 
 pub loop-column-preserved : goal.loop-column-preserved
 loop-column-preserved c = record {
-  first = fold_more (λ (time : ℕ) (d : Column). min time d.time) c.loop-column.first c.min-first.result c.args.columns.now c.loop-column.column-index c.column-item.result c.column-item.result
+  first = fold_more (λ (time : ℕ) (d : Column). min time d.time) c.loop-column.first c.min-first.result
+      c.args.columns.now c.loop-column.column-index c.column-item.result c.column-item.result
       c.loop-column-test.true c.column-item.is c.min-first.ensures
       ∙ c.loop-column.invariant.first;
-  all = not_before_more c.args.columns.now c.loop-column.column-index c.column-item.result c.loop-column.first c.min-first.result c.loop-column-test.true c.column-item.is c.loop-column.invariant.all
+  all = not_before_more c.args.columns.now c.loop-column.column-index c.column-item.result c.loop-column.first
+      c.min-first.result c.loop-column-test.true c.column-item.is c.loop-column.invariant.all
       (omega (arith, c.min-first.ensures)) (omega (arith, c.min-first.ensures));
 }
 
 pub returns-clause-first : goal.returns-clause-first
-returns-clause-first c = sym (ap (fold (λ (time : ℕ) (d : Column). min time d.time) c.loop-column.first) (drop_all c.loop-column.column-index c.args.columns.now c.loop-column-test.false)) ∙
+returns-clause-first c = sym (ap (fold (λ (time : ℕ) (d : Column). min time d.time) c.loop-column.first)
+    (drop_all c.loop-column.column-index c.args.columns.now c.loop-column-test.false)) ∙
     c.loop-column.invariant.first
 
 pub returns-clause-all : goal.returns-clause-all
-returns-clause-all c = subst (All (λ (d : Column). c.loop-column.first ≤ d.time)) (take_all c.loop-column.column-index c.args.columns.now c.loop-column-test.false) c.loop-column.invariant.all
+returns-clause-all c = subst (All (λ (d : Column). c.loop-column.first ≤ d.time))
+    (take_all c.loop-column.column-index c.args.columns.now c.loop-column-test.false) c.loop-column.invariant.all

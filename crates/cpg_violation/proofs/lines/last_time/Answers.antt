@@ -7,16 +7,20 @@ use Rattle.cpg_violation.proofs.lines.last_time.Goals as goal
 
 pub loop-column-preserved : goal.loop-column-preserved
 loop-column-preserved c = record {
-  last = fold_more (λ (time : ℕ) (d : Column). max time d.time) c.loop-column.last c.max-last.result c.args.columns.now c.loop-column.column-index c.column-item.result c.column-item.result
+  last = fold_more (λ (time : ℕ) (d : Column). max time d.time) c.loop-column.last c.max-last.result c.args.columns.now
+      c.loop-column.column-index c.column-item.result c.column-item.result
       c.loop-column-test.true c.column-item.is c.max-last.ensures
       ∙ c.loop-column.invariant.last;
-  all = not_after_more c.args.columns.now c.loop-column.column-index c.column-item.result c.loop-column.last c.max-last.result c.loop-column-test.true c.column-item.is c.loop-column.invariant.all
+  all = not_after_more c.args.columns.now c.loop-column.column-index c.column-item.result c.loop-column.last
+      c.max-last.result c.loop-column-test.true c.column-item.is c.loop-column.invariant.all
       (omega (arith, c.max-last.ensures)) (omega (arith, c.max-last.ensures));
 }
 
 pub returns-clause-last : goal.returns-clause-last
-returns-clause-last c = sym (ap (fold (λ (time : ℕ) (d : Column). max time d.time) c.loop-column.last) (drop_all c.loop-column.column-index c.args.columns.now c.loop-column-test.false)) ∙
+returns-clause-last c = sym (ap (fold (λ (time : ℕ) (d : Column). max time d.time) c.loop-column.last)
+    (drop_all c.loop-column.column-index c.args.columns.now c.loop-column-test.false)) ∙
     c.loop-column.invariant.last
 
 pub returns-clause-all : goal.returns-clause-all
-returns-clause-all c = subst (All (λ (d : Column). d.time ≤ c.loop-column.last)) (take_all c.loop-column.column-index c.args.columns.now c.loop-column-test.false) c.loop-column.invariant.all
+returns-clause-all c = subst (All (λ (d : Column). d.time ≤ c.loop-column.last))
+    (take_all c.loop-column.column-index c.args.columns.now c.loop-column-test.false) c.loop-column.invariant.all

@@ -3,4 +3,8 @@ use Rattle.cpg_table.proofs.RowColumns.{columns_few}
 use Rattle.cpg_violation.proofs.lines.lines_of.Goals as goal
 
 pub line_of-requires : goal.line_of-requires
-line_of-requires c = omega (arith, ap length c.columns_of.ensures.columns, columns_few c.args.tables.now.head c.args.tables.now.nodes c.columns_of.ensures.lawful c.loop-item.item)
+line_of-requires c = omega (
+  arith,
+  ap length c.columns_of.ensures.columns,
+  columns_few c.args.tables.now.head c.args.tables.now.nodes c.columns_of.ensures.lawful c.loop-item.item,
+)

@@ -4,8 +4,10 @@ use Rattle.cpg_violation.proofs.LineLaws.{lines_sifted}
 use Rattle.cpg_violation.proofs.lines.sift.Goals as goal
 
 pub sift-requires : goal.sift-requires
-sift-requires c = rw c.columns_of.ensures.columns (columns_few c.args.tables.now.head c.args.tables.now.nodes c.columns_of.ensures.lawful c.args.item)
+sift-requires c = rw c.columns_of.ensures.columns
+    (columns_few c.args.tables.now.head c.args.tables.now.nodes c.columns_of.ensures.lawful c.args.item)
 
 pub returns : goal.returns
-returns c = λ items. lines_sifted c.args.tables.now.nodes items c.args.lines.now c.args.item c.index-lines-item.result c.sift.new.self (omega (arith, c.if-item-lines.false))
+returns c = λ items. lines_sifted c.args.tables.now.nodes items c.args.lines.now c.args.item c.index-lines-item.result
+    c.sift.new.self (omega (arith, c.if-item-lines.false))
     (rw c.columns_of.ensures.columns at c.in_ok-sift.ensures)

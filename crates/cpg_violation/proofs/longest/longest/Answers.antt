@@ -11,5 +11,12 @@ returns-clause-most c s law lies =
     let few = c.faults-faults.ensures.within.few_processes in
     let short : p < 128 = omega (arith, few, c.requires) in
     let faults : fault_of s p ≤ c.min.result =
-    omega (arith, fault_within g few p c.requires s law, number_of-fault s p short, c.most-most.ensures s lies, c.min.ensures, c.faults-faults.ensures.faults) in
+    omega (
+      arith,
+      fault_within g few p c.requires s law,
+      number_of-fault s p short,
+      c.most-most.ensures s lies,
+      c.min.ensures,
+      c.faults-faults.ensures.faults,
+    ) in
     omega (arith, c.duration.ensures.duration, duration_grows g p (fault_of s p) c.min.result faults)

@@ -19,14 +19,24 @@ loop-column-preserved-then-saturating_add-due c =
     let g = c.args.problem.now in
     let p = c.args.process in
     let end : c.column-item.result.time + c.longest-most.result ≤ c.due-due.result = by_due g c.faults.ensures.within p
-    (c.column-item.result.time + c.longest-most.result) c.saturating_add.result c.due-due.result c.saturating_add.ensures c.due-due.ensures c.if-saturating_add-due.true in
-    each_more (Ends g p) c.args.columns.now c.loop-column.column-index c.column-item.result c.loop-column-test.true c.column-item.is c.loop-column.invariant
-    (λ s law m. omega (arith, c.longest-most.ensures.most s law (c.whole.ensures.lies s (few_of g c.faults.result c.faults.ensures.faults s law)), end, c.due-due.ensures))
+    (c.column-item.result.time + c.longest-most.result) c.saturating_add.result c.due-due.result
+    c.saturating_add.ensures c.due-due.ensures c.if-saturating_add-due.true in
+    each_more (Ends g p) c.args.columns.now c.loop-column.column-index c.column-item.result c.loop-column-test.true
+    c.column-item.is c.loop-column.invariant
+    (λ s law m. omega (
+      arith,
+      c.longest-most.ensures.most s law
+          (c.whole.ensures.lies s (few_of g c.faults.result c.faults.ensures.faults s law)),
+      end,
+      c.due-due.ensures,
+    ))
 
 pub loop-column-preserved : goal.loop-column-preserved
 loop-column-preserved c =
-    each_more (Ends c.args.problem.now c.args.process) c.args.columns.now c.loop-column.column-index c.column-item.result c.loop-column-test.true c.column-item.is c.loop-column.invariant
+    each_more (Ends c.args.problem.now c.args.process) c.args.columns.now c.loop-column.column-index
+    c.column-item.result c.loop-column-test.true c.column-item.is c.loop-column.invariant
     (OnTrue_at c.if-not-ends_in_time.false c.ends_in_time.ensures)
 
 pub returns : goal.returns
-returns c = each_all (Ends c.args.problem.now c.args.process) c.args.columns.now c.loop-column.column-index c.loop-column-test.false c.loop-column.invariant
+returns c = each_all (Ends c.args.problem.now c.args.process) c.args.columns.now c.loop-column.column-index
+    c.loop-column-test.false c.loop-column.invariant

@@ -6,15 +6,18 @@ use Rattle.cpg_violation.proofs.quick_due.ends_in_time.Goals as goal
 
 pub returns-in_default : goal.returns-in_default
 returns-in_default c s law m =
-    absurd (not_none c.args.problem.now c.faults.result c.faults.ensures.faults s law c.args.column.now.cube c.literals.result.now c.literals.ensures.literals m c.of.result c.in_default.is
+    absurd (not_none c.args.problem.now c.faults.result c.faults.ensures.faults s law c.args.column.now.cube
+    c.literals.result.now c.literals.ensures.literals m c.of.result c.in_default.is
     c.of.ensures.none)
 
 pub returns : goal.returns
 returns c = on_le c.saturating_add-end.result c.due.result (λ e s law m.
     let g = c.args.problem.now in
     let p = c.args.process in
-    let lies = lies_in g c.faults.result c.faults.ensures.faults s law c.args.column.now.cube c.literals.result.now c.literals.ensures.literals m c.of.result c.in-Some.space c.in-Some.is
+    let lies = lies_in g c.faults.result c.faults.ensures.faults s law c.args.column.now.cube c.literals.result.now
+    c.literals.ensures.literals m c.of.result c.in-Some.space c.in-Some.is
     c.of.ensures.lies in
     let end : c.args.column.now.time + c.longest.result ≤ c.due.result = by_due g c.faults.ensures.within p
-    (c.args.column.now.time + c.longest.result) c.saturating_add-end.result c.due.result c.saturating_add-end.ensures c.due.ensures e in
+    (c.args.column.now.time + c.longest.result) c.saturating_add-end.result c.due.result c.saturating_add-end.ensures
+    c.due.ensures e in
     omega (arith, c.longest.ensures.most s law lies, end, c.due.ensures))

@@ -13,4 +13,5 @@ returns c =
     let p = c.args.item in
     of_true c.all_end_in_time.result c.all_end_in_time.ensures
     (λ all. due_sure g c.args.tables.now.nodes p
-    (subst (λ xs. All (λ (d : Column). (s : Scenario) → IsScenario g s → matches d.cube s ≡ true → d.time + duration g p (fault_of s p) ≤ due g p) xs) c.columns_of.ensures.columns all))
+    (subst (λ xs. All (λ (d : Column). (s : Scenario) → IsScenario g s → matches d.cube s ≡ true →
+    d.time + duration g p (fault_of s p) ≤ due g p) xs) c.columns_of.ensures.columns all))

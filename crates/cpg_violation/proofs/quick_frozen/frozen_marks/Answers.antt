@@ -4,7 +4,8 @@ use Rattle.cpg_violation.proofs.quick_frozen.frozen_marks.Goals as goal
 
 pub loop-item-preserved : goal.loop-item-preserved
 loop-item-preserved c = rw c.in_ok-push.ensures.items
-    (one_more c.args.admitted.now.graph c.args.tables.now.nodes Rule.Frozen c.loop-item.item c.loop-item.marks.items c.is_sure.result c.loop-item.invariant
+    (one_more c.args.admitted.now.graph c.args.tables.now.nodes Rule.Frozen c.loop-item.item c.loop-item.marks.items
+    c.is_sure.result c.loop-item.invariant
     (rw c.problem-problem.ensures.problem at c.is_sure.ensures))
 
 pub returns : goal.returns

@@ -4,4 +4,8 @@ use Rattle.cpg_violation.proofs.SureLaws.{each_all}
 use Rattle.cpg_violation.proofs.quick_frozen.is_one_time.Goals as goal
 
 pub returns : goal.returns
-returns c = (c.in-Some.first.now.time, each_all (λ (d : Column). d.time ≡ c.in-Some.first.now.time) c.args.columns.now c.loop-column.column-index c.loop-column-test.false c.loop-column.invariant)
+returns c = (
+  c.in-Some.first.now.time,
+  each_all (λ (d : Column). d.time ≡ c.in-Some.first.now.time) c.args.columns.now c.loop-column.column-index
+      c.loop-column-test.false c.loop-column.invariant,
+)

@@ -6,4 +6,5 @@ use Rattle.cpg_violation.proofs.quick_frozen.is_sure.Goals as goal
 
 pub returns : goal.returns
 returns c = of_true c.is_one_time.result c.is_one_time.ensures
-    (λ one. frozen_sure c.args.problem.now c.args.tables.now.nodes c.args.item one.0 (subst (λ xs. All (λ (d : Column). d.time ≡ one.0) xs) c.columns_of.ensures.columns one.1))
+    (λ one. frozen_sure c.args.problem.now c.args.tables.now.nodes c.args.item one.0
+    (subst (λ xs. All (λ (d : Column). d.time ≡ one.0) xs) c.columns_of.ensures.columns one.1))

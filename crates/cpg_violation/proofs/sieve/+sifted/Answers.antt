@@ -10,7 +10,10 @@ returns t c =
     let low : c.in_ok-below-2.below.value ≡ c.in_ok-below.below = search rules in
     let high : c.in_ok-above-2.above.value ≡ c.in_ok-above.above = search rules in
     let parts : ArePartsOf c.args.columns.now c.as_slice.result.now c.in-Some.sides = subst
-    (λ (o : Option SieveSides). IfSome o (ArePartsOf c.args.columns.now c.as_slice.result.now)) c.in-Some.is c.in_ok-sides.ensures in
-    rw (low, high) (sifts_cut c.args.columns.now c.in-Some.sides.cut.variable c.in-Some.sides.cut.most c.args.places.items c.in-Some.sides.low.items c.in-Some.sides.high.items c.in_ok-below.below
+    (λ (o : Option SieveSides). IfSome o (ArePartsOf c.args.columns.now c.as_slice.result.now)) c.in-Some.is
+    c.in_ok-sides.ensures in
+    rw (low, high) (sifts_cut c.args.columns.now c.in-Some.sides.cut.variable c.in-Some.sides.cut.most
+    c.args.places.items c.in-Some.sides.low.items c.in-Some.sides.high.items c.in_ok-below.below
     c.in_ok-above.above
-    (rw c.as_slice.ensures.value at parts.low) (rw c.as_slice.ensures.value at parts.high) c.in_ok-below.ensures c.in_ok-above.ensures)
+    (rw c.as_slice.ensures.value at parts.low)
+    (rw c.as_slice.ensures.value at parts.high) c.in_ok-below.ensures c.in_ok-above.ensures)

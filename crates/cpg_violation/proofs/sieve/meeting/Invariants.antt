@@ -5,5 +5,6 @@ use Rattle.cpg_cube.specs.Column.{column_at}
 use Rattle.cpg_violation.proofs.sieve.meeting.Given as goal
 
 abbrev pub invariant-loop-place : goal.invariant-loop-place
-invariant-loop-place l = (s : Scenario) (i : ℕ) → Contains (take l.place-index l.places) i → i < length l.columns → matches (column_at l.columns i).cube s ≡ true → matches l.cube s ≡ true →
+invariant-loop-place l = (s : Scenario) (i : ℕ) → Contains (take l.place-index l.places) i → i < length l.columns →
+    matches (column_at l.columns i).cube s ≡ true → matches l.cube s ≡ true →
     Contains l.kept.items i

@@ -6,13 +6,17 @@ use Rattle.cpg_violation.proofs.sieve.part.Goals.{then-column_goes+in_ok-push, e
 pub loop-place-preserved : goal.loop-place-preserved
 loop-place-preserved c = elim c.if-column_goes.branch [
   | then-column_goes+in_ok-push w ↦
-      let e : c.if-column_goes.kept.items ≡ c.loop-place.kept.items ++ get_or c.args.places.now c.loop-place.place-index 0 ∷ [] = search rules in
-      rw e (keeps_push c.args.columns.now c.args.cut.variable c.args.cut.most c.args.below c.args.places.now c.loop-place.kept.items c.loop-place.place-index 0 c.loop-place-test.true
+      let e : c.if-column_goes.kept.items ≡ c.loop-place.kept.items
+      ++ get_or c.args.places.now c.loop-place.place-index 0 ∷ [] = search rules in
+      rw e (keeps_push c.args.columns.now c.args.cut.variable c.args.cut.most c.args.below c.args.places.now
+      c.loop-place.kept.items c.loop-place.place-index 0 c.loop-place-test.true
       c.loop-place.invariant)
-  | else-column_goes w ↦ rw w.kept-is (keeps_skip c.args.columns.now c.args.cut.variable c.args.cut.most c.args.below c.args.places.now c.loop-place.kept.items c.loop-place.place-index 0
+  | else-column_goes w ↦ rw w.kept-is (keeps_skip c.args.columns.now c.args.cut.variable c.args.cut.most c.args.below
+      c.args.places.now c.loop-place.kept.items c.loop-place.place-index 0
       c.loop-place-test.true w.if-column_goes.ensures c.loop-place.invariant)
 ]
 
 pub returns : goal.returns
-returns c = keeps_all c.args.columns.now c.args.cut.variable c.args.cut.most c.args.below c.args.places.now c.loop-place.kept.items c.loop-place.place-index c.loop-place-test.false
+returns c = keeps_all c.args.columns.now c.args.cut.variable c.args.cut.most c.args.below c.args.places.now
+    c.loop-place.kept.items c.loop-place.place-index c.loop-place-test.false
     c.loop-place.invariant

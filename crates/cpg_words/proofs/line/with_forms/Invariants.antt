@@ -4,4 +4,5 @@ use Rattle.cpg_words.specs.Line.{with_command}
 use Rattle.cpg_words.proofs.line.with_forms.Given as goal
 
 abbrev pub invariant-loop-name : goal.invariant-loop-name
-invariant-loop-name l = fold with_command (app_of l.line) (map (λ name. name.now) (drop l.name-index l.names)) ≡ fold with_command (app_of l.fn.line) (map (λ name. name.now) l.names)
+invariant-loop-name l = fold with_command (app_of l.line) (map (λ name. name.now) (drop l.name-index l.names))
+    ≡ fold with_command (app_of l.fn.line) (map (λ name. name.now) l.names)

@@ -8,6 +8,8 @@ use Rattle.cpg_words.proofs.reading.asked.Goals as goal
 pub returns : goal.returns
 returns c = answers_as _ _ c.command.result
     (ap₂ (λ (ps ts : List Text). command_named forms c.args.name.now (record { positionals = ps; turns = ts }))
-    (values_got (found_of c.args.found.now) (codes "words") c.get_strs.result _ c.unwrap_or-words.result c.unwrap_or-words.ensures refl c.get_strs.ensures)
-    (values_got (found_of c.args.found.now) (codes "turns") c.get_strs-2.result _ c.unwrap_or-turns.result c.unwrap_or-turns.ensures refl c.get_strs-2.ensures))
+    (values_got (found_of c.args.found.now)
+    (codes "words") c.get_strs.result _ c.unwrap_or-words.result c.unwrap_or-words.ensures refl c.get_strs.ensures)
+    (values_got (found_of c.args.found.now) (codes "turns") c.get_strs-2.result _ c.unwrap_or-turns.result
+    c.unwrap_or-turns.ensures refl c.get_strs-2.ensures))
     c.command.ensures

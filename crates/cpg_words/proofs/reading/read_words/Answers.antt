@@ -6,6 +6,7 @@ use Rattle.cpg_words.proofs.reading.read_words.Goals as goal
 pub returns-in-Some : goal.returns-in-Some
 returns-in-Some c =
     let asked = answers_as _ _ c.asked.result
-    (ap command_at (sym (entered_rows _ c.in-Some.name.now _ c.in-Some.ensures.name c.in-Some.ensures.rows)) ∙ sym c.in_ok-matches.ensures.ok)
+    (ap command_at (sym (entered_rows _ c.in-Some.name.now _ c.in-Some.ensures.name c.in-Some.ensures.rows))
+    ∙ sym c.in_ok-matches.ensures.ok)
     c.asked.ensures in
     record { command = answered _ _ asked; bad = answered_bad _ _ asked }

@@ -3,4 +3,7 @@ use Rattle.cpg_base.specs.Numbers.{numbers_below}
 use Rattle.cpg_base.proofs.conditions.Conditions.of.Given as goal
 
 abbrev pub invariant-loop-process : goal.invariant-loop-process
-invariant-loop-process l = record { found : l.conditions ≡ filter (λ p. get_or l.found p false) (numbers_below l.process); few : length l.conditions ≤ 32 }
+invariant-loop-process l = record {
+  found : l.conditions ≡ filter (λ p. get_or l.found p false) (numbers_below l.process);
+  few : length l.conditions ≤ 32;
+}

@@ -6,5 +6,7 @@ use Rattle.cpg_base.proofs.lengths.Lengths.full.Goals as goal
 
 pub loop-process-preserved : goal.loop-process-preserved
 loop-process-preserved c =
-    map_below_push (λ p. duration c.args.problem.now p (fault_of c.args.scenario.now p)) c.loop-process.lengths.items c.push.new.self.items c.duration.result c.loop-process.process
-    c.loop-process.invariant (c.duration.ensures.duration ∙ ap (duration c.args.problem.now c.loop-process.process) c.fault.ensures) c.in_ok-push.ensures.items
+    map_below_push (λ p. duration c.args.problem.now p (fault_of c.args.scenario.now p)) c.loop-process.lengths.items
+    c.push.new.self.items c.duration.result c.loop-process.process
+    c.loop-process.invariant (c.duration.ensures.duration
+    ∙ ap (duration c.args.problem.now c.loop-process.process) c.fault.ensures) c.in_ok-push.ensures.items

@@ -5,4 +5,5 @@ use Rattle.cpg_base.specs.Scenario.{fault_of}
 use Rattle.cpg_base.proofs.lengths.Lengths.full.Given as goal
 
 abbrev pub invariant-loop-process : goal.invariant-loop-process
-invariant-loop-process l = l.lengths.items ≡ map (λ p. duration l.problem p (fault_of l.scenario p)) (numbers_below l.process)
+invariant-loop-process l =
+    l.lengths.items ≡ map (λ p. duration l.problem p (fault_of l.scenario p)) (numbers_below l.process)

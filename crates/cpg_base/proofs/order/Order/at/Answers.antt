@@ -6,7 +6,8 @@ use Rattle.cpg_base.proofs.order.Order.at.Goals as goal
 
 pub returns-clause-within : goal.returns-clause-within
 returns-clause-within c =
-    let h : c.args.at < length c.self.inside.processes.items = subst (λ xs. c.args.at < length xs) (sym c.self.view_is) c.requires in
+    let h : c.args.at < length c.self.inside.processes.items =
+    subst (λ xs. c.args.at < length xs) (sym c.self.view_is) c.requires in
     rw (← c.self.view_is)
     (let d = get_or_default c.self.inside.processes.items c.args.at c.index.result.now 0 (omega arith) in
     let w = process_within c.self.inside.processes.items c.self.invariant.lawful c.args.at (omega arith) in
@@ -14,7 +15,9 @@ returns-clause-within c =
 
 pub returns-clause-back : goal.returns-clause-back
 returns-clause-back c =
-    let h : c.args.at < length c.self.inside.processes.items = subst (λ xs. c.args.at < length xs) (sym c.self.view_is) c.requires in
+    let h : c.args.at < length c.self.inside.processes.items =
+    subst (λ xs. c.args.at < length xs) (sym c.self.view_is) c.requires in
     rw (← c.self.view_is)
-    (ap (place c.self.inside.processes.items) (c.index.ensures ∙ get_or_default c.self.inside.processes.items c.args.at c.index.result.now 0 (omega arith))
+    (ap (place c.self.inside.processes.items)
+    (c.index.ensures ∙ get_or_default c.self.inside.processes.items c.args.at c.index.result.now 0 (omega arith))
     ∙ place_at c.self.inside.processes.items c.self.invariant.lawful c.args.at (omega arith))

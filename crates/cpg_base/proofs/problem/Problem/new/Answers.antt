@@ -21,9 +21,12 @@ returns-in_default-clause-refused c =
       order = None;
     } in
     let count : c.len-8.result ≡ length c.args.processes.items = search rules in
-    let found : filter (has_conditional_output c.as_slice-7.result.now) (numbers_below c.len-8.result) ≡ disjunctions g =
-    ap₂ (λ es n. filter (has_conditional_output es) (numbers_below n)) c.as_slice-7.ensures.value count ∙ conditions_found g in
-    let many : 32 < length (filter (has_conditional_output c.as_slice-7.result.now) (numbers_below c.len-8.result)) = c.in_default.ensures.many in
+    let found : filter (has_conditional_output c.as_slice-7.result.now) (numbers_below c.len-8.result)
+    ≡ disjunctions g =
+    ap₂ (λ es n. filter (has_conditional_output es) (numbers_below n)) c.as_slice-7.ensures.value count
+    ∙ conditions_found g in
+    let many : 32 < length (filter (has_conditional_output c.as_slice-7.result.now) (numbers_below c.len-8.result)) =
+    c.in_default.ensures.many in
     let over : 32 < length (disjunctions g) = rw found at many in
     λ w. above (length (disjunctions g)) 32 w.few_conditions over
 
@@ -40,7 +43,8 @@ invariant_of-result c =
       order = None;
     } in
     let count : c.len-8.result ≡ length c.args.processes.items = search rules in
-    let found : c.in-Some.conditions ≡ disjunctions g = c.in-Some.ensures.found ∙ ap₂ (λ es n. filter (has_conditional_output es) (numbers_below n)) c.as_slice-7.ensures.value count ∙
+    let found : c.in-Some.conditions ≡ disjunctions g = c.in-Some.ensures.found
+    ∙ ap₂ (λ es n. filter (has_conditional_output es) (numbers_below n)) c.as_slice-7.ensures.value count ∙
     conditions_found g in (
       record {
         faults = search rules;
@@ -74,7 +78,8 @@ returns-clause-within c =
       order = None;
     } in
     let count : c.len-8.result ≡ length c.args.processes.items = search rules in
-    let found : c.in-Some.conditions ≡ disjunctions g = c.in-Some.ensures.found ∙ ap₂ (λ es n. filter (has_conditional_output es) (numbers_below n)) c.as_slice-7.ensures.value count ∙
+    let found : c.in-Some.conditions ≡ disjunctions g = c.in-Some.ensures.found
+    ∙ ap₂ (λ es n. filter (has_conditional_output es) (numbers_below n)) c.as_slice-7.ensures.value count ∙
     conditions_found g in
     record {
       faults = search rules;

@@ -19,8 +19,10 @@ unreachable-requires c =
     } in
     let count : c.len.result ≡ length c.args.processes.items = search rules in
     let found : filter (has_conditional_output c.as_slice.result.now) (numbers_below c.len.result) ≡ disjunctions g =
-    ap₂ (λ es n. filter (has_conditional_output es) (numbers_below n)) c.as_slice.ensures.value count ∙ conditions_found g in
-    let many : 32 < length (filter (has_conditional_output c.as_slice.result.now) (numbers_below c.len.result)) = c.in_default.ensures.many in
+    ap₂ (λ es n. filter (has_conditional_output es) (numbers_below n)) c.as_slice.ensures.value count
+    ∙ conditions_found g in
+    let many : 32 < length (filter (has_conditional_output c.as_slice.result.now) (numbers_below c.len.result)) =
+    c.in_default.ensures.many in
     let over : 32 < length (disjunctions g) = rw found at many in
     omega (arith, c.requires.few_conditions, over)
 
@@ -36,5 +38,9 @@ invariant_of-result c =
           c.args.edges.items;
       order = None;
     } in
-    let count : c.len.result ≡ length c.args.processes.items = search rules in
-    (c.requires, c.in-Some.ensures.found ∙ ap₂ (λ es n. filter (has_conditional_output es) (numbers_below n)) c.as_slice.ensures.value count ∙ conditions_found g)
+    let count : c.len.result ≡ length c.args.processes.items = search rules in (
+      c.requires,
+      c.in-Some.ensures.found
+          ∙ ap₂ (λ es n. filter (has_conditional_output es) (numbers_below n)) c.as_slice.ensures.value count
+          ∙ conditions_found g,
+    )

@@ -6,10 +6,14 @@ use Rattle.cpg_base.proofs.problem.Problem.process_of.Goals as goal
 
 pub returns-clause-back : goal.returns-clause-back
 returns-clause-back c =
-    let same : c.processes.result.now ≡ disjunctions c.args.self.now = c.processes.ensures.processes ∙ c.self.invariant.1 ∙ ap disjunctions c.self.view_is in
-    ap (λ ps. condition_of c.args.self.now (get_or ps c.args.condition 0)) same ∙ condition_back c.args.self.now c.args.condition c.requires
+    let same : c.processes.result.now ≡ disjunctions c.args.self.now =
+    c.processes.ensures.processes ∙ c.self.invariant.1 ∙ ap disjunctions c.self.view_is in
+    ap (λ ps. condition_of c.args.self.now (get_or ps c.args.condition 0)) same
+    ∙ condition_back c.args.self.now c.args.condition c.requires
 
 pub returns-clause-within : goal.returns-clause-within
 returns-clause-within c =
-    let same : c.processes.result.now ≡ disjunctions c.args.self.now = c.processes.ensures.processes ∙ c.self.invariant.1 ∙ ap disjunctions c.self.view_is in
-    subst (λ ps. get_or ps c.args.condition 0 < process_count c.args.self.now) (sym same) (process_of_below c.args.self.now c.args.condition c.requires)
+    let same : c.processes.result.now ≡ disjunctions c.args.self.now =
+    c.processes.ensures.processes ∙ c.self.invariant.1 ∙ ap disjunctions c.self.view_is in
+    subst (λ ps. get_or ps c.args.condition 0 < process_count c.args.self.now) (sym same)
+    (process_of_below c.args.self.now c.args.condition c.requires)

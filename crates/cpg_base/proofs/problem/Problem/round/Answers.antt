@@ -7,5 +7,12 @@ use Rattle.cpg_base.proofs.problem.Problem.round.Goals as goal
 pub round_of-requires : goal.round_of-requires
 round_of-requires c =
     let within = c.self.invariant.0 in
-    let same : sum_by (λ (s : Slot). s.length) c.as_slice.result.now ≡ sum_by (λ (s : Slot). s.length) c.self.inside.slots.items = ap (sum_by (λ (s : Slot). s.length)) c.as_slice.ensures.value in
-    omega (arith, same, sum_by-le (λ (s : Slot). s.length) 1000000000 c.self.inside.slots.items (λ k d l. (within.slots k d l).length), within.few_slots)
+    let same : sum_by (λ (s : Slot). s.length) c.as_slice.result.now
+    ≡ sum_by (λ (s : Slot). s.length) c.self.inside.slots.items =
+    ap (sum_by (λ (s : Slot). s.length)) c.as_slice.ensures.value in
+    omega (
+      arith,
+      same,
+      sum_by-le (λ (s : Slot). s.length) 1000000000 c.self.inside.slots.items (λ k d l. (within.slots k d l).length),
+      within.few_slots,
+    )

@@ -9,12 +9,24 @@ use Rattle.cpg_bus.proofs.plan.Plan.queue.Goals as goal
 pub index-queue-requires : goal.index-queue-requires
 index-queue-requires c =
     let is = ap length (ap (λ p. p.queues) (c.self.view_is ∙ c.requires.plan)) in
-    omega (arith, is, length-map-range_with_len (queue_of c.args.problem.now) 0 (process_count c.args.problem.now), c.requires.process)
+    omega (
+      arith,
+      is,
+      length-map-range_with_len (queue_of c.args.problem.now) 0 (process_count c.args.problem.now),
+      c.requires.process,
+    )
 
 pub returns : goal.returns
 returns c =
     let is = ap (λ p. p.queues) (c.self.view_is ∙ c.requires.plan) in
     let long : c.args.process < length c.self.inside.queues.items =
-    omega (arith, ap length is, length-map-range_with_len (queue_of c.args.problem.now) 0 (process_count c.args.problem.now), c.requires.process) in
-    c.as_slice.ensures ∙ c.index-queue.ensures ∙ get_or_default c.self.inside.queues.items c.args.process c.index-queue.result.now [] long
-    ∙ ap (λ qs. get_or qs c.args.process []) is ∙ get_or-map-below (queue_of c.args.problem.now) (process_count c.args.problem.now) c.args.process [] c.requires.process
+    omega (
+      arith,
+      ap length is,
+      length-map-range_with_len (queue_of c.args.problem.now) 0 (process_count c.args.problem.now),
+      c.requires.process,
+    ) in
+    c.as_slice.ensures ∙ c.index-queue.ensures
+    ∙ get_or_default c.self.inside.queues.items c.args.process c.index-queue.result.now [] long
+    ∙ ap (λ qs. get_or qs c.args.process []) is ∙ get_or-map-below (queue_of c.args.problem.now)
+    (process_count c.args.problem.now) c.args.process [] c.requires.process

@@ -11,14 +11,26 @@ use Rattle.cpg_bus.proofs.plan.Plan.share.Goals as goal
 pub index-requires : goal.index-requires
 index-requires c =
     let is = ap length (ap (λ p. p.shares) (c.self.view_is ∙ c.requires.plan)) in
-    omega (arith, is, length-map-range_with_len (share_if c.args.problem.now) 0 (length c.args.problem.now.nodes), c.requires.node)
+    omega (
+      arith,
+      is,
+      length-map-range_with_len (share_if c.args.problem.now) 0 (length c.args.problem.now.nodes),
+      c.requires.node,
+    )
 
 pub returns-in-Some : goal.returns-in-Some
 returns-in-Some c =
     let is = ap (λ p. p.shares) (c.self.view_is ∙ c.requires.plan) in
     let long : c.args.node < length c.self.inside.shares.items =
-    omega (arith, ap length is, length-map-range_with_len (share_if c.args.problem.now) 0 (length c.args.problem.now.nodes), c.requires.node) in
+    omega (
+      arith,
+      ap length is,
+      length-map-range_with_len (share_if c.args.problem.now) 0 (length c.args.problem.now.nodes),
+      c.requires.node,
+    ) in
     same_Some c.in-Some.share (share_of c.args.problem.now c.args.node)
-    (sym c.in-Some.is ∙ c.index.ensures ∙ get_or_default c.self.inside.shares.items c.args.node c.index.result.now None long
-    ∙ ap (λ ss. get_or ss c.args.node None) is ∙ get_or-map-below (share_if c.args.problem.now) (length c.args.problem.now.nodes) c.args.node None c.requires.node
+    (sym c.in-Some.is ∙ c.index.ensures
+    ∙ get_or_default c.self.inside.shares.items c.args.node c.index.result.now None long
+    ∙ ap (λ ss. get_or ss c.args.node None) is ∙ get_or-map-below (share_if c.args.problem.now)
+    (length c.args.problem.now.nodes) c.args.node None c.requires.node
     ∙ cond-true _ _ _ c.requires.slot)

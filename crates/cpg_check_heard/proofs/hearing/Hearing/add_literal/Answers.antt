@@ -16,9 +16,11 @@ returns-then-has_ended-clause-unheard c = λ s law m.
     let tables = c.args.self.now.tables.now.nodes in
     let l = c.args.literal.now in
     let old = is_one_untold g tables c.args.node c.args.column.now.time c.args.bounds.now.items s in
-    let heard = ended_heard g tables c.requires.hearing.admitted.well_formed.few_processes c.requires.hearing.rules s law c.args.node c.args.column.now.time l c.requires.variable
+    let heard = ended_heard g tables c.requires.hearing.admitted.well_formed.few_processes c.requires.hearing.rules s
+    law c.args.node c.args.column.now.time l c.requires.variable
     c.if-has_ended.ensures
-    (c.requires.active s l law m c.requires.literal) (from_all (holds s) c.args.column.now.cube l m c.requires.literal) in
+    (c.requires.active s l law m c.requires.literal)
+    (from_all (holds s) c.args.column.now.cube l m c.requires.literal) in
     sym (ap (λ x. old || x) heard ∙ or-false old)
 
 pub returns-clause-unheard : goal.returns-clause-unheard
@@ -30,7 +32,10 @@ returns-clause-unheard c = λ s law m.
     let l = c.args.literal.now in
     let one = rw c.low_of.ensures at c.in_ok-add_open.ensures.untold s law m in
     let two = rw c.high_of.ensures at c.in_ok-add_open-2.ensures.untold s law m in
-    literal_more (is_one_untold g tables node time c.args.bounds.now.items s) (is_one_untold g tables node time c.add_open.new.bounds.items s)
+    literal_more (is_one_untold g tables node time c.args.bounds.now.items s)
+    (is_one_untold g tables node time c.add_open.new.bounds.items s)
     (is_one_untold g tables node time c.add_open-2.new.bounds.items s)
-    (not (is_told g tables node time (low_of l) s)) (not (is_told g tables node time (high_of l) s)) (is_literal_unheard g tables node time s l) one two
-    (not_both (is_told g tables node time (low_of l) s) (is_told g tables node time (high_of l) s) ∙ ap not (sym (heard_is g.faults (facts g tables node s time) l)))
+    (not (is_told g tables node time (low_of l) s)) (not (is_told g tables node time (high_of l) s))
+    (is_literal_unheard g tables node time s l) one two
+    (not_both (is_told g tables node time (low_of l) s) (is_told g tables node time (high_of l) s)
+    ∙ ap not (sym (heard_is g.faults (facts g tables node s time) l)))

@@ -16,11 +16,17 @@ add_row-requires-clause-can c =
     let tables = c.args.self.now.tables.now.nodes in
     let p = c.process_of_variable-process.result in
     let t = c.index-teller.result.now in
-    let own : p < process_count g = rw c.problem-problem.ensures.problem at c.process_of_variable-process.ensures.within in
+    let own : p < process_count g =
+    rw c.problem-problem.ensures.problem at c.process_of_variable-process.ensures.within in
     let below : p < item_count g = omega arith in
-    let is = teller_at g tables (item_count g) c.args.self.now.tellers.items p t c.requires.hearing.tellers below c.index-teller.ensures in
-    let here : p ≡ process_of_variable g (variable_of c.args.bound) = rw (← c.problem-problem.ensures.problem, ← c.variable.ensures) c.process_of_variable-process.ensures.process in
-    rw (c.problem-problem.ensures.problem, is.telling) (own_can g tables c.args.time c.args.bound (record { values = []; faults = [] }) p own (sym here))
+    let is = teller_at g tables
+    (item_count g) c.args.self.now.tellers.items p t c.requires.hearing.tellers below c.index-teller.ensures in
+    let here : p ≡ process_of_variable g (variable_of c.args.bound) =
+    rw (← c.problem-problem.ensures.problem, ← c.variable.ensures) c.process_of_variable-process.ensures.process in
+    rw (
+      c.problem-problem.ensures.problem,
+      is.telling,
+    ) (own_can g tables c.args.time c.args.bound (record { values = []; faults = [] }) p own (sym here))
 
 pub add_row-requires-clause-columns : goal.add_row-requires-clause-columns
 add_row-requires-clause-columns c =
@@ -28,10 +34,13 @@ add_row-requires-clause-columns c =
     let tables = c.args.self.now.tables.now.nodes in
     let p = c.process_of_variable-process.result in
     let t = c.index-teller.result.now in
-    let own : p < process_count g = rw c.problem-problem.ensures.problem at c.process_of_variable-process.ensures.within in
+    let own : p < process_count g =
+    rw c.problem-problem.ensures.problem at c.process_of_variable-process.ensures.within in
     let below : p < item_count g = omega arith in
-    let is = teller_at g tables (item_count g) c.args.self.now.tellers.items p t c.requires.hearing.tellers below c.index-teller.ensures in
-    rw (c.problem-problem.ensures.problem, is.line.all) (columns_known c.requires.hearing.admitted tables c.requires.hearing.tables p)
+    let is = teller_at g tables
+    (item_count g) c.args.self.now.tellers.items p t c.requires.hearing.tellers below c.index-teller.ensures in
+    rw (c.problem-problem.ensures.problem, is.line.all)
+    (columns_known c.requires.hearing.admitted tables c.requires.hearing.tables p)
 
 pub add_row-requires-clause-line : goal.add_row-requires-clause-line
 add_row-requires-clause-line c =
@@ -39,9 +48,11 @@ add_row-requires-clause-line c =
     let tables = c.args.self.now.tables.now.nodes in
     let p = c.process_of_variable-process.result in
     let t = c.index-teller.result.now in
-    let own : p < process_count g = rw c.problem-problem.ensures.problem at c.process_of_variable-process.ensures.within in
+    let own : p < process_count g =
+    rw c.problem-problem.ensures.problem at c.process_of_variable-process.ensures.within in
     let below : p < item_count g = omega arith in
-    let is = teller_at g tables (item_count g) c.args.self.now.tellers.items p t c.requires.hearing.tellers below c.index-teller.ensures in
+    let is = teller_at g tables
+    (item_count g) c.args.self.now.tellers.items p t c.requires.hearing.tellers below c.index-teller.ensures in
     subst (λ columns. IsLine columns t.line.now) (sym is.line.all) is.line
 
 pub returns-clause-told : goal.returns-clause-told
@@ -50,13 +61,18 @@ returns-clause-told c =
     let tables = c.args.self.now.tables.now.nodes in
     let p = c.process_of_variable-process.result in
     let t = c.index-teller.result.now in
-    let own : p < process_count g = rw c.problem-problem.ensures.problem at c.process_of_variable-process.ensures.within in
+    let own : p < process_count g =
+    rw c.problem-problem.ensures.problem at c.process_of_variable-process.ensures.within in
     let below : p < item_count g = omega arith in
-    let is = teller_at g tables (item_count g) c.args.self.now.tellers.items p t c.requires.hearing.tellers below c.index-teller.ensures in
-    let here : p ≡ process_of_variable g (variable_of c.args.bound) = rw (← c.problem-problem.ensures.problem, ← c.variable.ensures) c.process_of_variable-process.ensures.process in
-    let home : node_of g p ≡ c.args.node = rw c.problem-problem.ensures.problem at (sym c.node_of.ensures.node ∙ c.if-node_of-node.false) in
+    let is = teller_at g tables
+    (item_count g) c.args.self.now.tellers.items p t c.requires.hearing.tellers below c.index-teller.ensures in
+    let here : p ≡ process_of_variable g (variable_of c.args.bound) =
+    rw (← c.problem-problem.ensures.problem, ← c.variable.ensures) c.process_of_variable-process.ensures.process in
+    let home : node_of g p ≡ c.args.node =
+    rw c.problem-problem.ensures.problem at (sym c.node_of.ensures.node ∙ c.if-node_of-node.false) in
     λ s i m.
     let tells = item_tells g tables c.args.time c.args.bound s in
     rw (c.problem-problem.ensures.problem, is.telling, is.line.all) at c.in_ok-add_row.ensures.told s i m
     ∙ ap (λ a. list_any (λ b. matches b s) c.args.told.now.items || a)
-    (sym (ap (λ q. (node_of g q == c.args.node) && tells q) (sym here) ∙ ap (λ a. a && tells p) (eq-eqb (node_of g p) c.args.node home)))
+    (sym (ap (λ q. (node_of g q == c.args.node) && tells q) (sym here)
+    ∙ ap (λ a. a && tells p) (eq-eqb (node_of g p) c.args.node home)))

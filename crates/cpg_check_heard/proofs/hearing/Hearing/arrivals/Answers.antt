@@ -20,16 +20,19 @@ pub index-teller-requires : goal.index-teller-requires
 index-teller-requires c =
     let g = c.args.self.now.admitted.now.graph in
     let x = get_or c.args.items.now c.loop-item.item-index 0 in
-    let below : x < item_count g = heard_below g c.args.node x (c.requires.items c.loop-item.item-index 0 c.loop-item-test.true) in
+    let below : x < item_count g =
+    heard_below g c.args.node x (c.requires.items c.loop-item.item-index 0 c.loop-item-test.true) in
     omega (arith, below, c.requires.hearing.tellers.count)
 
 pub add_row-requires : goal.add_row-requires
 add_row-requires c =
     let g = c.args.self.now.admitted.now.graph in
     let x = get_or c.args.items.now c.loop-item.item-index 0 in
-    let below : x < item_count g = heard_below g c.args.node x (c.requires.items c.loop-item.item-index 0 c.loop-item-test.true) in
+    let below : x < item_count g =
+    heard_below g c.args.node x (c.requires.items c.loop-item.item-index 0 c.loop-item-test.true) in
     let t = c.index-teller.result.now in
-    let is = teller_at g c.args.self.now.tables.now.nodes (item_count g) c.args.self.now.tellers.items x t c.requires.hearing.tellers below c.index-teller.ensures in
+    let is = teller_at g c.args.self.now.tables.now.nodes
+    (item_count g) c.args.self.now.tellers.items x t c.requires.hearing.tellers below c.index-teller.ensures in
     subst (λ columns. IsLine columns t.line.now) (sym is.line.all) is.line
 
 pub loop-item-preserved : goal.loop-item-preserved
@@ -41,12 +44,17 @@ loop-item-preserved c =
     let below : x < item_count g = numbers-Contains (item_count g) x parts.0 in
     let tables = c.args.self.now.tables.now.nodes in
     let t = c.index-teller.result.now in
-    let is = teller_at g tables (item_count g) c.args.self.now.tellers.items x t c.requires.hearing.tellers below c.index-teller.ensures in
-    let known : All (λ (d : Column). IsKnown g d.cube) t.line.now.columns.now = rw is.line.all (columns_known c.requires.hearing.admitted tables c.requires.hearing.tables x) in
-    let can : (b : LiteralBound) → CanTell g b t.telling = λ b. rw is.telling (heard_can g tables c.args.time b (record { values = []; faults = [] }) x c.args.node parts.1) in
+    let is = teller_at g tables
+    (item_count g) c.args.self.now.tellers.items x t c.requires.hearing.tellers below c.index-teller.ensures in
+    let known : All (λ (d : Column). IsKnown g d.cube) t.line.now.columns.now =
+    rw is.line.all (columns_known c.requires.hearing.admitted tables c.requires.hearing.tables x) in
+    let can : (b : LiteralBound) → CanTell g b t.telling = λ b.
+    rw is.telling (heard_can g tables c.args.time b (record { values = []; faults = [] }) x c.args.node parts.1) in
     record {
       each = c.in_ok-add_row.ensures.each g known can c.loop-item.invariant.each;
-      told = λ b s m. row_more (item_tells g tables c.args.time b s) c.args.items.now c.loop-item.item-index 0 c.loop-item-test.true
-          false (do_tell g c.args.time b c.loop-item.arrivals.items s) (do_tell g c.args.time b c.add_row.new.arrivals.items s) (c.loop-item.invariant.told b s m)
+      told = λ b s m.
+          row_more (item_tells g tables c.args.time b s) c.args.items.now c.loop-item.item-index 0 c.loop-item-test.true
+          false (do_tell g c.args.time b c.loop-item.arrivals.items s)
+          (do_tell g c.args.time b c.add_row.new.arrivals.items s) (c.loop-item.invariant.told b s m)
           (rw (is.telling, is.line.all) at c.in_ok-add_row.ensures.told g b s m);
     }

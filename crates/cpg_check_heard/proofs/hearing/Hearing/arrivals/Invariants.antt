@@ -10,6 +10,7 @@ use Rattle.cpg_check_heard.proofs.hearing.Hearing.arrivals.Given as goal
 abbrev pub invariant-loop-item : goal.invariant-loop-item
 invariant-loop-item l = record {
   each : All (IsArrival l.self.admitted.now.graph) l.arrivals.items;
-  told : (b : LiteralBound) (s : Scenario) → matches l.cube s ≡ true → do_tell l.self.admitted.now.graph l.time b l.arrivals.items s ≡ list_any
+  told : (b : LiteralBound) (s : Scenario) → matches l.cube s ≡ true →
+      do_tell l.self.admitted.now.graph l.time b l.arrivals.items s ≡ list_any
       (item_tells l.self.admitted.now.graph l.self.tables.now.nodes l.time b s) (take l.item-index l.items);
 }

@@ -13,12 +13,18 @@ returns c =
     let tables = c.args.self.now.tables.now.nodes in
     let p = c.process_of_variable-process.result in
     let t = c.index.result.now in
-    let own : p < process_count g = rw c.problem-problem.ensures.problem at c.process_of_variable-process.ensures.within in
+    let own : p < process_count g =
+    rw c.problem-problem.ensures.problem at c.process_of_variable-process.ensures.within in
     let below : p < item_count g = omega arith in
-    let is = teller_at g tables (item_count g) c.args.self.now.tellers.items p t c.requires.hearing.tellers below c.index.ensures in
-    let here : p ≡ process_of_variable g c.args.variable = rw c.problem-problem.ensures.problem at c.process_of_variable-process.ensures.process in
-    let home : node_of g p ≡ c.args.node = rw c.problem-problem.ensures.problem at (sym c.node_of.ensures.node ∙ c.if-node_of-node.false) in
-    let longest : c.duration-longest.result ≡ duration g p g.faults = rw (← c.problem-problem.ensures.problem) (rw c.faults.ensures.faults at c.duration-longest.ensures.duration) in
-    ended_by g tables c.args.node c.args.variable c.args.time t.line.now.last c.duration-longest.result c.has_come.result c.has_come.ensures (subst (λ q. node_of g q ≡ c.args.node) here home)
+    let is = teller_at g tables
+    (item_count g) c.args.self.now.tellers.items p t c.requires.hearing.tellers below c.index.ensures in
+    let here : p ≡ process_of_variable g c.args.variable =
+    rw c.problem-problem.ensures.problem at c.process_of_variable-process.ensures.process in
+    let home : node_of g p ≡ c.args.node =
+    rw c.problem-problem.ensures.problem at (sym c.node_of.ensures.node ∙ c.if-node_of-node.false) in
+    let longest : c.duration-longest.result ≡ duration g p g.faults =
+    rw (← c.problem-problem.ensures.problem) (rw c.faults.ensures.faults at c.duration-longest.ensures.duration) in
+    ended_by g tables c.args.node c.args.variable c.args.time t.line.now.last c.duration-longest.result
+    c.has_come.result c.has_come.ensures (subst (λ q. node_of g q ≡ c.args.node) here home)
     (subst (λ q. c.duration-longest.result ≡ duration g q g.faults) here longest)
     (subst (λ q. All (λ (d : Column). d.time ≤ t.line.now.last) (columns_of tables q)) here is.line.last)

@@ -18,10 +18,14 @@ returns c =
     let b = c.args.bound in
     let told = c.add_own.new.told.items in
     let few = c.requires.hearing.admitted.well_formed.few_processes in
-    let within : process_of_variable g (variable_of b) < process_count g = variable_within g (variable_of b) few c.requires.variable in
+    let within : process_of_variable g (variable_of b) < process_count g =
+    variable_within g (variable_of b) few c.requires.variable in
     fewer_left c.in_ok-left.left
-    (λ closed s i m. own_told (is_free g.faults b) (list_any (λ d. matches d s) told) (own_tells g tables c.args.node c.args.time b s) (are_told_by g tables c.args.time b (heard_by g c.args.node) s)
+    (λ closed s i m. own_told (is_free g.faults b) (list_any (λ d. matches d s) told)
+    (own_tells g tables c.args.node c.args.time b s) (are_told_by g tables c.args.time b (heard_by g c.args.node) s)
     (list_any (tells b) (facts g tables c.args.node s c.args.time))
-    (c.in_ok-add_own.ensures.told s i m ∙ ap (λ xs. list_any (λ d. matches d s) xs || own_tells g tables c.args.node c.args.time b s) c.new-told.ensures.items)
+    (c.in_ok-add_own.ensures.told s i m
+    ∙ ap (λ xs. list_any (λ d. matches d s) xs || own_tells g tables c.args.node c.args.time b s)
+    c.new-told.ensures.items)
     (facts_told g tables c.args.time b s few within c.args.node) (closed s i m))
     (rw c.as_slice.ensures.value at c.in_ok-left.ensures)

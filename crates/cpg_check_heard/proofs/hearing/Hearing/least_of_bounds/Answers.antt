@@ -6,13 +6,15 @@ use Rattle.cpg_check_heard.specs.Bounds.{is_told}
 use Rattle.cpg_check_heard.proofs.hearing.Hearing.least_of_bounds.Goals as goal
 
 pub earlier-found-requires-clause-order : goal.earlier-found-requires-clause-order
-earlier-found-requires-clause-order c = rw (c.order-order.ensures.order, c.problem-problem.ensures.problem) (long_order c.order-order.ensures.admitted)
+earlier-found-requires-clause-order c =
+    rw (c.order-order.ensures.order, c.problem-problem.ensures.problem) (long_order c.order-order.ensures.admitted)
 
 pub loop-bound-preserved : goal.loop-bound-preserved
 loop-bound-preserved c =
     let g = c.args.self.now.admitted.now.graph in
     let tables = c.args.self.now.tables.now.nodes in
     rw (c.earlier-found.ensures, c.problem-problem.ensures.problem, c.order-order.ensures.order)
-    (first_any_more g c.args.self.now.admitted.now.order (matches c.args.column.now.cube) (λ s b. not (is_told g tables c.args.node c.args.column.now.time b s)) c.args.bounds.now
+    (first_any_more g c.args.self.now.admitted.now.order (matches c.args.column.now.cube)
+    (λ s b. not (is_told g tables c.args.node c.args.column.now.time b s)) c.args.bounds.now
     c.loop-bound.bound-index _ c.loop-bound-test.true
     c.loop-bound.found c.in_ok-next.next c.loop-bound.invariant c.in_ok-next.ensures)

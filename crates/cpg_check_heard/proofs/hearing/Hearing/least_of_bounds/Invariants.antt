@@ -6,4 +6,5 @@ use Rattle.cpg_check_heard.proofs.hearing.Hearing.least_of_bounds.Given as goal
 
 abbrev pub invariant-loop-bound : goal.invariant-loop-bound
 invariant-loop-bound l = IsFirst l.self.admitted.now.graph l.self.admitted.now.order
-    (λ s. matches l.column.cube s && is_one_untold l.self.admitted.now.graph l.self.tables.now.nodes l.node l.column.time (take l.bound-index l.bounds) s) l.found
+    (λ s. matches l.column.cube s && is_one_untold l.self.admitted.now.graph l.self.tables.now.nodes l.node
+    l.column.time (take l.bound-index l.bounds) s) l.found

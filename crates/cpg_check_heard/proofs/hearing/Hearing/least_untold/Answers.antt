@@ -18,12 +18,16 @@ returns-then-tells_one_whole c =
     let tables = c.args.self.now.tables.now.nodes in
     let b = c.args.bound in
     let few = c.requires.hearing.admitted.well_formed.few_processes in
-    let within : process_of_variable g (variable_of b) < process_count g = variable_within g (variable_of b) few c.requires.variable in
+    let within : process_of_variable g (variable_of b) < process_count g =
+    variable_within g (variable_of b) few c.requires.variable in
     let tell = rw c.problem-problem.ensures.problem at c.if-tells_one_whole.ensures in
-    untold_nowhere g c.args.column.now.cube (λ s. list_any (tells b) (facts g tables c.args.node s c.args.column.now.time)) (is_free g.faults b)
-    (λ s i m. told_heard (own_tells g tables c.args.node c.args.column.now.time b s) (are_told_by g tables c.args.column.now.time b c.args.items.now s)
+    untold_nowhere g c.args.column.now.cube
+    (λ s. list_any (tells b) (facts g tables c.args.node s c.args.column.now.time)) (is_free g.faults b)
+    (λ s i m. told_heard (own_tells g tables c.args.node c.args.column.now.time b s)
+    (are_told_by g tables c.args.column.now.time b c.args.items.now s)
     (list_any (tells b) (facts g tables c.args.node s c.args.column.now.time))
-    (facts_told g tables c.args.column.now.time b s few within c.args.node ∙ ap (λ xs. own_tells g tables c.args.node c.args.column.now.time b s || are_told_by g tables c.args.column.now.time b xs s)
+    (facts_told g tables c.args.column.now.time b s few within c.args.node ∙ ap (λ xs.
+    own_tells g tables c.args.node c.args.column.now.time b s || are_told_by g tables c.args.column.now.time b xs s)
     (sym c.requires.items))
     (sym (c.requires.arrivals.told b s m) ∙ tell s i m))
 
@@ -33,18 +37,25 @@ returns c =
     let tables = c.args.self.now.tables.now.nodes in
     let b = c.args.bound in
     let few = c.requires.hearing.admitted.well_formed.few_processes in
-    let within : process_of_variable g (variable_of b) < process_count g = variable_within g (variable_of b) few c.requires.variable in
+    let within : process_of_variable g (variable_of b) < process_count g =
+    variable_within g (variable_of b) few c.requires.variable in
     let free : is_free g.faults b ≡ false = search rules in
     let heard = rw c.problem-problem.ensures.problem at c.in_ok-add_told.ensures.told in
-    let left : IsFirst g c.args.self.now.admitted.now.order (is_left c.add_told.new.told.items c.args.column.now.cube) c.in_ok-found.found = rw c.as_slice.ensures.value at c.in_ok-found.ensures in
-    untold_first g c.args.self.now.admitted.now.order c.args.column.now.cube c.add_told.new.told.items (λ s. list_any (tells b) (facts g tables c.args.node s c.args.column.now.time))
+    let left : IsFirst g c.args.self.now.admitted.now.order (is_left c.add_told.new.told.items c.args.column.now.cube)
+    c.in_ok-found.found = rw c.as_slice.ensures.value at c.in_ok-found.ensures in
+    untold_first g c.args.self.now.admitted.now.order c.args.column.now.cube c.add_told.new.told.items
+    (λ s. list_any (tells b) (facts g tables c.args.node s c.args.column.now.time))
     (is_free g.faults b) c.in_ok-found.found free
-    (λ s i m. told_all c.new-told.result.items s (list_any (λ d. matches d s) c.add_own.new.told.items) (list_any (λ d. matches d s) c.add_told.new.told.items)
-    (own_tells g tables c.args.node c.args.column.now.time b s) (are_told_by g tables c.args.column.now.time b c.args.items.now s)
-    (list_any (tells b) (facts g tables c.args.node s c.args.column.now.time)) c.new-told.ensures.items (c.in_ok-add_own.ensures.told s i m)
+    (λ s i m. told_all c.new-told.result.items s (list_any (λ d. matches d s) c.add_own.new.told.items)
+    (list_any (λ d. matches d s) c.add_told.new.told.items)
+    (own_tells g tables c.args.node c.args.column.now.time b s)
+    (are_told_by g tables c.args.column.now.time b c.args.items.now s)
+    (list_any (tells b) (facts g tables c.args.node s c.args.column.now.time)) c.new-told.ensures.items
+    (c.in_ok-add_own.ensures.told s i m)
     (heard s i ∙ ap (λ t. list_any (λ d. matches d s) c.add_own.new.told.items || t) (c.requires.arrivals.told b s m))
     (facts_told g tables c.args.column.now.time b s few within c.args.node ∙
-    ap (λ xs. own_tells g tables c.args.node c.args.column.now.time b s || are_told_by g tables c.args.column.now.time b xs s) (sym c.requires.items))) left
+    ap (λ xs. own_tells g tables c.args.node c.args.column.now.time b s
+    || are_told_by g tables c.args.column.now.time b xs s) (sym c.requires.items))) left
 
 pub tells_one_whole-requires-clause-arrivals : goal.tells_one_whole-requires-clause-arrivals
 tells_one_whole-requires-clause-arrivals c = rw c.problem-problem.ensures.problem c.requires.arrivals.each

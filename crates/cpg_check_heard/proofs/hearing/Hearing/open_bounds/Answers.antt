@@ -8,8 +8,10 @@ pub add_literal-requires-clause-literal : goal.add_literal-requires-clause-liter
 add_literal-requires-clause-literal c =
     let cube = c.args.column.now.cube in
     let i = c.loop-literal.literal-index in
-    let within : i < length cube = omega (arith, c.loop-literal-test.true, ap length c.literals-literal-items.ensures.literals) in
-    rw c.literals-literal-items.ensures.literals (Contains-get_or cube i (record { variable = 0; low = 0; high = 0 }) within)
+    let within : i < length cube =
+    omega (arith, c.loop-literal-test.true, ap length c.literals-literal-items.ensures.literals) in
+    rw c.literals-literal-items.ensures.literals
+    (Contains-get_or cube i (record { variable = 0; low = 0; high = 0 }) within)
 
 pub loop-literal-preserved : goal.loop-literal-preserved
 loop-literal-preserved c =
@@ -19,11 +21,13 @@ loop-literal-preserved c =
     let time = c.args.column.now.time in
     let cube = c.args.column.now.cube in
     let i = c.loop-literal.literal-index in
-    let within : i < length cube = omega (arith, c.loop-literal-test.true, ap length c.literals-literal-items.ensures.literals) in
+    let within : i < length cube =
+    omega (arith, c.loop-literal-test.true, ap length c.literals-literal-items.ensures.literals) in
     let l = get_or cube i (record { variable = 0; low = 0; high = 0 }) in
     record {
       known = c.in_ok-add_literal.ensures.known;
       unheard = λ s law m. rw c.literals-literal-items.ensures.literals at c.in_ok-add_literal.ensures.unheard s law m
           ∙ ap (λ x. x || is_literal_unheard g tables node time s l) (c.loop-literal.invariant.unheard s law m)
-          ∙ sym (list_any_more (is_literal_unheard g tables node time s) cube i (record { variable = 0; low = 0; high = 0 }) within);
+          ∙ sym (list_any_more (is_literal_unheard g tables node time s) cube i
+          (record { variable = 0; low = 0; high = 0 }) within);
     }

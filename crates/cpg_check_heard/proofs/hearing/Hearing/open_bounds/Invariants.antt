@@ -13,5 +13,6 @@ invariant-loop-literal l = record {
   known : All (λ (b : LiteralBound). IsVariable l.self.admitted.now.graph (variable_of b)) l.bounds.items;
   unheard : (s : Scenario) → IsScenario l.self.admitted.now.graph s → matches l.column.cube s ≡ true →
       is_one_untold l.self.admitted.now.graph l.self.tables.now.nodes l.node l.column.time l.bounds.items s
-      ≡ list_any (is_literal_unheard l.self.admitted.now.graph l.self.tables.now.nodes l.node l.column.time s) (take l.literal-index l.column.cube);
+      ≡ list_any (is_literal_unheard l.self.admitted.now.graph l.self.tables.now.nodes l.node l.column.time s)
+      (take l.literal-index l.column.cube);
 }

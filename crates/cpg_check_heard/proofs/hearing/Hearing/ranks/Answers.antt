@@ -11,15 +11,18 @@ pub index-teller-requires : goal.index-teller-requires
 index-teller-requires c =
     let g = c.args.self.now.admitted.now.graph in
     let x = get_or c.args.items.now c.loop-item.item-index 0 in
-    let below : x < item_count g = heard_below g c.args.node x (c.requires.items c.loop-item.item-index 0 c.loop-item-test.true) in
+    let below : x < item_count g =
+    heard_below g c.args.node x (c.requires.items c.loop-item.item-index 0 c.loop-item-test.true) in
     omega (arith, below, c.requires.hearing.tellers.count)
 
 pub loop-item-preserved : goal.loop-item-preserved
 loop-item-preserved c =
     let P = λ (r : RowRank). Contains (heard_by c.args.self.now.admitted.now.graph c.args.node) r.item in
-    subst (All P) (sym {A = List RowRank} c.in_ok-push.ensures.items) (All-push P c.loop-item.ranks.items _ c.loop-item.invariant (c.requires.items c.loop-item.item-index 0 c.loop-item-test.true))
+    subst (All P) (sym {A = List RowRank} c.in_ok-push.ensures.items) (All-push P c.loop-item.ranks.items _
+    c.loop-item.invariant (c.requires.items c.loop-item.item-index 0 c.loop-item-test.true))
 
 pub returns : goal.returns
 returns c =
     let P = λ (r : RowRank). Contains (heard_by c.args.self.now.admitted.now.graph c.args.node) r.item in
-    All-permutation P c.loop-item.ranks.items c.sort_unstable.new.self.items c.sort_unstable.ensures.permutation c.loop-item.invariant
+    All-permutation P c.loop-item.ranks.items c.sort_unstable.new.self.items c.sort_unstable.ensures.permutation
+    c.loop-item.invariant

@@ -13,7 +13,8 @@ arrivals-requires-clause-items c =
     All-push P [] _ (All-nil P) (c.requires.ranks c.loop-rank.rank-index _ c.loop-rank-test.true)
 
 pub left_open-requires-clause-arrivals : goal.left_open-requires-clause-arrivals
-left_open-requires-clause-arrivals c = rw (c.problem-problem.ensures.problem, c.as_slice.ensures.value) c.in_ok-arrivals.ensures.each
+left_open-requires-clause-arrivals c =
+    rw (c.problem-problem.ensures.problem, c.as_slice.ensures.value) c.in_ok-arrivals.ensures.each
 
 pub loop-rank-preserved : goal.loop-rank-preserved
 loop-rank-preserved c =
@@ -21,11 +22,13 @@ loop-rank-preserved c =
     let tables = c.args.self.now.tables.now.nodes in
     let time = c.args.column.now.time in
     let few : process_count g ≤ 128 = c.requires.hearing.admitted.well_formed.few_processes in
-    let left = rw (c.problem-problem.ensures.problem, c.as_slice.ensures.value, c.as_slice-in-loop-rank.ensures.value) at c.in_ok-left.ensures.left in
+    let left = rw (c.problem-problem.ensures.problem, c.as_slice.ensures.value, c.as_slice-in-loop-rank.ensures.value)
+    at c.in_ok-left.ensures.left in
     record {
       known = rw c.problem-problem.ensures.problem at c.in_ok-left.ensures.known;
       untold = λ s law m. left s (λ b. not (is_told g tables c.args.node time b s)) law m
-          (λ b v told. frame_told g tables time b s few (variable_within g (variable_of b) few v) c.args.node _ (c.requires.ranks c.loop-rank.rank-index _ c.loop-rank-test.true)
+          (λ b v told. frame_told g tables time b s few (variable_within g (variable_of b) few v) c.args.node _
+          (c.requires.ranks c.loop-rank.rank-index _ c.loop-rank-test.true)
           (sym (c.in_ok-arrivals.ensures.told b s m) ∙ told))
           ∙ c.loop-rank.invariant.untold s law m;
     }

@@ -8,6 +8,9 @@ use Rattle.cpg_check_quick.proofs.before.BeforePairTest.passes_with_any.Goals as
 
 pub returns : goal.returns
 returns c = of_true c.has_come.result c.has_come.ensures (λ early second s.
-    subst (λ (o : Option ℕ). IfSome o (λ i. IsOverAt c.args.self.now.course.now (column_at c.args.self.now.columns.now i).time second s)) (sym c.in-Some.is)
-    (told_at (λ (d : Column). IsOverAt c.args.self.now.course.now d.time second s) c.args.self.now.columns.now c.in-Some.place c.in-Some-get.column.now
+    subst (λ (o : Option ℕ).
+    IfSome o (λ i. IsOverAt c.args.self.now.course.now (column_at c.args.self.now.columns.now i).time second s))
+    (sym c.in-Some.is)
+    (told_at (λ (d : Column). IsOverAt c.args.self.now.course.now d.time second s) c.args.self.now.columns.now
+    c.in-Some.place c.in-Some-get.column.now
     c.in-Some-get.ensures.lookup.3.0 c.in-Some-get.ensures.lookup.1 (inl early)))

@@ -4,7 +4,8 @@ use Rattle.cpg_check_quick.proofs.OrderLaws.{early_before, walked_before}
 use Rattle.cpg_check_quick.proofs.course.Course.ends_before.Goals as goal
 
 pub returns-then-has_come : goal.returns-then-has_come
-returns-then-has_come c = λ g tables lasts y x everywhere is by there. early_before lasts is by (OnTrue_at c.if-has_come.true c.has_come.ensures)
+returns-then-has_come c = λ g tables lasts y x everywhere is by there.
+    early_before lasts is by (OnTrue_at c.if-has_come.true c.has_come.ensures)
 
 pub returns : goal.returns
 returns c = of_true c.do_pass_with.result c.do_pass_with.ensures (λ all g tables lasts y x everywhere is by there.

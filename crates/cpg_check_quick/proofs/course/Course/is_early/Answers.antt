@@ -3,4 +3,5 @@ use Rattle.cpg_check_quick.proofs.OrderLaws.{early_over}
 use Rattle.cpg_check_quick.proofs.course.Course.is_early.Goals as goal
 
 pub returns : goal.returns
-returns c = of_true c.has_come.result c.has_come.ensures (λ h g tables lasts x s course law. early_over course law c.args.time h)
+returns c = of_true c.has_come.result c.has_come.ensures
+    (λ h g tables lasts x s course law. early_over course law c.args.time h)

@@ -9,11 +9,15 @@ use Rattle.cpg_check_quick.proofs.course.Courses.are_apart.Goals as goal
 
 pub loop-column-preserved : goal.loop-column-preserved
 loop-column-preserved c = λ g tables lasts x s are is law.
-    each_more (λ (d : Column). matches d.cube s ≡ true → All (λ y. IsApartAt tables (lasts y s) y (lasts x s) d.time s) c.args.items.now) c.args.other.now.columns.now c.loop-column.column-index
+    each_more (λ (d : Column). matches d.cube s ≡ true → All (λ y. IsApartAt tables (lasts y s) y (lasts x s) d.time s)
+    c.args.items.now) c.args.other.now.columns.now c.loop-column.column-index
     c.column-item.result c.loop-column-test.true c.column-item.is
-    (c.loop-column.invariant g tables lasts x s are is law) (OnTrue_at c.if-not-are_apart_at.false c.are_apart_at.ensures g tables lasts x s are is law)
+    (c.loop-column.invariant g tables lasts x s are is law)
+    (OnTrue_at c.if-not-are_apart_at.false c.are_apart_at.ensures g tables lasts x s are is law)
 
 pub returns : goal.returns
-returns c = λ g tables lasts x are is. apart_all lasts g tables x c.args.other.now.columns.now c.args.items.now is.columns (λ s law.
-    each_all (λ (d : Column). matches d.cube s ≡ true → All (λ y. IsApartAt tables (lasts y s) y (lasts x s) d.time s) c.args.items.now) c.args.other.now.columns.now c.loop-column.column-index
+returns c = λ g tables lasts x are is.
+    apart_all lasts g tables x c.args.other.now.columns.now c.args.items.now is.columns (λ s law.
+    each_all (λ (d : Column). matches d.cube s ≡ true → All (λ y. IsApartAt tables (lasts y s) y (lasts x s) d.time s)
+    c.args.items.now) c.args.other.now.columns.now c.loop-column.column-index
     c.loop-column-test.false (c.loop-column.invariant g tables lasts x s are is law))

@@ -9,5 +9,8 @@ use Rattle.cpg_check_quick.specs.Order.{IsApartAt}
 use Rattle.cpg_check_quick.proofs.course.Courses.are_apart.Given as goal
 
 abbrev pub invariant-loop-column : goal.invariant-loop-column
-invariant-loop-column l = (g : Graph) (tables : List NodeTable) (lasts : ℕ → Scenario → ℕ) (x : ℕ) (s : Scenario) → AreCourses lasts g tables l.self → IsCourse g tables (lasts x) x l.other →
-    IsScenario g s → All (λ (c : Column). matches c.cube s ≡ true → All (λ y. IsApartAt tables (lasts y s) y (lasts x s) c.time s) l.items) (take l.column-index l.other.columns.now)
+invariant-loop-column l = (g : Graph) (tables : List NodeTable) (lasts : ℕ → Scenario → ℕ) (x : ℕ) (s : Scenario) →
+    AreCourses lasts g tables l.self → IsCourse g tables (lasts x) x l.other →
+    IsScenario g s → All (λ (c : Column). matches c.cube s ≡ true →
+    All (λ y. IsApartAt tables (lasts y s) y (lasts x s) c.time s) l.items)
+    (take l.column-index l.other.columns.now)

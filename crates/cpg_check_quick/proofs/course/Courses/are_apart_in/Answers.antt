@@ -7,12 +7,18 @@ use Rattle.cpg_violation.proofs.SureLaws.{each_all}
 use Rattle.cpg_check_quick.proofs.course.Courses.are_apart_in.Goals as goal
 
 pub loop-item-preserved : goal.loop-item-preserved
-loop-item-preserved c = λ g tables lasts x s are is law lies. All-more (λ y. IsApartAt tables (lasts y s) y (lasts x s) c.args.time s) c.args.items.now c.loop-item.item-index 0 c.loop-item-test.true
+loop-item-preserved c =
+    λ g tables lasts x s are is law lies. All-more (λ y. IsApartAt tables (lasts y s) y (lasts x s) c.args.time s)
+    c.args.items.now c.loop-item.item-index 0 c.loop-item-test.true
     (c.loop-item.invariant g tables lasts x s are is law lies)
-    (OnTrue_at c.if-not-is_apart.false c.is_apart.ensures g tables lasts (get_or c.args.items.now c.loop-item.item-index 0) x s
-    (course_at are (get_or c.args.items.now c.loop-item.item-index 0) c.in-Some.course.now c.deref.result.now c.deref.ensures.value c.in-Some.ensures.lookup.3.0 c.in-Some.ensures.lookup.1) is law
+    (OnTrue_at c.if-not-is_apart.false c.is_apart.ensures g tables lasts
+    (get_or c.args.items.now c.loop-item.item-index 0) x s
+    (course_at are (get_or c.args.items.now c.loop-item.item-index 0) c.in-Some.course.now c.deref.result.now
+    c.deref.ensures.value c.in-Some.ensures.lookup.3.0 c.in-Some.ensures.lookup.1) is law
     lies)
 
 pub returns : goal.returns
-returns c = λ g tables lasts x s are is law lies. each_all (λ y. IsApartAt tables (lasts y s) y (lasts x s) c.args.time s) c.args.items.now c.loop-item.item-index c.loop-item-test.false
+returns c =
+    λ g tables lasts x s are is law lies. each_all (λ y. IsApartAt tables (lasts y s) y (lasts x s) c.args.time s)
+    c.args.items.now c.loop-item.item-index c.loop-item-test.false
     (c.loop-item.invariant g tables lasts x s are is law lies)

@@ -8,5 +8,7 @@ use Rattle.cpg_check_quick.specs.Order.{IsApartAt}
 use Rattle.cpg_check_quick.proofs.course.Courses.are_apart_in.Given as goal
 
 abbrev pub invariant-loop-item : goal.invariant-loop-item
-invariant-loop-item l = (g : Graph) (tables : List NodeTable) (lasts : ℕ → Scenario → ℕ) (x : ℕ) (s : Scenario) → AreCourses lasts g tables l.self → IsCourse g tables (lasts x) x l.other →
-    IsScenario g s → IsInSpace l.space s → All (λ y. IsApartAt tables (lasts y s) y (lasts x s) l.time s) (take l.item-index l.items)
+invariant-loop-item l = (g : Graph) (tables : List NodeTable) (lasts : ℕ → Scenario → ℕ) (x : ℕ) (s : Scenario) →
+    AreCourses lasts g tables l.self → IsCourse g tables (lasts x) x l.other →
+    IsScenario g s → IsInSpace l.space s →
+    All (λ y. IsApartAt tables (lasts y s) y (lasts x s) l.time s) (take l.item-index l.items)

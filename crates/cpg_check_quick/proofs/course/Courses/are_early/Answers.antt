@@ -7,11 +7,15 @@ use Rattle.cpg_violation.proofs.SureLaws.{each_all}
 use Rattle.cpg_check_quick.proofs.course.Courses.are_early.Goals as goal
 
 pub loop-item-preserved : goal.loop-item-preserved
-loop-item-preserved c = λ g tables lasts s are law. All-more (λ y. IsOverBy tables (lasts y s) y c.args.time s) c.args.items.now c.loop-item.item-index 0 c.loop-item-test.true
+loop-item-preserved c = λ g tables lasts s are law. All-more (λ y. IsOverBy tables (lasts y s) y c.args.time s)
+    c.args.items.now c.loop-item.item-index 0 c.loop-item-test.true
     (c.loop-item.invariant g tables lasts s are law)
-    (OnTrue_at c.if-not-is_early.false c.is_early.ensures g tables (lasts (get_or c.args.items.now c.loop-item.item-index 0)) (get_or c.args.items.now c.loop-item.item-index 0) s
-    (course_at are (get_or c.args.items.now c.loop-item.item-index 0) c.in-Some.course.now c.deref.result.now c.deref.ensures.value c.in-Some.ensures.lookup.3.0 c.in-Some.ensures.lookup.1) law)
+    (OnTrue_at c.if-not-is_early.false c.is_early.ensures g tables
+    (lasts (get_or c.args.items.now c.loop-item.item-index 0)) (get_or c.args.items.now c.loop-item.item-index 0) s
+    (course_at are (get_or c.args.items.now c.loop-item.item-index 0) c.in-Some.course.now c.deref.result.now
+    c.deref.ensures.value c.in-Some.ensures.lookup.3.0 c.in-Some.ensures.lookup.1) law)
 
 pub returns : goal.returns
-returns c = λ g tables lasts s are law. each_all (λ y. IsOverBy tables (lasts y s) y c.args.time s) c.args.items.now c.loop-item.item-index c.loop-item-test.false
+returns c = λ g tables lasts s are law. each_all (λ y. IsOverBy tables (lasts y s) y c.args.time s) c.args.items.now
+    c.loop-item.item-index c.loop-item-test.false
     (c.loop-item.invariant g tables lasts s are law)

@@ -4,15 +4,20 @@ use Rattle.cpg_check_quick.proofs.OrderLaws.{course_at, turn_step}
 use Rattle.cpg_check_quick.proofs.course.Courses.are_in_turn.Goals as goal
 
 pub loop-place-preserved : goal.loop-place-preserved
-loop-place-preserved c = turn_step c.args.self.now c.args.items.now c.loop-place.place c.loop-place.start c.next_start-start.result c.in-Some.course.now.is_always c.next_start-start.ensures
+loop-place-preserved c = turn_step c.args.self.now c.args.items.now c.loop-place.place c.loop-place.start
+    c.next_start-start.result c.in-Some.course.now.is_always c.next_start-start.ensures
     c.loop-place-test.true
     (λ g tables lasts are e.
-    let course = course_at are (get_or c.args.items.now c.loop-place.place 0) c.in-Some.course.now c.deref.result.now c.deref.ensures.value c.in-Some.ensures.lookup.3.0 c.in-Some.ensures.lookup.1 in
+    let course = course_at are (get_or c.args.items.now c.loop-place.place 0) c.in-Some.course.now c.deref.result.now
+    c.deref.ensures.value c.in-Some.ensures.lookup.3.0 c.in-Some.ensures.lookup.1 in
     (course.always e, course.item))
     (λ g tables lasts are.
-    let course = course_at are (get_or c.args.items.now c.loop-place.place 0) c.in-Some.course.now c.deref.result.now c.deref.ensures.value c.in-Some.ensures.lookup.3.0 c.in-Some.ensures.lookup.1 in
-    OnTrue_at c.if-not-precede.false c.precede.ensures g tables lasts (get_or c.args.items.now c.loop-place.place 0) are course)
+    let course = course_at are (get_or c.args.items.now c.loop-place.place 0) c.in-Some.course.now c.deref.result.now
+    c.deref.ensures.value c.in-Some.ensures.lookup.3.0 c.in-Some.ensures.lookup.1 in
+    OnTrue_at c.if-not-precede.false c.precede.ensures g tables lasts
+    (get_or c.args.items.now c.loop-place.place 0) are course)
     c.loop-place.invariant
 
 pub returns : goal.returns
-returns c = λ g tables lasts are present i j h k. c.loop-place.invariant.before g tables lasts are present i j h (omega (arith, k, c.loop-place-test.false))
+returns c = λ g tables lasts are present i j h k.
+    c.loop-place.invariant.before g tables lasts are present i j h (omega (arith, k, c.loop-place-test.false))

@@ -8,5 +8,6 @@ use Rattle.cpg_check_quick.specs.Order.{IsOverBy}
 use Rattle.cpg_check_quick.proofs.course.Courses.are_over.Given as goal
 
 abbrev pub invariant-loop-item : goal.invariant-loop-item
-invariant-loop-item l = (g : Graph) (tables : List NodeTable) (lasts : ℕ → Scenario → ℕ) (s : Scenario) → AreCourses lasts g tables l.self → IsScenario g s → IsInSpace l.space s →
+invariant-loop-item l = (g : Graph) (tables : List NodeTable) (lasts : ℕ → Scenario → ℕ) (s : Scenario) →
+    AreCourses lasts g tables l.self → IsScenario g s → IsInSpace l.space s →
     All (λ y. IsOverBy tables (lasts y s) y l.time s) (take l.item-index l.items)

@@ -9,11 +9,16 @@ use Rattle.cpg_check_quick.proofs.course.Courses.come_before.Goals as goal
 
 pub loop-column-preserved : goal.loop-column-preserved
 loop-column-preserved c = λ g tables lasts s are law.
-    each_more (λ (d : Column). matches d.cube s ≡ true → All (λ y. IsOverBy tables (lasts y s) y d.time s) c.args.items.now) c.args.columns.now c.loop-column.column-index c.column-item.result
+    each_more
+    (λ (d : Column). matches d.cube s ≡ true → All (λ y. IsOverBy tables (lasts y s) y d.time s) c.args.items.now)
+    c.args.columns.now c.loop-column.column-index c.column-item.result
     c.loop-column-test.true c.column-item.is
-    (c.loop-column.invariant g tables lasts s are law) (OnTrue_at c.if-not-are_over_at.false c.are_over_at.ensures g tables lasts s are law)
+    (c.loop-column.invariant g tables lasts s are law)
+    (OnTrue_at c.if-not-are_over_at.false c.are_over_at.ensures g tables lasts s are law)
 
 pub returns : goal.returns
 returns c = λ g tables lasts x are same. over_all lasts g tables x c.args.columns.now c.args.items.now same (λ s law.
-    each_all (λ (d : Column). matches d.cube s ≡ true → All (λ y. IsOverBy tables (lasts y s) y d.time s) c.args.items.now) c.args.columns.now c.loop-column.column-index c.loop-column-test.false
+    each_all
+    (λ (d : Column). matches d.cube s ≡ true → All (λ y. IsOverBy tables (lasts y s) y d.time s) c.args.items.now)
+    c.args.columns.now c.loop-column.column-index c.loop-column-test.false
     (c.loop-column.invariant g tables lasts s are law))

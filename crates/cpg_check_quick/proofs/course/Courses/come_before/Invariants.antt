@@ -9,5 +9,7 @@ use Rattle.cpg_check_quick.specs.Order.{IsOverBy}
 use Rattle.cpg_check_quick.proofs.course.Courses.come_before.Given as goal
 
 abbrev pub invariant-loop-column : goal.invariant-loop-column
-invariant-loop-column l = (g : Graph) (tables : List NodeTable) (lasts : ℕ → Scenario → ℕ) (s : Scenario) → AreCourses lasts g tables l.self → IsScenario g s →
-    All (λ (c : Column). matches c.cube s ≡ true → All (λ y. IsOverBy tables (lasts y s) y c.time s) l.items) (take l.column-index l.columns)
+invariant-loop-column l = (g : Graph) (tables : List NodeTable) (lasts : ℕ → Scenario → ℕ) (s : Scenario) →
+    AreCourses lasts g tables l.self → IsScenario g s →
+    All (λ (c : Column). matches c.cube s ≡ true → All (λ y. IsOverBy tables (lasts y s) y c.time s) l.items)
+    (take l.column-index l.columns)

@@ -9,5 +9,6 @@ use Rattle.cpg_check_quick.specs.Order.{IsInTurn}
 use Rattle.cpg_check_quick.proofs.course.Courses.orders.Given as goal
 
 abbrev pub invariant-loop-group : goal.invariant-loop-group
-invariant-loop-group l = (g : Graph) (tables : List NodeTable) (lasts : ℕ → Scenario → ℕ) → AreCourses lasts g tables l.self → Holds g tables Rule.Present →
+invariant-loop-group l = (g : Graph) (tables : List NodeTable) (lasts : ℕ → Scenario → ℕ) →
+    AreCourses lasts g tables l.self → Holds g tables Rule.Present →
     All (λ order. IsInTurn lasts g tables order.items) l.orders.items

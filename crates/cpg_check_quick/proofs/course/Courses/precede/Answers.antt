@@ -2,7 +2,9 @@ use Rattle.cpg_tree.proofs.Passes.{of_true}
 use Rattle.cpg_check_quick.proofs.course.Courses.precede.Goals as goal
 
 pub returns-in_default : goal.returns-in_default
-returns-in_default c = of_true c.come_before.result c.come_before.ensures (λ all g tables lasts x are is. all g tables lasts x are is.columns)
+returns-in_default c = of_true c.come_before.result c.come_before.ensures
+    (λ all g tables lasts x are is. all g tables lasts x are is.columns)
 
 pub returns : goal.returns
-returns c = of_true c.end_before.result c.end_before.ensures (λ all g tables lasts x are is. all g tables lasts x are is c.in-Some.is)
+returns c = of_true c.end_before.result c.end_before.ensures
+    (λ all g tables lasts x are is. all g tables lasts x are is c.in-Some.is)

@@ -13,14 +13,17 @@ use Rattle.cpg_check_quick.proofs.heard.Hall.is_sure.Goals as goal
 
 pub returns-then-are_all_known : goal.returns-then-are_all_known
 returns-then-are_all_known c = λ tables turns frames rules sent is.
-    known_sure c.args.self.now.admitted.now.graph tables rules c.args.item c.requires.item c.problem-problem.ensures.admitted.limits.few_processes c.own_ended-known.result
+    known_sure c.args.self.now.admitted.now.graph tables rules c.args.item c.requires.item
+    c.problem-problem.ensures.admitted.limits.few_processes c.own_ended-known.result
     (c.own_ended-known.ensures tables turns rules sent)
-    (subst (All (λ (d : Column). All (λ (l : Literal). get_or c.own_ended-known.result l.variable false ≡ true) d.cube)) is (OnTrue_at c.if-are_all_known.true c.are_all_known.ensures))
+    (subst (All (λ (d : Column). All (λ (l : Literal). get_or c.own_ended-known.result l.variable false ≡ true) d.cube))
+    is (OnTrue_at c.if-are_all_known.true c.are_all_known.ensures))
 
 pub returns : goal.returns
 returns c = of_true c.in_ok-heard.heard c.in_ok-heard.ensures (λ all tables turns frames rules sent is.
     let g = c.args.self.now.admitted.now.graph in
-    let node : c.home-node.result ≡ home g c.args.item = c.home-node.ensures.home ∙ ap (λ h. home h c.args.item) c.problem-problem.ensures.problem in
+    let node : c.home-node.result ≡ home g c.args.item =
+    c.home-node.ensures.home ∙ ap (λ h. home h c.args.item) c.problem-problem.ensures.problem in
     let told = rw c.problem-problem.ensures.problem at c.in_ok-speakers.ensures in
     let heard = all tables c.args.item (record {
       item = c.requires.item;
@@ -30,4 +33,5 @@ returns c = of_true c.in_ok-heard.heard c.in_ok-heard.ensures (λ all tables tur
       speakers = told tables frames;
     }) rules is in
     heard_sure g tables c.args.item (λ d l k h. subst (λ n. IsAllHeard g tables n d) node
-    (All-contains (IsAllHeard g tables c.home-node.result) (columns_of tables c.args.item) d (subst (All (IsAllHeard g tables c.home-node.result)) is heard) k) l h))
+    (All-contains (IsAllHeard g tables c.home-node.result) (columns_of tables c.args.item) d
+    (subst (All (IsAllHeard g tables c.home-node.result)) is heard) k) l h))

@@ -9,6 +9,8 @@ use Rattle.cpg_check_quick.specs.Turns.{AreTurns}
 use Rattle.cpg_check_quick.proofs.listening.Listener.are_over.Given as goal
 
 abbrev pub invariant-loop-literal : goal.invariant-loop-literal
-invariant-loop-literal l = (tables : List NodeTable) (s : Scenario) → AreTurns (execution l.self.admitted.now.graph) l.self.admitted.now.graph tables l.self.turns.now →
+invariant-loop-literal l = (tables : List NodeTable) (s : Scenario) →
+    AreTurns (execution l.self.admitted.now.graph) l.self.admitted.now.graph tables l.self.turns.now →
     IsScenario l.self.admitted.now.graph s → IsInSpace l.space s →
-    All (λ (m : Literal). IsOwnOver l.self.admitted.now.graph tables l.self.node m.variable l.time s) (take l.literal-index l.literals)
+    All (λ (m : Literal). IsOwnOver l.self.admitted.now.graph tables l.self.node m.variable l.time s)
+    (take l.literal-index l.literals)

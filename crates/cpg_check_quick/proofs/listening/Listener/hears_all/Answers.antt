@@ -6,11 +6,16 @@ use Rattle.cpg_violation.proofs.SureLaws.{each_all, each_more}
 use Rattle.cpg_check_quick.proofs.listening.Listener.hears_all.Goals as goal
 
 pub loop-column-preserved : goal.loop-column-preserved
-loop-column-preserved c = λ tables x is rules all. each_more (IsAllHeard c.args.self.now.admitted.now.graph tables c.args.self.now.node) c.args.columns.now c.loop-column.column-index
+loop-column-preserved c =
+    λ tables x is rules all. each_more (IsAllHeard c.args.self.now.admitted.now.graph tables c.args.self.now.node)
+    c.args.columns.now c.loop-column.column-index
     c.column-item.result c.loop-column-test.true c.column-item.is (c.loop-column.invariant tables x is rules all)
     (OnTrue_at c.if-not-heard.false c.in_ok-heard.ensures tables x is rules
-    (subst (λ (cs : List Column). Contains cs c.column-item.result) all (c.loop-column.column-index, c.loop-column-test.true, sym c.column-item.is)))
+    (subst (λ (cs : List Column). Contains cs c.column-item.result) all
+    (c.loop-column.column-index, c.loop-column-test.true, sym c.column-item.is)))
 
 pub returns : goal.returns
-returns c = λ tables x is rules all. each_all (IsAllHeard c.args.self.now.admitted.now.graph tables c.args.self.now.node) c.args.columns.now c.loop-column.column-index c.loop-column-test.false
+returns c =
+    λ tables x is rules all. each_all (IsAllHeard c.args.self.now.admitted.now.graph tables c.args.self.now.node)
+    c.args.columns.now c.loop-column.column-index c.loop-column-test.false
     (c.loop-column.invariant tables x is rules all)

@@ -6,5 +6,6 @@ use Rattle.cpg_check_quick.specs.Listening.{IsListener}
 use Rattle.cpg_check_quick.proofs.listening.Listener.hears_all.Given as goal
 
 abbrev pub invariant-loop-column : goal.invariant-loop-column
-invariant-loop-column l = (tables : List NodeTable) (x : ℕ) → IsListener tables x l.self → AllHold l.self.admitted.now.graph tables row_rules → l.columns ≡ columns_of tables x →
+invariant-loop-column l = (tables : List NodeTable) (x : ℕ) → IsListener tables x l.self →
+    AllHold l.self.admitted.now.graph tables row_rules → l.columns ≡ columns_of tables x →
     All (IsAllHeard l.self.admitted.now.graph tables l.self.node) (take l.column-index l.columns)

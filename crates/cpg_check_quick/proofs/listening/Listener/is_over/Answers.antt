@@ -8,10 +8,12 @@ pub returns-then-is_early : goal.returns-then-is_early
 returns-then-is_early c = λ tables s turns law lies.
     let g = c.args.self.now.admitted.now.graph in
     OnTrue_at c.if-is_early.true c.is_early.ensures g tables (execution g c.args.process) c.args.process s
-    (course_at turns.courses c.args.process c.in-Some.course.now c.deref.result.now c.deref.ensures.value c.in-Some.ensures.lookup.3.0 c.in-Some.ensures.lookup.1) law
+    (course_at turns.courses c.args.process c.in-Some.course.now c.deref.result.now c.deref.ensures.value
+    c.in-Some.ensures.lookup.3.0 c.in-Some.ensures.lookup.1) law
 
 pub returns : goal.returns
 returns c = of_true c.is_over.result c.is_over.ensures (λ over tables s turns law lies.
     let g = c.args.self.now.admitted.now.graph in
     over g tables (execution g c.args.process) c.args.process s
-    (course_at turns.courses c.args.process c.in-Some.course.now c.deref.result.now c.deref.ensures.value c.in-Some.ensures.lookup.3.0 c.in-Some.ensures.lookup.1) law lies)
+    (course_at turns.courses c.args.process c.in-Some.course.now c.deref.result.now c.deref.ensures.value
+    c.in-Some.ensures.lookup.3.0 c.in-Some.ensures.lookup.1) law lies)

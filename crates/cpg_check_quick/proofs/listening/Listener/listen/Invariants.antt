@@ -9,6 +9,7 @@ use Rattle.cpg_check_quick.specs.Speakers.{AreToldIn, IsSpeaker}
 use Rattle.cpg_check_quick.proofs.listening.Listener.listen.Given as goal
 
 abbrev pub invariant-loop-speaker : goal.invariant-loop-speaker
-invariant-loop-speaker l = (g : Graph) (tables : List NodeTable) → All (IsSpeaker g tables l.self.node) l.self.speakers.items → AreToldIn l.column.cube l.fn.wanted.items →
+invariant-loop-speaker l = (g : Graph) (tables : List NodeTable) →
+    All (IsSpeaker g tables l.self.node) l.self.speakers.items → AreToldIn l.column.cube l.fn.wanted.items →
     ((s : Scenario) → IsScenario g s → matches l.column.cube s ≡ true → IsInSpace l.space s) →
     AreLeft g tables l.self.node l.column l.fn.wanted.items l.wanted.items

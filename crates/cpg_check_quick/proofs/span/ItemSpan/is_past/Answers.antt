@@ -4,4 +4,9 @@ use Rattle.cpg_check_quick.proofs.span.ItemSpan.is_past.Goals as goal
 
 pub returns : goal.returns
 returns c = on_le (get_or c.args.self.now.lengths c.most-most.result 0) (c.args.time - c.args.start)
-    (λ l s lies. record { count = c.most-most.result; most = c.most-most.ensures s lies; known = omega (arith, c.if-most-gt-MOST_FAULTS.false); over = omega (arith, l, c.if-time-start.false) })
+    (λ l s lies. record {
+      count = c.most-most.result;
+      most = c.most-most.ensures s lies;
+      known = omega (arith, c.if-most-gt-MOST_FAULTS.false);
+      over = omega (arith, l, c.if-time-start.false);
+    })

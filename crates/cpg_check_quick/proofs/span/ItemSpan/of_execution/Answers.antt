@@ -7,6 +7,8 @@ pub returns : goal.returns
 returns c =
     let g = c.args.problem.now in
     let faults = c.faults-faults.ensures.faults in
-    span_of g c.faults-faults.ensures.within.few_processes c.args.process c.requires (record { variable = c.args.process; lengths = c.loop-count.lengths; longest = c.duration-2.result }) refl
-    (λ n k. c.loop-count.invariant.done n (omega (arith, k, c.loop-count-test.false)) ∙ ap (λ f. duration g c.args.process (min f n)) faults)
+    span_of g c.faults-faults.ensures.within.few_processes c.args.process c.requires
+    (record { variable = c.args.process; lengths = c.loop-count.lengths; longest = c.duration-2.result }) refl
+    (λ n k. c.loop-count.invariant.done n (omega (arith, k, c.loop-count-test.false))
+    ∙ ap (λ f. duration g c.args.process (min f n)) faults)
     (c.duration-2.ensures.duration ∙ ap (duration g c.args.process) faults)

@@ -8,5 +8,6 @@ pub returns-in_ok-leave_by-in-Some-clause-told : goal.returns-in_ok-leave_by-in-
 returns-in_ok-leave_by-in-Some-clause-told c m h = elim (c.in_ok-leave_by-in-Some.ensures.told m h) [
   | inl kept ↦ inl kept
   | inr told ↦ inr (told_alone c.args.self.now.columns.now c.args.places.now c.in-Some.column.now m c.in-Some.ensures
-      (subst (λ (own : List Literal). (c.args.self.now.value ≡ Some m.variable) ⊎ IsToldIn own m) c.literals.ensures.literals told))
+      (subst (λ (own : List Literal). (c.args.self.now.value ≡ Some m.variable) ⊎ IsToldIn own m)
+      c.literals.ensures.literals told))
 ]

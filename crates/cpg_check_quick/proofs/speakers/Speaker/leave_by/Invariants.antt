@@ -6,5 +6,6 @@ use Rattle.cpg_check_quick.proofs.speakers.Speaker.leave_by.Given as goal
 abbrev pub invariant-loop-literal : goal.invariant-loop-literal
 invariant-loop-literal l = record {
   among : (m : Literal) → Contains l.left.items m → Contains l.wanted m;
-  told : (m : Literal) → Contains (take l.literal-index l.wanted) m → Contains l.left.items m ⊎ ((l.self.value ≡ Some m.variable) ⊎ IsToldIn l.own m);
+  told : (m : Literal) → Contains (take l.literal-index l.wanted) m →
+      Contains l.left.items m ⊎ ((l.self.value ≡ Some m.variable) ⊎ IsToldIn l.own m);
 }

@@ -12,18 +12,22 @@ any = record { variable = 0; low = 0; high = 0 }
 pub loop-literal-preserved-then-tells : goal.loop-literal-preserved-then-tells
 loop-literal-preserved-then-tells c = record {
   among = c.loop-literal.invariant.among;
-  told = others_skip (λ (m : Literal). IsTold c.args.self.now.value c.args.self.now.columns.now c.args.places.now m) c.args.wanted.now c.loop-literal.left.items c.loop-literal.literal-index any
+  told = others_skip (λ (m : Literal). IsTold c.args.self.now.value c.args.self.now.columns.now c.args.places.now m)
+      c.args.wanted.now c.loop-literal.left.items c.loop-literal.literal-index any
       c.loop-literal-test.true
       (OnTrue_at c.if-tells.true c.tells.ensures) c.loop-literal.invariant.told;
 }
 
 pub loop-literal-preserved : goal.loop-literal-preserved
 loop-literal-preserved c = rw c.in_ok-push.ensures.items (record {
-  among = others_among (λ (m : Literal). IsTold c.args.self.now.value c.args.self.now.columns.now c.args.places.now m) c.args.wanted.now c.loop-literal.left.items c.loop-literal.literal-index any
+  among = others_among (λ (m : Literal). IsTold c.args.self.now.value c.args.self.now.columns.now c.args.places.now m)
+      c.args.wanted.now c.loop-literal.left.items c.loop-literal.literal-index any
       c.loop-literal-test.true c.loop-literal.invariant.among;
-  told = others_push (λ (m : Literal). IsTold c.args.self.now.value c.args.self.now.columns.now c.args.places.now m) c.args.wanted.now c.loop-literal.left.items c.loop-literal.literal-index any
+  told = others_push (λ (m : Literal). IsTold c.args.self.now.value c.args.self.now.columns.now c.args.places.now m)
+      c.args.wanted.now c.loop-literal.left.items c.loop-literal.literal-index any
       c.loop-literal-test.true c.loop-literal.invariant.told;
 })
 
 pub returns-clause-told : goal.returns-clause-told
-returns-clause-told c = λ m h. c.loop-literal.invariant.told m (subst (λ xs. Contains xs m) (sym (take_all c.loop-literal.literal-index c.args.wanted.now c.loop-literal-test.false)) h)
+returns-clause-told c = λ m h. c.loop-literal.invariant.told m (subst (λ xs. Contains xs m)
+    (sym (take_all c.loop-literal.literal-index c.args.wanted.now c.loop-literal-test.false)) h)

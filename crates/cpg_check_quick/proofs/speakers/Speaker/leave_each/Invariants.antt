@@ -6,5 +6,6 @@ use Rattle.cpg_check_quick.proofs.speakers.Speaker.leave_each.Given as goal
 abbrev pub invariant-loop-literal : goal.invariant-loop-literal
 invariant-loop-literal l = record {
   among : (m : Literal) → Contains l.left.items m → Contains l.wanted m;
-  told : (m : Literal) → Contains (take l.literal-index l.wanted) m → Contains l.left.items m ⊎ IsTold l.self.value l.self.columns.now l.places m;
+  told : (m : Literal) → Contains (take l.literal-index l.wanted) m →
+      Contains l.left.items m ⊎ IsTold l.self.value l.self.columns.now l.places m;
 }

@@ -3,5 +3,7 @@ use Rattle.cpg_check_quick.proofs.SpeakerLaws.{left_untold}
 use Rattle.cpg_check_quick.proofs.speakers.Speaker.tell.Goals as goal
 
 pub returns : goal.returns
-returns c = λ g tables node is wider lies. left_untold is c.gather.new.found.items c.args.column.now c.args.wanted.now c.leave.new.left.items wider
-    c.in_ok-leave.ensures.among (rw c.as_slice.ensures.value at c.in_ok-leave.ensures.told) (λ s law m. OnTrue_at c.if-not-all.false c.in_ok-all.ensures s (lies s law m))
+returns c = λ g tables node is wider lies.
+    left_untold is c.gather.new.found.items c.args.column.now c.args.wanted.now c.leave.new.left.items wider
+    c.in_ok-leave.ensures.among (rw c.as_slice.ensures.value at c.in_ok-leave.ensures.told)
+    (λ s law m. OnTrue_at c.if-not-all.false c.in_ok-all.ensures s (lies s law m))

@@ -6,6 +6,9 @@ use Rattle.cpg_check_quick.proofs.turns.Turns.are_apart.Goals as goal
 
 pub returns-in-Some : goal.returns-in-Some
 returns-in-Some c = of_true c.are_apart.result c.are_apart.ensures (λ all g tables lasts are.
-    let course = course_at are.courses c.args.other c.in-Some.course.now c.deref.result.now c.deref.ensures.value c.in-Some.ensures.lookup.3.0 c.in-Some.ensures.lookup.1 in
-    known_apart lasts g tables c.args.other c.in_ok-left.left.items c.args.items.now (c.in_ok-left.ensures g tables lasts are)
-    (subst (λ xs. All (λ y. IsApart lasts g tables y c.args.other) xs) c.as_slice.ensures.value (all g tables lasts c.args.other are.courses course)))
+    let course = course_at are.courses c.args.other c.in-Some.course.now c.deref.result.now c.deref.ensures.value
+    c.in-Some.ensures.lookup.3.0 c.in-Some.ensures.lookup.1 in
+    known_apart lasts g tables c.args.other c.in_ok-left.left.items c.args.items.now
+    (c.in_ok-left.ensures g tables lasts are)
+    (subst (λ xs. All (λ y. IsApart lasts g tables y c.args.other) xs) c.as_slice.ensures.value
+    (all g tables lasts c.args.other are.courses course)))

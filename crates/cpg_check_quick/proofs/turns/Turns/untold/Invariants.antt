@@ -7,5 +7,6 @@ use Rattle.cpg_check_quick.specs.Turns.{AreTurns}
 use Rattle.cpg_check_quick.proofs.turns.Turns.untold.Given as goal
 
 abbrev pub invariant-loop-item : goal.invariant-loop-item
-invariant-loop-item l = (g : Graph) (tables : List NodeTable) (lasts : ℕ → Scenario → ℕ) → AreTurns lasts g tables l.self →
+invariant-loop-item l =
+    (g : Graph) (tables : List NodeTable) (lasts : ℕ → Scenario → ℕ) → AreTurns lasts g tables l.self →
     All (λ y. Contains l.left.items y ⊎ IsApart lasts g tables y l.other) (take l.item-index l.items)

@@ -5,5 +5,6 @@ use Rattle.cpg_check_quick.specs.Inputs.{IsInputOver, IsWaiting}
 use Rattle.cpg_check_quick.proofs.waiting.Waiting.are_early.Given as goal
 
 abbrev pub invariant-loop-edge : goal.invariant-loop-edge
-invariant-loop-edge l = (tables : List NodeTable) (s : Scenario) → IsWaiting l.self.admitted.now.graph tables l.self → IsScenario l.self.admitted.now.graph s →
+invariant-loop-edge l = (tables : List NodeTable) (s : Scenario) → IsWaiting l.self.admitted.now.graph tables l.self →
+    IsScenario l.self.admitted.now.graph s →
     All (λ e. IsInputOver l.self.admitted.now.graph tables e l.time s) (take l.edge-index l.edges)

@@ -5,5 +5,6 @@ use Rattle.cpg_check_quick.specs.Inputs.{IsLateEnough, IsWaiting}
 use Rattle.cpg_check_quick.proofs.waiting.Waiting.are_late_enough.Given as goal
 
 abbrev pub invariant-loop-column : goal.invariant-loop-column
-invariant-loop-column l = (tables : List NodeTable) → IsWaiting l.self.admitted.now.graph tables l.self → AllHold l.self.admitted.now.graph tables row_rules →
+invariant-loop-column l = (tables : List NodeTable) → IsWaiting l.self.admitted.now.graph tables l.self →
+    AllHold l.self.admitted.now.graph tables row_rules →
     All (IsLateEnough l.self.admitted.now.graph tables l.edges l.release) (take l.column-index l.columns)

@@ -8,4 +8,5 @@ pub returns : goal.returns
 returns c = of_true c.come_before.result c.come_before.ensures (λ all tables w is.
     let g = c.args.self.now.admitted.now.graph in
     let from = c.producer-producer.ensures.producer ∙ ap (λ h. producer h c.args.item) c.problem.ensures.problem in
-    subst (λ p. IsBefore g tables p c.args.item) from (all g tables (execution g) c.args.item w.turns.courses is 0 0 (omega arith)))
+    subst (λ p. IsBefore g tables p c.args.item) from
+    (all g tables (execution g) c.args.item w.turns.courses is 0 0 (omega arith)))

@@ -4,4 +4,5 @@ use Rattle.cpg_check_quick.proofs.waiting.Waiting.is_early.Goals as goal
 
 pub returns-in-Some : goal.returns-in-Some
 returns-in-Some c = of_true c.is_early.result c.is_early.ensures
-    (λ early tables s w law. input_over (c.in-Some.ensures tables w) c.args.time s (λ lasts x is. early c.args.self.now.admitted.now.graph tables lasts x s is law))
+    (λ early tables s w law. input_over (c.in-Some.ensures tables w) c.args.time s
+    (λ lasts x is. early c.args.self.now.admitted.now.graph tables lasts x s is law))

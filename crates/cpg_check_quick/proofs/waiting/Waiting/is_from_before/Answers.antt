@@ -7,6 +7,11 @@ use Rattle.cpg_check_quick.proofs.waiting.Waiting.is_from_before.Goals as goal
 pub returns : goal.returns
 returns c = of_true c.is_before.result c.is_before.ensures (λ before tables w.
     let g = c.args.self.now.admitted.now.graph in
-    let near : is_message g c.args.edge ≡ false = sym (c.is_message.ensures ∙ ap (λ h. is_message h c.args.edge) c.problem-problem.ensures.problem) ∙ c.if-is_message.false in
+    let near : is_message g c.args.edge ≡ false =
+    sym (c.is_message.ensures ∙ ap (λ h. is_message h c.args.edge) c.problem-problem.ensures.problem)
+    ∙ c.if-is_message.false in
     let from = c.source.ensures.source ∙ ap (λ h. source h c.args.edge) c.problem-problem.ensures.problem in
-    record { near = near; before = subst (λ q. IsBefore g tables q c.args.process) from (before g tables (execution g) w.turns) })
+    record {
+      near = near;
+      before = subst (λ q. IsBefore g tables q c.args.process) from (before g tables (execution g) w.turns);
+    })

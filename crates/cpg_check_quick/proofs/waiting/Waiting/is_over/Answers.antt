@@ -10,8 +10,10 @@ pub returns-then-is_refused : goal.returns-then-is_refused
 returns-then-is_refused c = λ tables s w law lies on.
     let g = c.args.self.now.admitted.now.graph in
     let refused = rw c.problem.ensures.problem at c.is_refused.ensures in
-    absurd (true≢false (sym (and_parts (active g s.values (source g c.args.edge)) _ on).1 ∙ OnTrue_at c.if-is_refused.true refused s lies))
+    absurd (true≢false (sym (and_parts (active g s.values (source g c.args.edge)) _ on).1
+    ∙ OnTrue_at c.if-is_refused.true refused s lies))
 
 pub returns-in-Some : goal.returns-in-Some
 returns-in-Some c = of_true c.is_over.result c.is_over.ensures
-    (λ over tables s w law lies on. input_over (c.in-Some.ensures tables w) c.args.time s (λ lasts x is. over c.args.self.now.admitted.now.graph tables lasts x s is law lies))
+    (λ over tables s w law lies on. input_over (c.in-Some.ensures tables w) c.args.time s
+    (λ lasts x is. over c.args.self.now.admitted.now.graph tables lasts x s is law lies))

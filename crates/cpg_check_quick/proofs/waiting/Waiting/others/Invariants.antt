@@ -7,6 +7,8 @@ use Rattle.cpg_check_quick.proofs.waiting.Waiting.others.Given as goal
 abbrev pub invariant-loop-edge : goal.invariant-loop-edge
 invariant-loop-edge l = record {
   edges : All (λ e. e < edge_count l.self.admitted.now.graph) l.others.items;
-  known : (tables : List NodeTable) (e : ℕ) → IsWaiting l.self.admitted.now.graph tables l.self → Contains (take l.edge-index l.edges) e → Contains l.others.items e ⊎
+  known : (tables : List NodeTable) (e : ℕ) → IsWaiting l.self.admitted.now.graph tables l.self →
+      Contains (take l.edge-index l.edges) e →
+      Contains l.others.items e ⊎
       IsFromBefore l.self.admitted.now.graph tables e l.process;
 }

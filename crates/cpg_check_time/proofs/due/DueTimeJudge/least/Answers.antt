@@ -11,9 +11,17 @@ use Rattle.cpg_check_time.proofs.due.DueTimeJudge.least.Goals as goal
 pub returns : goal.returns
 returns c =
     let g = c.args.admitted.now.graph in
-    let within : c.args.item < process_count g = omega (arith, c.if-item-processes.false, ap length c.processes.ensures.processes, ap process_count c.problem-problem.ensures.problem) in
+    let within : c.args.item < process_count g = omega (
+      arith,
+      c.if-item-processes.false,
+      ap length c.processes.ensures.processes,
+      ap process_count c.problem-problem.ensures.problem,
+    ) in
     let there = rw c.in-Some.is at c.in_ok-part.ensures.part in
-    let part : (s : Scenario) → IsScenario g s → matches c.in-Some.part s ≡ (matches c.args.column.now.cube s && ends_after g c.args.item c.args.column.now.time (due g c.args.item) s) =
+    let part : (s : Scenario) → IsScenario g s → matches c.in-Some.part s
+    ≡ (matches c.args.column.now.cube s && ends_after g c.args.item c.args.column.now.time (due g c.args.item) s) =
     rw (← c.problem-problem.ensures.problem) (rw c.due-due.ensures at there) in
-    let first : IsFirst g c.args.admitted.now.order (matches c.in-Some.part) c.in_ok-least.least = rw (← c.problem-problem.ensures.problem) (c.in_ok-least.ensures.first c.args.admitted.now.order) in
-    due_first g c.args.admitted.now.order c.args.tables.now.nodes c.args.item c.args.column.now within c.in-Some.part part c.in_ok-least.least first
+    let first : IsFirst g c.args.admitted.now.order (matches c.in-Some.part) c.in_ok-least.least =
+    rw (← c.problem-problem.ensures.problem) (c.in_ok-least.ensures.first c.args.admitted.now.order) in
+    due_first g c.args.admitted.now.order c.args.tables.now.nodes c.args.item c.args.column.now within c.in-Some.part
+    part c.in_ok-least.least first

@@ -18,18 +18,25 @@ index-requires c = omega (
 
 pub returns-in_default : goal.returns-in_default
 returns-in_default c =
-    let at = c.index.ensures ∙ time_at c.args.admitted.now.graph c.args.tables.now.nodes c.args.self.now.times.items c.args.item c.index.result.now c.requires.suits c.requires.item in
-    λ s _. frozen_none c.args.admitted.now.graph c.args.admitted.now.order c.args.tables.now.nodes c.args.item c.args.column.now (sym at ∙ c.in_default.is) s
+    let at = c.index.ensures ∙ time_at c.args.admitted.now.graph c.args.tables.now.nodes c.args.self.now.times.items
+    c.args.item c.index.result.now c.requires.suits c.requires.item in
+    λ s _. frozen_none c.args.admitted.now.graph c.args.admitted.now.order c.args.tables.now.nodes c.args.item
+    c.args.column.now (sym at ∙ c.in_default.is) s
 
 pub returns-then-time-column : goal.returns-then-time-column
 returns-then-time-column c =
-    let at = c.index.ensures ∙ time_at c.args.admitted.now.graph c.args.tables.now.nodes c.args.self.now.times.items c.args.item c.index.result.now c.requires.suits c.requires.item in
-    λ s _. frozen_same c.args.admitted.now.graph c.args.admitted.now.order c.args.tables.now.nodes c.args.item c.args.column.now c.in-Some.time (sym at ∙ c.in-Some.is) c.if-time-column.true s
+    let at = c.index.ensures ∙ time_at c.args.admitted.now.graph c.args.tables.now.nodes c.args.self.now.times.items
+    c.args.item c.index.result.now c.requires.suits c.requires.item in
+    λ s _. frozen_same c.args.admitted.now.graph c.args.admitted.now.order c.args.tables.now.nodes c.args.item
+    c.args.column.now c.in-Some.time (sym at ∙ c.in-Some.is) c.if-time-column.true s
 
 pub returns : goal.returns
 returns c =
-    let at = c.index.ensures ∙ time_at c.args.admitted.now.graph c.args.tables.now.nodes c.args.self.now.times.items c.args.item c.index.result.now c.requires.suits c.requires.item in
-    let first : IsFirst c.args.admitted.now.graph c.args.admitted.now.order (matches c.args.column.now.cube) c.in_ok-least.least =
+    let at = c.index.ensures ∙ time_at c.args.admitted.now.graph c.args.tables.now.nodes c.args.self.now.times.items
+    c.args.item c.index.result.now c.requires.suits c.requires.item in
+    let first : IsFirst c.args.admitted.now.graph c.args.admitted.now.order
+    (matches c.args.column.now.cube) c.in_ok-least.least =
     rw (← c.problem.ensures.problem) (c.in_ok-least.ensures.first c.args.admitted.now.order) in
-    frozen_first c.args.admitted.now.graph c.args.admitted.now.order c.args.tables.now.nodes c.args.item c.args.column.now c.in-Some.time
+    frozen_first c.args.admitted.now.graph c.args.admitted.now.order c.args.tables.now.nodes c.args.item
+    c.args.column.now c.in-Some.time
     (sym at ∙ c.in-Some.is) c.if-time-column.false c.in_ok-least.least first

@@ -13,47 +13,92 @@ use Rattle.cpg_check_time.proofs.inputs.WaitedInputsTimeJudge.least.Goals as goa
 
 pub least_delay-requires-clause-item : goal.least_delay-requires-clause-item
 least_delay-requires-clause-item c =
-    let is : c.producer-process.result ≡ producer c.args.admitted.now.graph c.args.item = c.producer-process.ensures.producer ∙ ap (λ h. producer h c.args.item) c.problem-problem.ensures.problem in
-    omega (arith, is, producer_within c.args.admitted.now.graph c.problem-problem.ensures.admitted.well_formed c.args.item c.requires.item)
+    let is : c.producer-process.result ≡ producer c.args.admitted.now.graph c.args.item =
+    c.producer-process.ensures.producer ∙ ap (λ h. producer h c.args.item) c.problem-problem.ensures.problem in
+    omega (
+      arith,
+      is,
+      producer_within c.args.admitted.now.graph c.problem-problem.ensures.admitted.well_formed c.args.item
+          c.requires.item,
+    )
 
 pub least_delay-requires-clause-delay : goal.least_delay-requires-clause-delay
 least_delay-requires-clause-delay c =
-    let is : c.producer-process.result ≡ producer c.args.admitted.now.graph c.args.item = c.producer-process.ensures.producer ∙ ap (λ h. producer h c.args.item) c.problem-problem.ensures.problem in
-    omega (arith, is, producer_within c.args.admitted.now.graph c.problem-problem.ensures.admitted.well_formed c.args.item c.requires.item)
+    let is : c.producer-process.result ≡ producer c.args.admitted.now.graph c.args.item =
+    c.producer-process.ensures.producer ∙ ap (λ h. producer h c.args.item) c.problem-problem.ensures.problem in
+    omega (
+      arith,
+      is,
+      producer_within c.args.admitted.now.graph c.problem-problem.ensures.admitted.well_formed c.args.item
+          c.requires.item,
+    )
 
 pub returns-then-item-processes : goal.returns-then-item-processes
 returns-then-item-processes c =
     let send : process_count c.args.admitted.now.graph ≤ c.args.item =
-    omega (arith, c.if-item-processes.true, ap length c.processes.ensures.processes, ap process_count c.problem-problem.ensures.problem) in
+    omega (
+      arith,
+      c.if-item-processes.true,
+      ap length c.processes.ensures.processes,
+      ap process_count c.problem-problem.ensures.problem,
+    ) in
     let found = rw (c.producer-process.ensures.producer, c.problem-problem.ensures.problem) at c.in_ok-least.ensures in
-    first_send c.problem-problem.ensures.admitted c.args.tables.now.nodes c.requires.suits.rules c.args.item c.args.column.now c.in_ok-least.least c.requires.item send c.requires.place found
+    first_send c.problem-problem.ensures.admitted c.args.tables.now.nodes c.requires.suits.rules c.args.item
+    c.args.column.now c.in_ok-least.least c.requires.item send c.requires.place found
 
 pub returns-then-column-release : goal.returns-then-column-release
 returns-then-column-release c =
     let g = c.args.admitted.now.graph in
-    let start : c.args.item < process_count g = omega (arith, c.if-item-processes.false, ap length c.processes.ensures.processes, ap process_count c.problem-problem.ensures.problem) in
+    let start : c.args.item < process_count g = omega (
+      arith,
+      c.if-item-processes.false,
+      ap length c.processes.ensures.processes,
+      ap process_count c.problem-problem.ensures.problem,
+    ) in
     let early : c.args.column.now.time < (process_at g c.args.item).release =
-    omega (arith, c.if-column-release.true, c.release.ensures, ap (λ h. (process_at h c.args.item).release) c.problem-problem.ensures.problem) in
+    omega (
+      arith,
+      c.if-column-release.true,
+      c.release.ensures,
+      ap (λ h. (process_at h c.args.item).release) c.problem-problem.ensures.problem,
+    ) in
     let first : IsFirst g c.args.admitted.now.order (matches c.args.column.now.cube) c.in_ok-least-2.least =
     rw (← c.problem-problem.ensures.problem) (c.in_ok-least-2.ensures.first c.args.admitted.now.order) in
-    first_released c.problem-problem.ensures.admitted c.args.tables.now.nodes c.requires.suits.rules c.args.item c.args.column.now c.in_ok-least-2.least start early first
+    first_released c.problem-problem.ensures.admitted c.args.tables.now.nodes c.requires.suits.rules c.args.item
+    c.args.column.now c.in_ok-least-2.least start early first
 
 pub least_of_lacking-requires-clause-edges : goal.least_of_lacking-requires-clause-edges
 least_of_lacking-requires-clause-edges c =
     let g = c.args.admitted.now.graph in
-    let is : c.inputs-edges.result.now ≡ inputs g c.args.item = c.inputs-edges.ensures.of_graph g c.requires.suits.links in
+    let is : c.inputs-edges.result.now ≡ inputs g c.args.item =
+    c.inputs-edges.ensures.of_graph g c.requires.suits.links in
     subst (All (λ e. e < edge_count g)) (sym is)
     (All-weaker (Contains (inputs g c.args.item)) (λ e. e < edge_count g)
-    (λ e k. numbers-Contains (edge_count g) e (Contains-filter_parts (λ e. target g e == c.args.item) (numbers_below (edge_count g)) e k).0)
+    (λ e k. numbers-Contains (edge_count g) e
+    (Contains-filter_parts (λ e. target g e == c.args.item) (numbers_below (edge_count g)) e k).0)
     (inputs g c.args.item) (All-contains_itself (inputs g c.args.item)))
 
 pub returns : goal.returns
 returns c =
     let g = c.args.admitted.now.graph in
-    let start : c.args.item < process_count g = omega (arith, c.if-item-processes.false, ap length c.processes.ensures.processes, ap process_count c.problem-problem.ensures.problem) in
+    let start : c.args.item < process_count g = omega (
+      arith,
+      c.if-item-processes.false,
+      ap length c.processes.ensures.processes,
+      ap process_count c.problem-problem.ensures.problem,
+    ) in
     let released : (process_at g c.args.item).release ≤ c.args.column.now.time =
-    omega (arith, c.if-column-release.false, c.release.ensures, ap (λ h. (process_at h c.args.item).release) c.problem-problem.ensures.problem) in
-    let is : c.inputs-edges.result.now ≡ inputs g c.args.item = c.inputs-edges.ensures.of_graph g c.requires.suits.links in
-    let first : IsFirst g c.args.admitted.now.order (λ s. list_any (λ e. lacks_input g c.args.tables.now.nodes c.args.column.now e s) (inputs g c.args.item)) c.in_ok-least-3.least =
+    omega (
+      arith,
+      c.if-column-release.false,
+      c.release.ensures,
+      ap (λ h. (process_at h c.args.item).release) c.problem-problem.ensures.problem,
+    ) in
+    let is : c.inputs-edges.result.now ≡ inputs g c.args.item =
+    c.inputs-edges.ensures.of_graph g c.requires.suits.links in
+    let first : IsFirst g c.args.admitted.now.order
+    (λ s. list_any (λ e. lacks_input g c.args.tables.now.nodes c.args.column.now e s) (inputs g c.args.item))
+    c.in_ok-least-3.least =
     rw (← is) c.in_ok-least-3.ensures in
-    first_input c.problem-problem.ensures.admitted c.args.tables.now.nodes c.requires.suits.rules c.args.item c.args.column.now c.in_ok-least-3.least start released first
+    first_input c.problem-problem.ensures.admitted c.args.tables.now.nodes c.requires.suits.rules c.args.item
+    c.args.column.now c.in_ok-least-3.least start released first

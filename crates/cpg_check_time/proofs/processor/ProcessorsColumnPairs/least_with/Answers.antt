@@ -16,8 +16,10 @@ returns-then-line-column c = λ s i.
     let line : IsLine (columns_of c.args.tables.now.nodes c.args.other) c.index-lines-other.result =
     subst (IsLine (columns_of c.args.tables.now.nodes c.args.other)) (sym c.index-lines-other.is)
     (c.requires.fits.each c.args.other c.index-lines-other.result (omega (arith, c.requires.other))) in
-    let longest : c.duration.result ≡ duration g c.args.item g.faults = rw (← c.problem-problem.ensures.problem) (rw c.faults.ensures.faults at c.duration.ensures.duration) in
-    starts_late g c.args.tables.now.nodes c.args.item c.args.column.now c.args.other c.problem-problem.ensures.admitted.limits.few_processes s i c.requires.item c.index-lines-other.result.first
+    let longest : c.duration.result ≡ duration g c.args.item g.faults =
+    rw (← c.problem-problem.ensures.problem) (rw c.faults.ensures.faults at c.duration.ensures.duration) in
+    starts_late g c.args.tables.now.nodes c.args.item c.args.column.now c.args.other
+    c.problem-problem.ensures.admitted.limits.few_processes s i c.requires.item c.index-lines-other.result.first
     line.first (omega (arith, c.if-line-column.true, longest))
 
 pub returns-then-saturating_add-column : goal.returns-then-saturating_add-column
@@ -26,9 +28,13 @@ returns-then-saturating_add-column c = λ s i.
     let line : IsLine (columns_of c.args.tables.now.nodes c.args.other) c.index-lines-other.result =
     subst (IsLine (columns_of c.args.tables.now.nodes c.args.other)) (sym c.index-lines-other.is)
     (c.requires.fits.each c.args.other c.index-lines-other.result (omega (arith, c.requires.other))) in
-    let longest : c.duration-longest.result ≡ duration g c.args.other g.faults = rw (← c.problem-problem.ensures.problem) (rw c.faults-2.ensures.faults at c.duration-longest.ensures.duration) in
-    ends_early g c.args.tables.now.nodes c.args.item c.args.column.now c.args.other c.problem-problem.ensures.admitted.limits.few_processes s i c.requires.other c.index-lines-other.result.last
-    line.last (omega (arith, c.if-saturating_add-column.true, c.saturating_add.ensures, c.requires.column.early, longest))
+    let longest : c.duration-longest.result ≡ duration g c.args.other g.faults =
+    rw (← c.problem-problem.ensures.problem)
+    (rw c.faults-2.ensures.faults at c.duration-longest.ensures.duration) in
+    ends_early g c.args.tables.now.nodes c.args.item c.args.column.now c.args.other
+    c.problem-problem.ensures.admitted.limits.few_processes s i c.requires.other c.index-lines-other.result.last
+    line.last
+    (omega (arith, c.if-saturating_add-column.true, c.saturating_add.ensures, c.requires.column.early, longest))
 
 pub least_near-requires-clause-columns : goal.least_near-requires-clause-columns
 least_near-requires-clause-columns c =
@@ -46,7 +52,8 @@ least_near-requires-clause-fits c = record {
 }
 
 pub least_near-requires-clause-near : goal.least_near-requires-clause-near
-least_near-requires-clause-near c = λ s d t. overlaps_both c.args.admitted.now.graph c.problem-problem.ensures.admitted.limits c.args.item c.requires.item c.args.column.now c.args.other d s t
+least_near-requires-clause-near c = λ s d t. overlaps_both c.args.admitted.now.graph
+    c.problem-problem.ensures.admitted.limits c.args.item c.requires.item c.args.column.now c.args.other d s t
 
 pub returns : goal.returns
 returns c =
@@ -55,7 +62,9 @@ returns c =
     let line : IsLine (columns_of c.args.tables.now.nodes c.args.other) c.index-lines-other.result =
     subst (IsLine (columns_of c.args.tables.now.nodes c.args.other)) (sym c.index-lines-other.is)
     (c.requires.fits.each c.args.other c.index-lines-other.result (omega (arith, c.requires.other))) in
-    let node : node_of g c.args.other ≡ node_of g c.args.item = rw (← c.problem-problem.ensures.problem) (sym c.node_of.ensures.node ∙ c.if-node_of.false ∙ c.node_of-2.ensures.node) in
-    let first : IsFirst g order (λ s. list_any (λ d. overlaps g c.args.item c.args.column.now c.args.other d s) (columns_of c.args.tables.now.nodes c.args.other)) c.in_ok-found.found =
+    let node : node_of g c.args.other ≡ node_of g c.args.item = rw (← c.problem-problem.ensures.problem)
+    (sym c.node_of.ensures.node ∙ c.if-node_of.false ∙ c.node_of-2.ensures.node) in
+    let first : IsFirst g order (λ s. list_any (λ d. overlaps g c.args.item c.args.column.now c.args.other d s)
+    (columns_of c.args.tables.now.nodes c.args.other)) c.in_ok-found.found =
     rw line.all at c.in_ok-found.ensures in
     other_node g c.args.tables.now.nodes c.args.item c.args.column.now c.args.other node order c.in_ok-found.found first

@@ -6,5 +6,11 @@ use Rattle.cpg_check_time.proofs.processor.ProcessorsTimeJudge.least.Goals as go
 pub returns : goal.returns
 returns c =
     let within : c.args.item < process_count c.args.admitted.now.graph =
-    omega (arith, c.if-item-processes.false, ap length c.processes.ensures.processes, ap process_count c.problem.ensures.problem) in
-    first_overlap c.args.admitted.now.graph c.args.admitted.now.order c.args.tables.now.nodes c.args.item within c.args.column.now c.in_ok-least.least c.in_ok-least.ensures
+    omega (
+      arith,
+      c.if-item-processes.false,
+      ap length c.processes.ensures.processes,
+      ap process_count c.problem.ensures.problem,
+    ) in
+    first_overlap c.args.admitted.now.graph c.args.admitted.now.order c.args.tables.now.nodes c.args.item within
+    c.args.column.now c.in_ok-least.least c.in_ok-least.ensures

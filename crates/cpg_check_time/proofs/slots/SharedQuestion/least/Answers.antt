@@ -2,4 +2,5 @@ use Rattle.cpg_check_time.proofs.SlotLaws.{share_where}
 use Rattle.cpg_check_time.proofs.slots.SharedQuestion.least.Goals as goal
 
 pub returns-clause-first : goal.returns-clause-first
-returns-clause-first c = λ order. share_where c.args.problem.now c.args.self.now.column.now c.args.beside.now c.if-beside-column.false order c.in_ok-found.found (c.in_ok-found.ensures.first order)
+returns-clause-first c = λ order. share_where c.args.problem.now c.args.self.now.column.now c.args.beside.now
+    c.if-beside-column.false order c.in_ok-found.found (c.in_ok-found.ensures.first order)

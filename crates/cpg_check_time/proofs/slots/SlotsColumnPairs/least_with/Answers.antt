@@ -12,19 +12,24 @@ use Rattle.cpg_check_time.proofs.slots.SlotsColumnPairs.least_with.Goals as goal
 pub returns-then-column-line : goal.returns-then-column-line
 returns-then-column-line c = λ s _.
     let line : IsLine (columns_of c.args.tables.now.nodes c.args.other) c.index-lines-other.result =
-    subst (IsLine (columns_of c.args.tables.now.nodes c.args.other)) (sym c.index-lines-other.is) (c.requires.fits.each c.args.other c.index-lines-other.result c.requires.other) in
-    all_later c.args.admitted.now.graph c.args.tables.now.nodes c.args.item c.args.column.now c.args.other c.index-lines-other.result.first line.first c.if-column-line.true s
+    subst (IsLine (columns_of c.args.tables.now.nodes c.args.other)) (sym c.index-lines-other.is)
+    (c.requires.fits.each c.args.other c.index-lines-other.result c.requires.other) in
+    all_later c.args.admitted.now.graph c.args.tables.now.nodes c.args.item c.args.column.now c.args.other
+    c.index-lines-other.result.first line.first c.if-column-line.true s
 
 pub returns-then-line-column : goal.returns-then-line-column
 returns-then-line-column c = λ s _.
     let line : IsLine (columns_of c.args.tables.now.nodes c.args.other) c.index-lines-other.result =
-    subst (IsLine (columns_of c.args.tables.now.nodes c.args.other)) (sym c.index-lines-other.is) (c.requires.fits.each c.args.other c.index-lines-other.result c.requires.other) in
-    all_earlier c.args.admitted.now.graph c.args.tables.now.nodes c.args.item c.args.column.now c.args.other c.index-lines-other.result.last line.last c.if-line-column.true s
+    subst (IsLine (columns_of c.args.tables.now.nodes c.args.other)) (sym c.index-lines-other.is)
+    (c.requires.fits.each c.args.other c.index-lines-other.result c.requires.other) in
+    all_earlier c.args.admitted.now.graph c.args.tables.now.nodes c.args.item c.args.column.now c.args.other
+    c.index-lines-other.result.last line.last c.if-line-column.true s
 
 pub least_near-requires-clause-columns : goal.least_near-requires-clause-columns
 least_near-requires-clause-columns c =
     let line : IsLine (columns_of c.args.tables.now.nodes c.args.other) c.index-lines-other.result =
-    subst (IsLine (columns_of c.args.tables.now.nodes c.args.other)) (sym c.index-lines-other.is) (c.requires.fits.each c.args.other c.index-lines-other.result c.requires.other) in
+    subst (IsLine (columns_of c.args.tables.now.nodes c.args.other)) (sym c.index-lines-other.is)
+    (c.requires.fits.each c.args.other c.index-lines-other.result c.requires.other) in
     rw line.all (columns_are c.problem-problem.ensures.admitted c.args.tables.now.nodes c.requires.lawful c.args.other)
 
 pub least_near-requires-clause-fits : goal.least_near-requires-clause-fits
@@ -38,9 +43,15 @@ returns c =
     let g = c.args.admitted.now.graph in
     let order = c.args.admitted.now.order in
     let line : IsLine (columns_of c.args.tables.now.nodes c.args.other) c.index-lines-other.result =
-    subst (IsLine (columns_of c.args.tables.now.nodes c.args.other)) (sym c.index-lines-other.is) (c.requires.fits.each c.args.other c.index-lines-other.result c.requires.other) in
-    let sent : is_sent g c.args.other ≡ true = rw (← c.problem-problem.ensures.problem) (sym c.if-not-is_sent.ensures) in
-    let node : home g c.args.other ≡ home g c.args.item = rw (← c.problem-problem.ensures.problem) (sym c.home.ensures.home ∙ c.if-home.false ∙ c.home-2.ensures.home) in
-    let first : IsFirst g order (λ s. list_any (λ d. shares c.args.column.now d s) (columns_of c.args.tables.now.nodes c.args.other)) c.in_ok-found.found =
+    subst (IsLine (columns_of c.args.tables.now.nodes c.args.other)) (sym c.index-lines-other.is)
+    (c.requires.fits.each c.args.other c.index-lines-other.result c.requires.other) in
+    let sent : is_sent g c.args.other ≡ true =
+    rw (← c.problem-problem.ensures.problem) (sym c.if-not-is_sent.ensures) in
+    let node : home g c.args.other ≡ home g c.args.item =
+    rw (← c.problem-problem.ensures.problem) (sym c.home.ensures.home ∙ c.if-home.false ∙ c.home-2.ensures.home) in
+    let first : IsFirst g order
+    (λ s. list_any (λ d. shares c.args.column.now d s) (columns_of c.args.tables.now.nodes c.args.other))
+    c.in_ok-found.found =
     rw line.all at c.in_ok-found.ensures in
-    other_item g c.args.tables.now.nodes c.args.item c.args.column.now c.args.other sent node order c.in_ok-found.found first
+    other_item g c.args.tables.now.nodes c.args.item c.args.column.now c.args.other sent node order
+    c.in_ok-found.found first

@@ -11,14 +11,19 @@ returns-then-not-is_slot_start c =
     let g = c.args.admitted.now.graph in
     let problem = c.problem-problem.ensures.problem in
     let sent : is_sent g c.args.item ≡ true = rw (← problem) (sym c.if-not-is_sent.ensures) in
-    let no : (next_slot g (home g c.args.item) c.args.column.now.time == c.args.column.now.time) ≡ false = rw (← problem, ← c.home.ensures.home) (sym c.if-not-is_slot_start.ensures) in
-    let first : IsFirst g c.args.admitted.now.order (matches c.args.column.now.cube) c.in_ok-least.least = rw (← problem) (c.in_ok-least.ensures.first c.args.admitted.now.order) in
-    first_no_start g c.args.admitted.now.order c.args.tables.now.nodes c.args.item c.args.column.now sent (λ e. true≢false (sym (eq-eqb _ _ e) ∙ no)) c.in_ok-least.least first
+    let no : (next_slot g (home g c.args.item) c.args.column.now.time == c.args.column.now.time) ≡ false =
+    rw (← problem, ← c.home.ensures.home) (sym c.if-not-is_slot_start.ensures) in
+    let first : IsFirst g c.args.admitted.now.order (matches c.args.column.now.cube) c.in_ok-least.least =
+    rw (← problem) (c.in_ok-least.ensures.first c.args.admitted.now.order) in
+    first_no_start g c.args.admitted.now.order c.args.tables.now.nodes c.args.item c.args.column.now sent
+    (λ e. true≢false (sym (eq-eqb _ _ e) ∙ no)) c.in_ok-least.least first
 
 pub returns : goal.returns
 returns c =
     let g = c.args.admitted.now.graph in
     let problem = c.problem-problem.ensures.problem in
     let sent : is_sent g c.args.item ≡ true = rw (← problem) (sym c.if-not-is_sent.ensures) in
-    let start : next_slot g (home g c.args.item) c.args.column.now.time ≡ c.args.column.now.time = eqb-true _ _ (rw (← problem, ← c.home.ensures.home) (sym c.if-not-is_slot_start.ensures)) in
-    first_shared g c.args.admitted.now.order c.args.tables.now.nodes c.args.item c.args.column.now sent start c.in_ok-least-2.least c.in_ok-least-2.ensures
+    let start : next_slot g (home g c.args.item) c.args.column.now.time ≡ c.args.column.now.time =
+    eqb-true _ _ (rw (← problem, ← c.home.ensures.home) (sym c.if-not-is_slot_start.ensures)) in
+    first_shared g c.args.admitted.now.order c.args.tables.now.nodes c.args.item c.args.column.now sent start
+    c.in_ok-least-2.least c.in_ok-least-2.ensures

@@ -2,12 +2,17 @@ use Rattle.std.proofs.Common.{◌≡◌, ◌+◌, refl, sym, ap, arith, length, 
 use Rattle.std.proofs.lemmas.List.{length-map}
 use Rattle.cpg_cluster.specs.Playing.{Playing}
 use Rattle.cpg_cluster.specs.declared.member.Member.{Member}
-use Rattle.cpg_cluster.proofs.Driven.{IsChoosing, choosing_none, took_state, took_waits, waits_more, done_more, none_state, none_waits, none_took}
+use Rattle.cpg_cluster.proofs.Driven.{IsChoosing, choosing_none, took_state, took_waits, waits_more, done_more}
+use Rattle.cpg_cluster.proofs.Driven.{none_state, none_waits, none_took}
 use Rattle.cpg_cluster.proofs.cluster.Cluster.choose.Goals as goal
 use Rattle.cpg_cluster.proofs.cluster.Cluster.choose.Goals.{in-Waits, in-Done}
 
 pub loop-asked-init : goal.loop-asked-init
-loop-asked-init c = record { same = refl; choosing = choosing_none c.args.self.now.graph c.args.self.now.world c.args.self.now.cluster c.len-nodes.result c.args.first }
+loop-asked-init c = record {
+  same = refl;
+  choosing =
+      choosing_none c.args.self.now.graph c.args.self.now.world c.args.self.now.cluster c.len-nodes.result c.args.first;
+}
 
 count-t : (c : goal.In-Took) → c.len-nodes.result ≡ length c.args.self.now.graph.nodes
 count-t c = omega (
@@ -19,12 +24,14 @@ count-t c = omega (
 )
 
 pub returns-in-Took-clause-state : goal.returns-in-Took-clause-state
-returns-in-Took-clause-state c = took_state c.args.self.now c.loop-asked.self c.step.new.self c.len-nodes.result c.args.first c.loop-asked.asked c.loop-asked.waits
+returns-in-Took-clause-state c = took_state c.args.self.now c.loop-asked.self c.step.new.self c.len-nodes.result
+    c.args.first c.loop-asked.asked c.loop-asked.waits
     (count-t c) c.loop-asked.invariant.same c.in-Took.ensures.step
     c.loop-asked.invariant.choosing c.loop-asked-test.true c.in-Took.ensures.answer
 
 pub returns-in-Took-clause-waits : goal.returns-in-Took-clause-waits
-returns-in-Took-clause-waits c = took_waits c.args.self.now c.loop-asked.self c.step.new.self c.len-nodes.result c.args.first c.loop-asked.asked c.loop-asked.waits
+returns-in-Took-clause-waits c = took_waits c.args.self.now c.loop-asked.self c.step.new.self c.len-nodes.result
+    c.args.first c.loop-asked.asked c.loop-asked.waits
     (count-t c) c.loop-asked.invariant.same c.in-Took.ensures.step
     c.loop-asked.invariant.choosing c.loop-asked-test.true c.in-Took.ensures.answer
 
@@ -40,21 +47,25 @@ count-j c = omega (
 pub loop-asked-preserved : goal.loop-asked-preserved
 loop-asked-preserved c = elim c.match-step.branch [
   | in-Waits w ↦
-      let r = waits_more c.args.self.now c.loop-asked.self c.step.new.self c.len-nodes.result c.args.first c.loop-asked.asked c.loop-asked.waits
+      let r = waits_more c.args.self.now c.loop-asked.self c.step.new.self c.len-nodes.result c.args.first
+      c.loop-asked.asked c.loop-asked.waits
       (count-j c) c.loop-asked.invariant.same c.step.ensures.step
       c.loop-asked.invariant.choosing c.loop-asked-test.true w.in-Waits.on (w.in-Waits.ensures.answer) in
       record {
         same = r.0;
-        choosing = subst (λ n. IsChoosing c.args.self.now.graph c.args.self.now.world c.args.self.now.cluster c.len-nodes.result c.args.first (c.loop-asked.asked + 1) n)
+        choosing = subst (λ n. IsChoosing c.args.self.now.graph c.args.self.now.world c.args.self.now.cluster
+            c.len-nodes.result c.args.first (c.loop-asked.asked + 1) n)
             (sym w.waits-is) r.1;
       }
   | in-Done w ↦
-      let r = done_more c.args.self.now c.loop-asked.self c.step.new.self c.len-nodes.result c.args.first c.loop-asked.asked c.loop-asked.waits
+      let r = done_more c.args.self.now c.loop-asked.self c.step.new.self c.len-nodes.result c.args.first
+      c.loop-asked.asked c.loop-asked.waits
       (count-j c) c.loop-asked.invariant.same c.step.ensures.step
       c.loop-asked.invariant.choosing c.loop-asked-test.true (w.in-Done.ensures.answer) in
       record {
         same = r.0;
-        choosing = subst (λ n. IsChoosing c.args.self.now.graph c.args.self.now.world c.args.self.now.cluster c.len-nodes.result c.args.first (c.loop-asked.asked + 1) n)
+        choosing = subst (λ n. IsChoosing c.args.self.now.graph c.args.self.now.world c.args.self.now.cluster
+            c.len-nodes.result c.args.first (c.loop-asked.asked + 1) n)
             (sym w.waits-is) r.1;
       }
 ]
@@ -69,13 +80,16 @@ count-n c = omega (
 )
 
 pub returns-clause-state : goal.returns-clause-state
-returns-clause-state c = none_state c.args.self.now c.loop-asked.self c.len-nodes.result c.args.first c.loop-asked.asked c.loop-asked.waits
+returns-clause-state c =
+    none_state c.args.self.now c.loop-asked.self c.len-nodes.result c.args.first c.loop-asked.asked c.loop-asked.waits
     (count-n c) c.loop-asked.invariant.same c.loop-asked.invariant.choosing c.loop-asked-test.false
 
 pub returns-clause-waits : goal.returns-clause-waits
-returns-clause-waits c = none_waits c.args.self.now c.loop-asked.self c.len-nodes.result c.args.first c.loop-asked.asked c.loop-asked.waits
+returns-clause-waits c =
+    none_waits c.args.self.now c.loop-asked.self c.len-nodes.result c.args.first c.loop-asked.asked c.loop-asked.waits
     (count-n c) c.loop-asked.invariant.same c.loop-asked.invariant.choosing c.loop-asked-test.false
 
 pub returns-clause-nearer : goal.returns-clause-nearer
-returns-clause-nearer c e = absurd (none_took c.args.self.now c.loop-asked.self c.len-nodes.result c.args.first c.loop-asked.asked c.loop-asked.waits
+returns-clause-nearer c e = absurd
+    (none_took c.args.self.now c.loop-asked.self c.len-nodes.result c.args.first c.loop-asked.asked c.loop-asked.waits
     (count-n c) c.loop-asked.invariant.same c.loop-asked.invariant.choosing c.loop-asked-test.false e)

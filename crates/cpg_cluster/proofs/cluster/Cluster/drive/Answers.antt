@@ -1,4 +1,5 @@
-use Rattle.std.proofs.Common.{◌/◌, ◌%◌, ◌^◌, ◌*◌, ◌+◌, ◌≡◌, ◌<◌, ◌≤◌, refl, sym, ap, ◌∙◌, arith, length, subst, List, true}
+use Rattle.std.proofs.Common.{◌/◌, ◌%◌, ◌^◌, ◌*◌, ◌+◌, ◌≡◌, ◌<◌, ◌≤◌, refl, sym, ap, ◌∙◌, arith, length, subst, List}
+use Rattle.std.proofs.Common.{true}
 use Rattle.std.specs.Prelude.{is_some}
 use Rattle.std.specs.List.{list_any}
 use Rattle.std.proofs.Math.Nat.{mod-lt}
@@ -14,11 +15,17 @@ use Rattle.cpg_cluster.proofs.Drives.{driving_none, driving_done, takes_at, left
 use Rattle.cpg_cluster.proofs.cluster.Cluster.drive.Goals as goal
 
 pub loop-self-init : goal.loop-self-init
-loop-self-init c = record { same = refl; driving = driving_none c.args.self.now.graph c.args.self.now.world c.args.number c.args.self.now.cluster; spent = omega arith }
+loop-self-init c = record {
+  same = refl;
+  driving = driving_none c.args.self.now.graph c.args.self.now.world c.args.number c.args.self.now.cluster;
+  spent = omega arith;
+}
 
 -- some node isn't done
-left : (c : goal.After-choose-waits) → list_any (λ (m : Member). is_some (next m.node.dispatcher)) c.self-in-loop-self.inside.members.items ≡ true
-left c = sym (c.loop-self-test.ensures.left ∙ ap (list_any (λ (m : Member). is_some (next m.node.dispatcher))) c.as_slice.ensures.value)
+left : (c : goal.After-choose-waits) →
+    list_any (λ (m : Member). is_some (next m.node.dispatcher)) c.self-in-loop-self.inside.members.items ≡ true
+left c = sym (c.loop-self-test.ensures.left
+    ∙ ap (list_any (λ (m : Member). is_some (next m.node.dispatcher))) c.as_slice.ensures.value)
 
 count : (c : goal.After-choose-waits) → c.len-nodes.result ≡ length c.loop-self.self.graph.nodes
 count c = omega (
@@ -46,16 +53,21 @@ nearer : (c : goal.After-choose-waits) → remaining c.choose-waits.new.self.clu
 nearer c =
     let n = c.self-in-loop-self.inside in
     let v = c.self-in-loop-self.invariant in
-    c.choose-waits.ensures.nearer (takes_at n.problem (record { scenario = n.scenario; lengths = n.lengths }) n.members.items c.loop-self.self c.self-in-loop-self.view_is v.playing (left c) _
-    (subst (λ n. (c.next_number-drawn.result / 2 ^ 33) % c.len-nodes.result < n) (count c) (mod-lt (c.next_number-drawn.result / 2 ^ 33) (some c))))
+    c.choose-waits.ensures.nearer (takes_at n.problem (record { scenario = n.scenario; lengths = n.lengths })
+    n.members.items c.loop-self.self c.self-in-loop-self.view_is v.playing (left c) _
+    (subst (λ n. (c.next_number-drawn.result / 2 ^ 33) % c.len-nodes.result < n) (count c)
+    (mod-lt (c.next_number-drawn.result / 2 ^ 33) (some c))))
 
-spent : (c : goal.After-choose-waits) → c.loop-self.waits + c.choose-waits.result + 16 * remaining c.choose-waits.new.self.cluster ≤ 16 * remaining c.args.self.now.cluster
+spent : (c : goal.After-choose-waits) →
+    c.loop-self.waits + c.choose-waits.result + 16 * remaining c.choose-waits.new.self.cluster
+    ≤ 16 * remaining c.args.self.now.cluster
 spent c = omega (
   arith,
   nearer c,
   c.loop-self.invariant.spent,
   c.choose-waits.ensures.waits,
-  few_of_circle c.loop-self.self.graph c.loop-self.self.world c.loop-self.self.cluster (length c.loop-self.self.graph.nodes) ((c.next_number-drawn.result / 2 ^ 33) % c.len-nodes.result),
+  few_of_circle c.loop-self.self.graph c.loop-self.self.world c.loop-self.self.cluster
+      (length c.loop-self.self.graph.nodes) ((c.next_number-drawn.result / 2 ^ 33) % c.len-nodes.result),
   count c,
   c.len-nodes.ensures,
   c.self.invariant.few,
@@ -64,7 +76,12 @@ spent c = omega (
 pub overflow_add-waits : goal.overflow_add-waits
 overflow_add-waits c =
     let n = c.self.inside in
-    omega (arith, spent c, most_at n.problem (record { scenario = n.scenario; lengths = n.lengths }) n.members.items c.args.self.now c.self.view_is c.self.invariant.playing c.self.invariant.few)
+    omega (
+      arith,
+      spent c,
+      most_at n.problem (record { scenario = n.scenario; lengths = n.lengths }) n.members.items c.args.self.now
+          c.self.view_is c.self.invariant.playing c.self.invariant.few,
+    )
 
 pub loop-self-smaller : goal.loop-self-smaller
 loop-self-smaller c = nearer c
@@ -73,21 +90,29 @@ pub loop-self-preserved : goal.loop-self-preserved
 loop-self-preserved c =
     let n = c.self-in-loop-self.inside in
     let v = c.self-in-loop-self.invariant in
-    let r = drive_step c.args.self.now c.loop-self.self c.choose-waits.new.self c.args.number c.loop-self.drawn c.loop-self.waits c.next_number-drawn.result _ c.choose-waits.result
+    let r = drive_step c.args.self.now c.loop-self.self c.choose-waits.new.self c.args.number c.loop-self.drawn
+    c.loop-self.waits c.next_number-drawn.result _ c.choose-waits.result
     c.loop-self.invariant.same c.loop-self.invariant.driving
-    (left_at n.problem (record { scenario = n.scenario; lengths = n.lengths }) n.members.items c.loop-self.self c.self-in-loop-self.view_is v.playing (left c)) c.next_number-drawn.ensures
-    (ap (λ n. (c.next_number-drawn.result / 2 ^ 33) % n) (count c)) c.choose-waits.ensures.state c.choose-waits.ensures.waits in
+    (left_at n.problem (record { scenario = n.scenario; lengths = n.lengths }) n.members.items c.loop-self.self
+    c.self-in-loop-self.view_is v.playing (left c)) c.next_number-drawn.ensures
+    (ap (λ n. (c.next_number-drawn.result / 2 ^ 33) % n) (count c)) c.choose-waits.ensures.state
+    c.choose-waits.ensures.waits in
     record { same = r.0; driving = r.1; spent = spent c }
 
 pub returns-clause-driven : goal.returns-clause-driven
 returns-clause-driven c =
     let n = c.self-in-loop-self.inside in
     let v = c.self-in-loop-self.invariant in
-    driving_done c.args.self.now.graph c.args.self.now.world c.args.number c.args.self.now.cluster c.loop-self.self.cluster c.loop-self.drawn c.loop-self.waits c.loop-self.invariant.driving
-    (subst (λ (g : Graph). AllDone g c.loop-self.self.cluster) (ap (λ (p : Playing). p.graph) c.loop-self.invariant.same)
-    (done_at n.problem (record { scenario = n.scenario; lengths = n.lengths }) n.members.items c.loop-self.self c.self-in-loop-self.view_is v.playing
-    (sym (c.loop-self-test.ensures.left ∙ ap (list_any (λ (m : Member). is_some (next m.node.dispatcher))) c.as_slice.ensures.value))))
+    driving_done c.args.self.now.graph c.args.self.now.world c.args.number c.args.self.now.cluster
+    c.loop-self.self.cluster c.loop-self.drawn c.loop-self.waits c.loop-self.invariant.driving
+    (subst (λ (g : Graph). AllDone g c.loop-self.self.cluster)
+    (ap (λ (p : Playing). p.graph) c.loop-self.invariant.same)
+    (done_at n.problem (record { scenario = n.scenario; lengths = n.lengths }) n.members.items c.loop-self.self
+    c.self-in-loop-self.view_is v.playing
+    (sym (c.loop-self-test.ensures.left
+    ∙ ap (list_any (λ (m : Member). is_some (next m.node.dispatcher))) c.as_slice.ensures.value))))
 
 pub returns-clause-whole : goal.returns-clause-whole
-returns-clause-whole c = whole_play c.args.self.now c.loop-self.self c.loop-self.invariant.same (subst IsPlaying c.self-in-loop-self.view_is c.self-in-loop-self.invariant.playing)
+returns-clause-whole c = whole_play c.args.self.now c.loop-self.self c.loop-self.invariant.same
+    (subst IsPlaying c.self-in-loop-self.view_is c.self-in-loop-self.invariant.playing)
     (returns-clause-driven c).done

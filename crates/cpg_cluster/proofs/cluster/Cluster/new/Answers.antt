@@ -8,5 +8,6 @@ pub with_lengths-requires-clause-world : goal.with_lengths-requires-clause-world
 with_lengths-requires-clause-world c =
     let g = c.args.admitted.now.graph in
     let s = c.args.scenario.now in
-    subst (λ (ls : List ℕ). IsWorld g (record { scenario = s; lengths = ls })) (sym (c.in_ok-lengths.ensures ∙ ap (λ g. full_lengths g s) c.problem.ensures.problem))
+    subst (λ (ls : List ℕ). IsWorld g (record { scenario = s; lengths = ls }))
+    (sym (c.in_ok-lengths.ensures ∙ ap (λ g. full_lengths g s) c.problem.ensures.problem))
     (full_world g s c.problem.ensures.admitted.well_formed c.requires.scenario)

@@ -15,7 +15,8 @@ use Rattle.cpg_cluster.specs.Driving.{remaining}
 use Rattle.cpg_cluster.proofs.Answering.{takes_at, all_at}
 use Rattle.cpg_cluster.proofs.Between.{dispatcher_is}
 use Rattle.cpg_cluster.proofs.Noted.{all_noted, hears_there}
-use Rattle.cpg_cluster.proofs.Stepping.{indexed, asked, waits_step, own_all, finish_all, ready_next, frames_fit, turn_may, acts_fit, ends_fit, reports_fit, play_then, playing_then, nearer_then}
+use Rattle.cpg_cluster.proofs.Stepping.{indexed, asked, waits_step, own_all, finish_all, ready_next, frames_fit}
+use Rattle.cpg_cluster.proofs.Stepping.{turn_may, acts_fit, ends_fit, reports_fit, play_then, playing_then, nearer_then}
 use Rattle.cpg_cluster.proofs.Stepping.{fits_then, heard_then}
 use Rattle.cpg_cluster.proofs.cluster.Cluster.step.Goals as goal
 
@@ -27,9 +28,17 @@ waited_on-requires-clause-indexed c =
     let n = c.self.inside in
     let v = c.self.invariant in
     let m = c.index-member.result.now in
-    subst (λ (ms : List Member). AreIndexed m.node.dispatcher.table.hears m.senders.items (length ms) m.arrivals.items) (sym c.as_slice.ensures.value)
-    (indexed n.problem (record { scenario = n.scenario; lengths = n.lengths }) n.members.items v.playing v.members c.args.node m c.index-member.ensures
-    (omega (arith, c.requires, ap (λ (p : Playing). length p.graph.nodes) c.self.view_is, v.playing.shape.count, length-map n.members.items (λ (m : Member). m.node.dispatcher.table))))
+    subst (λ (ms : List Member). AreIndexed m.node.dispatcher.table.hears m.senders.items (length ms) m.arrivals.items)
+    (sym c.as_slice.ensures.value)
+    (indexed n.problem (record { scenario = n.scenario; lengths = n.lengths }) n.members.items v.playing v.members
+    c.args.node m c.index-member.ensures
+    (omega (
+      arith,
+      c.requires,
+      ap (λ (p : Playing). length p.graph.nodes) c.self.view_is,
+      v.playing.shape.count,
+      length-map n.members.items (λ (m : Member). m.node.dispatcher.table),
+    )))
 
 -- A node that waits.
 
@@ -45,29 +54,37 @@ within-w c = omega (
 comes-w : (c : goal.In-Some-waited_on) → next c.index-member.result.now.node.dispatcher ≡ Some c.in-Some.time
 comes-w c = sym c.next.ensures.next ∙ c.in-Some.is
 
-waits : (c : goal.In-Some-waited_on) → Waits c.in-Some-waited_on.on ≡ answer c.self.inside.problem (cluster_of c.self.inside.members.items) c.args.node
+waits : (c : goal.In-Some-waited_on) →
+    Waits c.in-Some-waited_on.on ≡ answer c.self.inside.problem (cluster_of c.self.inside.members.items) c.args.node
 waits c =
     let n = c.self.inside in
     let v = c.self.invariant in
-    asked n.problem (record { scenario = n.scenario; lengths = n.lengths }) n.members.items v.playing v.members c.args.node c.index-member.result.now c.index-member.ensures
+    asked n.problem (record { scenario = n.scenario; lengths = n.lengths }) n.members.items v.playing v.members
+    c.args.node c.index-member.result.now c.index-member.ensures
     (within-w c) c.in-Some.time (comes-w c) (Waits c.in-Some-waited_on.on) c.index-member.result.now
     (sym (ap answer_if c.in-Some-waited_on.is) ∙ c.waited_on.ensures c.index-member.result.now ∙
-    ap (λ (ms : List Member). answer_by (filter (λ b. waits_between c.in-Some.time c.index-member.result.now b (get_or ms b c.index-member.result.now)) (numbers_below (length ms))))
+    ap (λ (ms : List Member). answer_by (filter (λ b. waits_between c.in-Some.time c.index-member.result.now b
+    (get_or ms b c.index-member.result.now)) (numbers_below (length ms))))
     c.as_slice.ensures.value)
 
 pub returns-in-Some-waited_on-clause-answer : goal.returns-in-Some-waited_on-clause-answer
-returns-in-Some-waited_on-clause-answer c = waits c ∙ ap (λ (p : Playing). answer p.graph p.cluster c.args.node) c.self.view_is
+returns-in-Some-waited_on-clause-answer c =
+    waits c ∙ ap (λ (p : Playing). answer p.graph p.cluster c.args.node) c.self.view_is
 
 pub returns-in-Some-waited_on-clause-step : goal.returns-in-Some-waited_on-clause-step
 returns-in-Some-waited_on-clause-step c =
     let n = c.self.inside in
     let v = c.self.invariant in
-    subst (λ (p : Playing). p ≡ stepped p c.args.node) c.self.view_is (ap (λ (d : Cluster). record (playing_of n) { cluster = d })
-    (sym (waits_step n.problem (record { scenario = n.scenario; lengths = n.lengths }) n.members.items v.playing v.members c.args.node c.index-member.result.now c.index-member.ensures
+    subst (λ (p : Playing). p ≡ stepped p c.args.node) c.self.view_is
+    (ap (λ (d : Cluster). record (playing_of n) { cluster = d })
+    (sym (waits_step n.problem (record { scenario = n.scenario; lengths = n.lengths }) n.members.items v.playing
+    v.members c.args.node c.index-member.result.now c.index-member.ensures
     (within-w c) c.in-Some.time (comes-w c) c.in-Some-waited_on.on (waits c))))
 
 pub returns-in-Some-waited_on-clause-nearer : goal.returns-in-Some-waited_on-clause-nearer
-returns-in-Some-waited_on-clause-nearer c e = let x : Waits c.in-Some-waited_on.on ≡ Took = waits c ∙ ap (λ (p : Playing). answer p.graph p.cluster c.args.node) c.self.view_is ∙ e in cc
+returns-in-Some-waited_on-clause-nearer c e = let x : Waits c.in-Some-waited_on.on ≡ Took =
+    waits c ∙ ap (λ (p : Playing). answer p.graph p.cluster c.args.node) c.self.view_is ∙ e in
+    cc
 
 -- A node that takes its turn.
 
@@ -87,30 +104,38 @@ pub gather_frames-requires-clause-items : goal.gather_frames-requires-clause-ite
 gather_frames-requires-clause-items c =
     let n = c.self.inside in
     let v = c.self.invariant in
-    subst (λ (rows : List Row). All (λ (row : Row). row.item < item_count n.problem) rows) (sym (c.hears.ensures.hears ∙ ap (λ (t : NodeTable). t.hears) c.table.ensures))
-    (hears_there n.problem (record { scenario = n.scenario; lengths = n.lengths }) n.members.items v.playing c.args.node c.index-member.result.now c.index-member.ensures (within-f c))
+    subst (λ (rows : List Row). All (λ (row : Row). row.item < item_count n.problem) rows)
+    (sym (c.hears.ensures.hears ∙ ap (λ (t : NodeTable). t.hears) c.table.ensures))
+    (hears_there n.problem (record { scenario = n.scenario; lengths = n.lengths }) n.members.items v.playing c.args.node
+    c.index-member.result.now c.index-member.ensures (within-f c))
 
 pub gather_frames-requires-clause-noted : goal.gather_frames-requires-clause-noted
 gather_frames-requires-clause-noted c =
     let n = c.self.inside in
     let v = c.self.invariant in
-    subst (λ (ms : List Member). (i x : ℕ) (d : Member) → i < length ms → x < item_count n.problem → HasNoted (get_or ms i d) x) (sym c.as_slice-2.ensures.value)
+    subst (λ (ms : List Member). (i x : ℕ) (d : Member) → i < length ms → x < item_count n.problem →
+    HasNoted (get_or ms i d) x) (sym c.as_slice-2.ensures.value)
     (all_noted n.problem (record { scenario = n.scenario; lengths = n.lengths }) n.members.items v.playing v.members)
 
 pub gather_frames-requires-clause-room : goal.gather_frames-requires-clause-room
 gather_frames-requires-clause-room c =
     let n = c.self.inside in
     let v = c.self.invariant in
-    let is : frames_by n.problem n.scenario.values c.as_slice-2.result.now c.in-Some.time c.hears.result.now c.as_slice-3.result.now
-    ≡ frames_by n.problem n.scenario.values n.members.items c.in-Some.time c.index-member.result.now.node.dispatcher.table.hears c.index-member.result.now.senders.items =
-    (λ i. frames_by n.problem n.scenario.values (c.as_slice-2.ensures.value i) c.in-Some.time ((c.hears.ensures.hears ∙ ap (λ (t : NodeTable). t.hears) c.table.ensures) i)
+    let is : frames_by n.problem n.scenario.values c.as_slice-2.result.now c.in-Some.time c.hears.result.now
+    c.as_slice-3.result.now
+    ≡ frames_by n.problem n.scenario.values n.members.items c.in-Some.time
+    c.index-member.result.now.node.dispatcher.table.hears c.index-member.result.now.senders.items =
+    (λ i. frames_by n.problem n.scenario.values (c.as_slice-2.ensures.value i) c.in-Some.time
+    ((c.hears.ensures.hears ∙ ap (λ (t : NodeTable). t.hears) c.table.ensures) i)
     (c.as_slice-3.ensures.value i)) in
     omega (
       arith,
       ap (λ (l : List Frame). length l) is,
-      frames_fit n.problem (record { scenario = n.scenario; lengths = n.lengths }) n.members.items v.playing v.members c.args.node c.index-member.result.now c.index-member.ensures
+      frames_fit n.problem (record { scenario = n.scenario; lengths = n.lengths }) n.members.items v.playing v.members
+          c.args.node c.index-member.result.now c.index-member.ensures
           (within-f c) c.in-Some.time (comes-f c),
-      subst (λ (m : Member). length m.node.dispatcher.table.hears ≤ vec_capacity n.frames) (sym c.index-member.ensures) (v.frames c.args.node c.index-member.result.now (within-f c)),
+      subst (λ (m : Member). length m.node.dispatcher.table.hears ≤ vec_capacity n.frames) (sym c.index-member.ensures)
+          (v.frames c.args.node c.index-member.result.now (within-f c)),
     )
 
 within-t : (c : goal.After-as_slice-4) → c.args.node < length c.self.inside.members.items
@@ -126,78 +151,93 @@ comes-t : (c : goal.After-as_slice-4) → next c.index-member.result.now.node.di
 comes-t c = sym c.next.ensures.next ∙ c.in-Some.is
 
 same-t : (c : goal.After-as_slice-4) → c.index_mut-member.result.now ≡ c.index-member.result.now
-same-t c = c.index_mut-member.ensures.value ∙ get_or_default c.self.inside.members.items c.args.node c.index_mut-member.result.now c.index-member.result.now (within-t c) ∙ sym c.index-member.ensures
+same-t c = c.index_mut-member.ensures.value ∙ get_or_default c.self.inside.members.items c.args.node
+    c.index_mut-member.result.now c.index-member.result.now (within-t c) ∙ sym c.index-member.ensures
 
 mut-t : (c : goal.After-as_slice-4) → next c.index_mut-member.result.now.node.dispatcher ≡ Some c.in-Some.time
 mut-t c = ap (λ (m : Member). next m.node.dispatcher) (same-t c) ∙ comes-t c
 
-took-t : (c : goal.After-as_slice-4) → Took ≡ answer c.self.inside.problem (cluster_of c.self.inside.members.items) c.args.node
+took-t : (c : goal.After-as_slice-4) →
+    Took ≡ answer c.self.inside.problem (cluster_of c.self.inside.members.items) c.args.node
 took-t c =
     let n = c.self.inside in
     let v = c.self.invariant in
-    asked n.problem (record { scenario = n.scenario; lengths = n.lengths }) n.members.items v.playing v.members c.args.node c.index-member.result.now c.index-member.ensures
+    asked n.problem (record { scenario = n.scenario; lengths = n.lengths }) n.members.items v.playing v.members
+    c.args.node c.index-member.result.now c.index-member.ensures
     (within-t c) c.in-Some.time (comes-t c) Took c.index-member.result.now
     (sym (ap answer_if c.in_default-waited_on.is) ∙ c.waited_on.ensures c.index-member.result.now ∙
-    ap (λ (ms : List Member). answer_by (filter (λ b. waits_between c.in-Some.time c.index-member.result.now b (get_or ms b c.index-member.result.now)) (numbers_below (length ms))))
+    ap (λ (ms : List Member). answer_by (filter (λ b. waits_between c.in-Some.time c.index-member.result.now b
+    (get_or ms b c.index-member.result.now)) (numbers_below (length ms))))
     c.as_slice.ensures.value)
 
-frames-t : (c : goal.After-as_slice-4) → c.as_slice-4.result.now ≡ frames_by c.self.inside.problem c.self.inside.scenario.values c.self.inside.members.items c.in-Some.time
+frames-t : (c : goal.After-as_slice-4) →
+    c.as_slice-4.result.now
+    ≡ frames_by c.self.inside.problem c.self.inside.scenario.values c.self.inside.members.items c.in-Some.time
     c.index_mut-member.result.now.node.dispatcher.table.hears c.index_mut-member.result.now.senders.items
 frames-t c =
     let n = c.self.inside in
     let v = c.self.invariant in
     c.as_slice-4.ensures.value ∙ c.gather_frames.ensures.frames
-    ∙ (λ i. frames_by n.problem n.scenario.values (c.as_slice-2.ensures.value i) c.in-Some.time ((c.hears.ensures.hears ∙ ap (λ (t : NodeTable). t.hears) c.table.ensures) i)
+    ∙ (λ i. frames_by n.problem n.scenario.values (c.as_slice-2.ensures.value i) c.in-Some.time
+    ((c.hears.ensures.hears ∙ ap (λ (t : NodeTable). t.hears) c.table.ensures) i)
     (c.as_slice-3.ensures.value i))
-    ∙ ap (λ (m : Member). frames_by n.problem n.scenario.values n.members.items c.in-Some.time m.node.dispatcher.table.hears m.senders.items) (sym (same-t c))
+    ∙ ap (λ (m : Member). frames_by n.problem n.scenario.values n.members.items c.in-Some.time
+    m.node.dispatcher.table.hears m.senders.items) (sym (same-t c))
 
 pub take_turn-requires-clause-own : goal.take_turn-requires-clause-own
 take_turn-requires-clause-own c =
     let n = c.self.inside in
     let v = c.self.invariant in
-    own_all n.problem (record { scenario = n.scenario; lengths = n.lengths }) n.members.items v.playing v.members c.args.node c.index_mut-member.result.now c.index_mut-member.ensures.value
+    own_all n.problem (record { scenario = n.scenario; lengths = n.lengths }) n.members.items v.playing v.members
+    c.args.node c.index_mut-member.result.now c.index_mut-member.ensures.value
     (within-t c) c.in-Some.time (mut-t c)
 
 pub take_turn-requires-clause-finish : goal.take_turn-requires-clause-finish
 take_turn-requires-clause-finish c =
     let n = c.self.inside in
     let v = c.self.invariant in
-    finish_all n.problem (record { scenario = n.scenario; lengths = n.lengths }) n.members.items v.playing v.members c.args.node c.index_mut-member.result.now c.index_mut-member.ensures.value
+    finish_all n.problem (record { scenario = n.scenario; lengths = n.lengths }) n.members.items v.playing v.members
+    c.args.node c.index_mut-member.result.now c.index_mut-member.ensures.value
     (within-t c) c.in-Some.time (mut-t c)
 
 pub take_turn-requires-clause-turn : goal.take_turn-requires-clause-turn
 take_turn-requires-clause-turn c =
     let n = c.self.inside in
     let v = c.self.invariant in
-    turn_may n.problem (record { scenario = n.scenario; lengths = n.lengths }) n.members.items v.playing v.members c.args.node c.index_mut-member.result.now c.index_mut-member.ensures.value
+    turn_may n.problem (record { scenario = n.scenario; lengths = n.lengths }) n.members.items v.playing v.members
+    c.args.node c.index_mut-member.result.now c.index_mut-member.ensures.value
     (within-t c) c.in-Some.time (mut-t c) c.as_slice-4.result.now (frames-t c)
 
 pub take_turn-requires-clause-next : goal.take_turn-requires-clause-next
 take_turn-requires-clause-next c =
     let n = c.self.inside in
     let v = c.self.invariant in
-    ready_next n.problem (record { scenario = n.scenario; lengths = n.lengths }) n.members.items v.playing v.members c.args.node c.index_mut-member.result.now c.index_mut-member.ensures.value
+    ready_next n.problem (record { scenario = n.scenario; lengths = n.lengths }) n.members.items v.playing v.members
+    c.args.node c.index_mut-member.result.now c.index_mut-member.ensures.value
     (within-t c) c.in-Some.time (mut-t c)
 
 pub take_turn-requires-clause-reports_fit : goal.take_turn-requires-clause-reports_fit
 take_turn-requires-clause-reports_fit c =
     let n = c.self.inside in
     let v = c.self.invariant in
-    reports_fit n.problem (record { scenario = n.scenario; lengths = n.lengths }) n.members.items v.playing v.members c.args.node c.index_mut-member.result.now c.index_mut-member.ensures.value
+    reports_fit n.problem (record { scenario = n.scenario; lengths = n.lengths }) n.members.items v.playing v.members
+    c.args.node c.index_mut-member.result.now c.index_mut-member.ensures.value
     (within-t c) c.in-Some.time (mut-t c) c.as_slice-4.result.now (frames-t c) (took-t c)
 
 pub take_turn-requires-clause-ends_fit : goal.take_turn-requires-clause-ends_fit
 take_turn-requires-clause-ends_fit c =
     let n = c.self.inside in
     let v = c.self.invariant in
-    ends_fit n.problem (record { scenario = n.scenario; lengths = n.lengths }) n.members.items v.playing v.members c.args.node c.index_mut-member.result.now c.index_mut-member.ensures.value
+    ends_fit n.problem (record { scenario = n.scenario; lengths = n.lengths }) n.members.items v.playing v.members
+    c.args.node c.index_mut-member.result.now c.index_mut-member.ensures.value
     (within-t c) c.in-Some.time (mut-t c) c.as_slice-4.result.now (frames-t c) (took-t c)
 
 pub take_turn-requires-clause-acts_fit : goal.take_turn-requires-clause-acts_fit
 take_turn-requires-clause-acts_fit c =
     let n = c.self.inside in
     let v = c.self.invariant in
-    acts_fit n.problem (record { scenario = n.scenario; lengths = n.lengths }) n.members.items v.playing v.members c.args.node c.index_mut-member.result.now c.index_mut-member.ensures.value
+    acts_fit n.problem (record { scenario = n.scenario; lengths = n.lengths }) n.members.items v.playing v.members
+    c.args.node c.index_mut-member.result.now c.index_mut-member.ensures.value
     (within-t c) c.in-Some.time (mut-t c) c.as_slice-4.result.now (frames-t c) (took-t c)
 
 -- After the turn.
@@ -215,49 +255,65 @@ comes-a : (c : goal.After-self-1) → next c.index-member.result.now.node.dispat
 comes-a c = sym c.next.ensures.next ∙ c.in-Some.is
 
 same-a : (c : goal.After-self-1) → c.index_mut-member.result.now ≡ c.index-member.result.now
-same-a c = c.index_mut-member.ensures.value ∙ get_or_default c.self.inside.members.items c.args.node c.index_mut-member.result.now c.index-member.result.now (within-a c) ∙ sym c.index-member.ensures
+same-a c = c.index_mut-member.ensures.value ∙ get_or_default c.self.inside.members.items c.args.node
+    c.index_mut-member.result.now c.index-member.result.now (within-a c) ∙ sym c.index-member.ensures
 
 mut-a : (c : goal.After-self-1) → next c.index_mut-member.result.now.node.dispatcher ≡ Some c.in-Some.time
 mut-a c = ap (λ (m : Member). next m.node.dispatcher) (same-a c) ∙ comes-a c
 
-took-a : (c : goal.After-self-1) → Took ≡ answer c.self.inside.problem (cluster_of c.self.inside.members.items) c.args.node
+took-a : (c : goal.After-self-1) →
+    Took ≡ answer c.self.inside.problem (cluster_of c.self.inside.members.items) c.args.node
 took-a c =
     let n = c.self.inside in
     let v = c.self.invariant in
-    asked n.problem (record { scenario = n.scenario; lengths = n.lengths }) n.members.items v.playing v.members c.args.node c.index-member.result.now c.index-member.ensures
+    asked n.problem (record { scenario = n.scenario; lengths = n.lengths }) n.members.items v.playing v.members
+    c.args.node c.index-member.result.now c.index-member.ensures
     (within-a c) c.in-Some.time (comes-a c) Took c.index-member.result.now
     (sym (ap answer_if c.in_default-waited_on.is) ∙ c.waited_on.ensures c.index-member.result.now ∙
-    ap (λ (ms : List Member). answer_by (filter (λ b. waits_between c.in-Some.time c.index-member.result.now b (get_or ms b c.index-member.result.now)) (numbers_below (length ms))))
+    ap (λ (ms : List Member). answer_by (filter (λ b. waits_between c.in-Some.time c.index-member.result.now b
+    (get_or ms b c.index-member.result.now)) (numbers_below (length ms))))
     c.as_slice.ensures.value)
 
-frames-a : (c : goal.After-self-1) → c.as_slice-4.result.now ≡ frames_by c.self.inside.problem c.self.inside.scenario.values c.self.inside.members.items c.in-Some.time
+frames-a : (c : goal.After-self-1) →
+    c.as_slice-4.result.now
+    ≡ frames_by c.self.inside.problem c.self.inside.scenario.values c.self.inside.members.items c.in-Some.time
     c.index_mut-member.result.now.node.dispatcher.table.hears c.index_mut-member.result.now.senders.items
 frames-a c =
     let n = c.self.inside in
     let v = c.self.invariant in
     c.as_slice-4.ensures.value ∙ c.gather_frames.ensures.frames
-    ∙ (λ i. frames_by n.problem n.scenario.values (c.as_slice-2.ensures.value i) c.in-Some.time ((c.hears.ensures.hears ∙ ap (λ (t : NodeTable). t.hears) c.table.ensures) i)
+    ∙ (λ i. frames_by n.problem n.scenario.values (c.as_slice-2.ensures.value i) c.in-Some.time
+    ((c.hears.ensures.hears ∙ ap (λ (t : NodeTable). t.hears) c.table.ensures) i)
     (c.as_slice-3.ensures.value i))
-    ∙ ap (λ (m : Member). frames_by n.problem n.scenario.values n.members.items c.in-Some.time m.node.dispatcher.table.hears m.senders.items) (sym (same-a c))
+    ∙ ap (λ (m : Member). frames_by n.problem n.scenario.values n.members.items c.in-Some.time
+    m.node.dispatcher.table.hears m.senders.items) (sym (same-a c))
 
 pub invariant_of-self : goal.invariant_of-self
 invariant_of-self c =
     let n = c.self.inside in
     let v = c.self.invariant in
     record {
-      playing = (playing_then n.problem (record { scenario = n.scenario; lengths = n.lengths }) n.members.items v.playing v.members c.args.node c.index_mut-member.result.now
+      playing = (playing_then n.problem (record { scenario = n.scenario; lengths = n.lengths }) n.members.items
+          v.playing v.members c.args.node c.index_mut-member.result.now
           c.index_mut-member.ensures.value (within-a c) c.in-Some.time (mut-a c) c.as_slice-4.result.now (frames-a c)
-          (took-a c) c.take_turn.new.member c.take_turn.ensures.node c.take_turn.ensures.acts c.take_turn.ensures.noted c.take_turn.ensures.ends c.take_turn.ensures.reports c.take_turn.ensures.same
+          (took-a c) c.take_turn.new.member c.take_turn.ensures.node c.take_turn.ensures.acts c.take_turn.ensures.noted
+          c.take_turn.ensures.ends c.take_turn.ensures.reports c.take_turn.ensures.same
           c.take_turn.ensures.room);
       few = omega (arith, v.few, length-set n.members.items c.args.node c.take_turn.new.member);
-      members = (fits_then n.problem (record { scenario = n.scenario; lengths = n.lengths }) n.members.items v.playing v.members c.args.node c.index_mut-member.result.now
+      members = (fits_then n.problem (record { scenario = n.scenario; lengths = n.lengths }) n.members.items v.playing
+          v.members c.args.node c.index_mut-member.result.now
           c.index_mut-member.ensures.value (within-a c) c.in-Some.time (mut-a c) c.as_slice-4.result.now (frames-a c)
-          (took-a c) c.take_turn.new.member c.take_turn.ensures.node c.take_turn.ensures.acts c.take_turn.ensures.noted c.take_turn.ensures.ends c.take_turn.ensures.reports c.take_turn.ensures.same
+          (took-a c) c.take_turn.new.member c.take_turn.ensures.node c.take_turn.ensures.acts c.take_turn.ensures.noted
+          c.take_turn.ensures.ends c.take_turn.ensures.reports c.take_turn.ensures.same
           c.take_turn.ensures.room);
-      frames = (heard_then n.problem (record { scenario = n.scenario; lengths = n.lengths }) n.members.items v.playing v.members c.args.node c.index_mut-member.result.now
+      frames = (heard_then n.problem (record { scenario = n.scenario; lengths = n.lengths }) n.members.items v.playing
+          v.members c.args.node c.index_mut-member.result.now
           c.index_mut-member.ensures.value (within-a c) c.in-Some.time (mut-a c) c.as_slice-4.result.now (frames-a c)
-          (took-a c) c.take_turn.new.member c.take_turn.ensures.node c.take_turn.ensures.acts c.take_turn.ensures.noted c.take_turn.ensures.ends c.take_turn.ensures.reports c.take_turn.ensures.same
-          c.take_turn.ensures.room _ (subst (λ (most : ℕ). All (λ (m : Member). length m.node.dispatcher.table.hears ≤ most) n.members.items) (sym c.gather_frames.ensures.room) v.frames));
+          (took-a c) c.take_turn.new.member c.take_turn.ensures.node c.take_turn.ensures.acts c.take_turn.ensures.noted
+          c.take_turn.ensures.ends c.take_turn.ensures.reports c.take_turn.ensures.same
+          c.take_turn.ensures.room _
+          (subst (λ (most : ℕ). All (λ (m : Member). length m.node.dispatcher.table.hears ≤ most) n.members.items)
+          (sym c.gather_frames.ensures.room) v.frames));
     }
 
 pub returns-clause-answer : goal.returns-clause-answer
@@ -267,23 +323,30 @@ pub returns-clause-step : goal.returns-clause-step
 returns-clause-step c =
     let n = c.self.inside in
     let v = c.self.invariant in
-    (play_then n.problem (record { scenario = n.scenario; lengths = n.lengths }) n.members.items v.playing v.members c.args.node c.index_mut-member.result.now c.index_mut-member.ensures.value
-    (within-a c) c.in-Some.time (mut-a c) c.as_slice-4.result.now (frames-a c) (took-a c) c.take_turn.new.member c.take_turn.ensures.node c.take_turn.ensures.acts c.take_turn.ensures.noted
-    c.take_turn.ensures.ends c.take_turn.ensures.reports c.take_turn.ensures.same c.take_turn.ensures.room) ∙ ap (λ (p : Playing). stepped p c.args.node) c.self.view_is
+    (play_then n.problem (record { scenario = n.scenario; lengths = n.lengths }) n.members.items v.playing v.members
+    c.args.node c.index_mut-member.result.now c.index_mut-member.ensures.value
+    (within-a c) c.in-Some.time (mut-a c) c.as_slice-4.result.now (frames-a c)
+    (took-a c) c.take_turn.new.member c.take_turn.ensures.node c.take_turn.ensures.acts c.take_turn.ensures.noted
+    c.take_turn.ensures.ends c.take_turn.ensures.reports c.take_turn.ensures.same c.take_turn.ensures.room)
+    ∙ ap (λ (p : Playing). stepped p c.args.node) c.self.view_is
 
 pub returns-clause-nearer : goal.returns-clause-nearer
 returns-clause-nearer c e =
     let n = c.self.inside in
     let v = c.self.invariant in
-    subst (λ (p : Playing). remaining (cluster_of (set n.members.items c.args.node c.take_turn.new.member)) < remaining p.cluster) c.self.view_is
-    (nearer_then n.problem (record { scenario = n.scenario; lengths = n.lengths }) n.members.items v.playing v.members c.args.node c.index_mut-member.result.now c.index_mut-member.ensures.value
-    (within-a c) c.in-Some.time (mut-a c) c.as_slice-4.result.now (frames-a c) (took-a c) c.take_turn.new.member c.take_turn.ensures.node c.take_turn.ensures.acts c.take_turn.ensures.noted
+    subst (λ (p : Playing). remaining (cluster_of (set n.members.items c.args.node c.take_turn.new.member))
+    < remaining p.cluster) c.self.view_is
+    (nearer_then n.problem (record { scenario = n.scenario; lengths = n.lengths }) n.members.items v.playing v.members
+    c.args.node c.index_mut-member.result.now c.index_mut-member.ensures.value
+    (within-a c) c.in-Some.time (mut-a c) c.as_slice-4.result.now (frames-a c)
+    (took-a c) c.take_turn.new.member c.take_turn.ensures.node c.take_turn.ensures.acts c.take_turn.ensures.noted
     c.take_turn.ensures.ends c.take_turn.ensures.reports c.take_turn.ensures.same c.take_turn.ensures.room)
 
 -- What the answers tell.
 
 pub returns-in-Some-waited_on-clause-least : goal.returns-in-Some-waited_on-clause-least
-returns-in-Some-waited_on-clause-least c h = waits c ∙ ap (λ (p : Playing). answer p.graph p.cluster c.args.node) c.self.view_is ∙
+returns-in-Some-waited_on-clause-least c h =
+    waits c ∙ ap (λ (p : Playing). answer p.graph p.cluster c.args.node) c.self.view_is ∙
     takes_at (playing_of c.self.inside) c.args.self.now c.self.view_is c.self.invariant.playing c.args.node c.requires h
 
 pub returns-in_default-clause-whole : goal.returns-in_default-clause-whole
@@ -297,10 +360,12 @@ returns-in_default-clause-whole c _ =
       c.self.invariant.playing.shape.count,
       length-map n.members.items (λ (m : Member). m.node.dispatcher.table),
     ) in
-    let none = ap next (dispatcher_is n.members.items c.args.node c.index-member.result.now within ∙ ap (λ (m : Member). m.node.dispatcher) (sym c.index-member.ensures)) ∙ sym c.next.ensures.next ∙
+    let none = ap next (dispatcher_is n.members.items c.args.node c.index-member.result.now within
+    ∙ ap (λ (m : Member). m.node.dispatcher) (sym c.index-member.ensures)) ∙ sym c.next.ensures.next ∙
     c.in_default.is in
     all_at (playing_of n) c.args.self.now c.self.view_is c.self.invariant.playing c.args.node c.requires
-    (ap (λ (p : Playing). answer p.graph p.cluster c.args.node) (sym c.self.view_is) ∙ ap (answer_at n.problem (cluster_of n.members.items) c.args.node) none)
+    (ap (λ (p : Playing). answer p.graph p.cluster c.args.node) (sym c.self.view_is)
+    ∙ ap (answer_at n.problem (cluster_of n.members.items) c.args.node) none)
 
 pub returns-clause-whole : goal.returns-clause-whole
 returns-clause-whole c e = let x : Took ≡ Done = e in cc

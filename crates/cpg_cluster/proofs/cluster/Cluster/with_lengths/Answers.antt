@@ -14,16 +14,26 @@ use Rattle.cpg_cluster.proofs.Opening.{hears_items, play_is, playing_open, fits_
 use Rattle.cpg_cluster.proofs.cluster.Cluster.with_lengths.Goals as goal
 
 pub open_members-requires : goal.open_members-requires
-open_members-requires c = subst (λ (g : Graph). (i : ℕ) → i < length c.args.tables.nodes → HearsItems g (table_at c.args.tables.nodes i)) (sym c.problem.ensures.problem)
+open_members-requires c =
+    subst (λ (g : Graph). (i : ℕ) → i < length c.args.tables.nodes → HearsItems g (table_at c.args.tables.nodes i))
+    (sym c.problem.ensures.problem)
     (hears_items c.args.admitted.now.graph c.args.tables.nodes c.requires.valid)
 
 -- the parts are those of the call
-parts : (c : goal.In_ok-lengths) → play_of c.in_ok-problem.problem (record { scenario = c.in_ok-scenario.scenario; lengths = c.in_ok-lengths.lengths }) c.in_ok-members.members.items
-    ≡ play_of c.args.admitted.now.graph (record { scenario = c.args.scenario.now; lengths = c.args.lengths.now }) c.in_ok-members.members.items
-parts c = λ i. play_of ((c.in_ok-problem.ensures ∙ c.problem-2.ensures.problem) i) (record { scenario = c.in_ok-scenario.ensures i; lengths = c.in_ok-lengths.ensures i }) c.in_ok-members.members.items
+parts : (c : goal.In_ok-lengths) →
+    play_of c.in_ok-problem.problem
+    (record { scenario = c.in_ok-scenario.scenario; lengths = c.in_ok-lengths.lengths }) c.in_ok-members.members.items
+    ≡ play_of c.args.admitted.now.graph
+    (record { scenario = c.args.scenario.now; lengths = c.args.lengths.now }) c.in_ok-members.members.items
+parts c = λ i. play_of ((c.in_ok-problem.ensures ∙ c.problem-2.ensures.problem) i)
+    (record { scenario = c.in_ok-scenario.ensures i; lengths = c.in_ok-lengths.ensures i })
+    c.in_ok-members.members.items
 
-open' : (c : goal.In_ok-lengths) → AreOpen c.args.admitted.now.graph c.args.tables.nodes (length c.args.tables.nodes) c.in_ok-members.members.items
-open' c = subst (λ (g : Graph). AreOpen g c.args.tables.nodes (length c.args.tables.nodes) c.in_ok-members.members.items) c.problem.ensures.problem c.in_ok-members.ensures.members
+open' : (c : goal.In_ok-lengths) →
+    AreOpen c.args.admitted.now.graph c.args.tables.nodes (length c.args.tables.nodes) c.in_ok-members.members.items
+open' c =
+    subst (λ (g : Graph). AreOpen g c.args.tables.nodes (length c.args.tables.nodes) c.in_ok-members.members.items)
+    c.problem.ensures.problem c.in_ok-members.ensures.members
 
 of : (c : goal.In_ok-lengths) → AreTablesOf (head_of c.args.admitted.now.graph) c.args.tables.nodes
 of c = c.requires.tables
@@ -36,18 +46,24 @@ invariant_of-result c =
     let ms = c.in_ok-members.members.items in
     let a = c.problem.ensures.admitted in
     record {
-      playing = subst IsPlaying (sym (parts c)) (playing_open g tables w a.limits (of c) ms (open' c) a.well_formed c.requires.valid c.requires.world);
+      playing = subst IsPlaying (sym (parts c))
+          (playing_open g tables w a.limits (of c) ms (open' c) a.well_formed c.requires.valid c.requires.world);
       few = omega (arith, (open' c).count, (of c).count, a.limits.few_nodes);
-      members = subst (λ (g : Graph). AllFit g ms) (sym (c.in_ok-problem.ensures ∙ c.problem-2.ensures.problem)) (fits_open g tables w a.limits (of c) ms (open' c));
+      members = subst (λ (g : Graph). AllFit g ms) (sym (c.in_ok-problem.ensures ∙ c.problem-2.ensures.problem))
+          (fits_open g tables w a.limits (of c) ms (open' c));
       frames = λ i d l.
-          let few = subst (λ (ms : List Member). All (λ (m : Member). length m.node.dispatcher.table.hears ≤ c.most_heard.result) ms) c.as_slice.ensures.value c.most_heard.ensures i d l in
+          let few = subst (λ (ms : List Member).
+          All (λ (m : Member). length m.node.dispatcher.table.hears ≤ c.most_heard.result) ms)
+          c.as_slice.ensures.value c.most_heard.ensures i d l in
           let room : c.most_heard.result ≤ vec_capacity c.reserve.new.self = search rules in
           omega (arith, few, room);
     }
 
 pub returns-clause-opened : goal.returns-clause-opened
-returns-clause-opened c = parts c ∙ play_is c.args.admitted.now.graph c.args.tables.nodes (record { scenario = c.args.scenario.now; lengths = c.args.lengths.now }) c.problem.ensures.admitted.limits
+returns-clause-opened c = parts c ∙ play_is c.args.admitted.now.graph c.args.tables.nodes
+    (record { scenario = c.args.scenario.now; lengths = c.args.lengths.now }) c.problem.ensures.admitted.limits
     (of c) c.in_ok-members.members.items (open' c)
 
 pub returns-clause-correct : goal.returns-clause-correct
-returns-clause-correct c = correct_open c.args.admitted.now.graph c.args.tables.nodes c.problem.ensures.admitted.limits (of c) c.problem.ensures.admitted.well_formed c.requires.valid
+returns-clause-correct c = correct_open c.args.admitted.now.graph c.args.tables.nodes c.problem.ensures.admitted.limits
+    (of c) c.problem.ensures.admitted.well_formed c.requires.valid

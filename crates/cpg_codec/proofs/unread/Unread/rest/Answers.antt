@@ -5,4 +5,5 @@ use Rattle.cpg_codec.proofs.unread.Unread.rest.Goals as goal
 pub returns : goal.returns
 returns c =
     let same : c.deref.result.now ≡ c.self.inside.bytes.items = search rules in
-    rest_of c.self.inside.read c.deref.result.now ∙ ap (λ (bytes : List ℕ). drop c.self.inside.read bytes) same ∙ c.self.view_is
+    rest_of c.self.inside.read c.deref.result.now ∙ ap (λ (bytes : List ℕ). drop c.self.inside.read bytes) same
+    ∙ c.self.view_is

@@ -11,8 +11,10 @@ loop-literal-preserved c s narrow t =
     elim c.match-over.branch [
       | in-Some+in_ok-single+in_ok-add w ↦
           let over = w.in-Some.over in
-          carried (is_any_at n c.loop-literal.cubes.items) (matches_at n (over ∷ [])) _ (rw w.in_ok-single.ensures at (w.in_ok-add.ensures n (rw w.cubes-is at t)))
+          carried (is_any_at n c.loop-literal.cubes.items) (matches_at n (over ∷ [])) _
+          (rw w.in_ok-single.ensures at (w.in_ok-add.ensures n (rw w.cubes-is at t)))
           (λ a. c.loop-literal.invariant s narrow a)
-          (λ b. absurd (both_ways (holds_at n over) (w.in-Some.ensures n (narrow c.loop-literal.literal-index _ (omega arith))) (and_parts _ _ b).0))
+          (λ b. absurd (both_ways (holds_at n over)
+          (w.in-Some.ensures n (narrow c.loop-literal.literal-index _ (omega arith))) (and_parts _ _ b).0))
       | in_default w ↦ c.loop-literal.invariant s narrow (rw w.cubes-is at t)
     ]

@@ -3,5 +3,6 @@ use Rattle.cpg_cover.specs.Fewest.{IsNarrow, beyond, is_any_at}
 use Rattle.cpg_cover.proofs.covering.Ground.add_over.Given as goal
 
 abbrev pub invariant-loop-literal : goal.invariant-loop-literal
-invariant-loop-literal l = (s : ℕ → ℕ) → IsNarrow l.self.bounds.low s l.literals → is_any_at (beyond l.self.bounds.low s) l.cubes.items ≡ true →
+invariant-loop-literal l = (s : ℕ → ℕ) → IsNarrow l.self.bounds.low s l.literals →
+    is_any_at (beyond l.self.bounds.low s) l.cubes.items ≡ true →
     is_any_at (beyond l.self.bounds.low s) l.fn.cubes.items ≡ true

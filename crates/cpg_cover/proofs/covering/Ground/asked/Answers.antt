@@ -13,11 +13,14 @@ loop-literal-preserved c s on t =
     let at = c.loop-literal.literal-index in
     elim c.if-not-spans.branch [
       | then-not-spans+in-Some+in_ok-push w ↦
-          let r = all_before_last (holds_at (beyond low s)) c.loop-literal.asked.items w.in-Some.beyond (rw (w.asked-is, w.in_ok-push.ensures.items) at t) in
-          all_one_more (holds_at s) ls at _ (omega arith) (c.loop-literal.invariant s on r.0) (w.in-Some.ensures s (on.lows _) r.1)
+          let r = all_before_last (holds_at (beyond low s)) c.loop-literal.asked.items w.in-Some.beyond
+          (rw (w.asked-is, w.in_ok-push.ensures.items) at t) in
+          all_one_more (holds_at s) ls at _ (omega arith) (c.loop-literal.invariant s on r.0)
+          (w.in-Some.ensures s (on.lows _) r.1)
       | else-not-spans w ↦
           let blank : Literal = record { variable = 0; low = 0; high = 0 } in
           let l = get_or ls at blank in
           let span : spans low c.args.self.now.bounds.high c.args.self.now.left l ≡ true = search rules in
-          all_one_more (holds_at s) ls at blank (omega arith) (c.loop-literal.invariant s on (rw w.asked-is at t)) (on.spanned l span)
+          all_one_more (holds_at s) ls at blank (omega arith) (c.loop-literal.invariant s on (rw w.asked-is at t))
+          (on.spanned l span)
     ]

@@ -3,5 +3,6 @@ use Rattle.cpg_cover.specs.Fewest.{IsOn, beyond, matches_at}
 use Rattle.cpg_cover.proofs.covering.Ground.asked.Given as goal
 
 abbrev pub invariant-loop-literal : goal.invariant-loop-literal
-invariant-loop-literal l = (s : ℕ → ℕ) → IsOn l.self.bounds.low l.self.bounds.high l.self.left s → matches_at (beyond l.self.bounds.low s) l.asked.items ≡ true →
+invariant-loop-literal l = (s : ℕ → ℕ) → IsOn l.self.bounds.low l.self.bounds.high l.self.left s →
+    matches_at (beyond l.self.bounds.low s) l.asked.items ≡ true →
     matches_at s (take l.literal-index l.literals) ≡ true

@@ -4,5 +4,6 @@ use Rattle.cpg_cover.specs.Fewest.{IsOn, beyond, is_any_at, matches_at}
 use Rattle.cpg_cover.proofs.covering.Ground.cubes.Given as goal
 
 abbrev pub invariant-loop-other : goal.invariant-loop-other
-invariant-loop-other l = (s : ℕ → ℕ) → IsOn l.self.bounds.low l.self.bounds.high l.self.left s → is_any_at (beyond l.self.bounds.low s) l.cubes.items ≡ true →
+invariant-loop-other l = (s : ℕ → ℕ) → IsOn l.self.bounds.low l.self.bounds.high l.self.left s →
+    is_any_at (beyond l.self.bounds.low s) l.cubes.items ≡ true →
     list_any (λ b. matches_at s b.now) (take l.other-index l.by) ≡ true

@@ -6,4 +6,5 @@ use Rattle.cpg_cube.proofs.bounds.Bounds.fits.Given as goal
 abbrev pub invariant-loop-literal : goal.invariant-loop-literal
 invariant-loop-literal l =
     is_some (budget_left (touches l.k l.self.low l.self.high) (more_asked l.self.low) l.room l.literals)
-    ≡ is_some (budget_left (touches l.k l.self.low l.self.high) (more_asked l.self.low) l.left (drop l.literal-index l.literals))
+    ≡ is_some (budget_left (touches l.k l.self.low l.self.high) (more_asked l.self.low) l.left
+    (drop l.literal-index l.literals))

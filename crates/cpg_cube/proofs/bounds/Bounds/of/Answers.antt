@@ -9,7 +9,8 @@ pub loop-literal-preserved : goal.loop-literal-preserved
 loop-literal-preserved c =
     let i = c.loop-literal.invariant in
     record {
-      bounds = bounds_push c.args.literals.now c.loop-literal.literal-index _ c.requires (omega arith) c.loop-literal.low c.loop-literal.high i.lows i.highs (search rules) i.bounds;
+      bounds = bounds_push c.args.literals.now c.loop-literal.literal-index _ c.requires
+          (omega arith) c.loop-literal.low c.loop-literal.high i.lows i.highs (search rules) i.bounds;
       lows = search rules;
       highs = search rules;
     }

@@ -6,6 +6,7 @@ pub loop-literal-preserved : goal.loop-literal-preserved
 loop-literal-preserved c =
     let i = c.loop-literal.invariant in
     record {
-      raised = rw c.max.ensures (raised_push c.args.literals.now c.loop-literal.literal-index _ c.requires (omega arith) c.args.self.now.low c.loop-literal.self.low i.long (search rules) i.raised);
+      raised = rw c.max.ensures (raised_push c.args.literals.now c.loop-literal.literal-index _ c.requires
+          (omega arith) c.args.self.now.low c.loop-literal.self.low i.long (search rules) i.raised);
       long = search rules;
     }

@@ -7,4 +7,5 @@ pub returns : goal.returns
 returns c =
     let i = c.loop-process.invariant in
     ap₂ (λ v f. let s : Scenario = record { values = v; faults = f } in s) i.values
-    (fill_by_all (λ p. get_or c.args.self.now.low p 0) c.loop-process.least.faults c.args.processes 0 i.long (λ p h. i.written p (omega arith)))
+    (fill_by_all (λ p. get_or c.args.self.now.low p 0) c.loop-process.least.faults c.args.processes 0 i.long
+    (λ p h. i.written p (omega arith)))

@@ -9,5 +9,6 @@ pub returns : goal.returns
 returns c =
     let i = c.loop-condition.invariant in
     ap₂ (λ v f. let s : Scenario = record { values = v; faults = f } in s)
-    (fill_by_all (λ d. nat_lt 0 (get_or c.args.self.now.low (value_variable d) 0)) c.loop-condition.least.values c.args.conditions false i.long (λ d h. i.written d (omega arith)))
+    (fill_by_all (λ d. nat_lt 0 (get_or c.args.self.now.low (value_variable d) 0)) c.loop-condition.least.values
+    c.args.conditions false i.long (λ d h. i.written d (omega arith)))
     i.faults

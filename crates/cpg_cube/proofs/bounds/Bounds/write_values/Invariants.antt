@@ -7,5 +7,6 @@ abbrev pub invariant-loop-condition : goal.invariant-loop-condition
 invariant-loop-condition l = record {
   faults : l.least.faults ≡ l.fn.least.faults;
   long : length l.least.values ≡ l.conditions;
-  written : (c : ℕ) → c < l.condition → get_or l.least.values c false ≡ nat_lt 0 (get_or l.self.low (value_variable c) 0);
+  written : (c : ℕ) → c < l.condition →
+      get_or l.least.values c false ≡ nat_lt 0 (get_or l.self.low (value_variable c) 0);
 }

@@ -22,8 +22,10 @@ returns-then-not-fits-clause-none c =
     let is_b : IsCube g b = record { rising = c.literals-literals.ensures.rising; known = c.requires.second } in
     let some : budget_left (is_open g.faults) asked_of_literal g.faults a ≡ Some c.in-Some.left = search rules in
     let are : AreBounds a c.of-bounds.result.low c.of-bounds.result.high = search rules in
-    let fit : is_some (budget_left (touches g.faults c.of-bounds.result.low c.of-bounds.result.high) (more_asked c.of-bounds.result.low) c.in-Some.left b) ≡ false = search rules in
-    sym (meet_from_fit g c.faults-k.ensures.within a is_a b is_b c.of-bounds.result.low c.of-bounds.result.high are c.in-Some.left some) ∙ fit
+    let fit : is_some (budget_left (touches g.faults c.of-bounds.result.low c.of-bounds.result.high)
+    (more_asked c.of-bounds.result.low) c.in-Some.left b) ≡ false = search rules in
+    sym (meet_from_fit g c.faults-k.ensures.within a is_a b is_b c.of-bounds.result.low c.of-bounds.result.high are
+    c.in-Some.left some) ∙ fit
 
 pub returns-clause-some : goal.returns-clause-some
 returns-clause-some c =
@@ -34,8 +36,10 @@ returns-clause-some c =
     let is_b : IsCube g b = record { rising = c.literals-literals.ensures.rising; known = c.requires.second } in
     let some : budget_left (is_open g.faults) asked_of_literal g.faults a ≡ Some c.in-Some.left = search rules in
     let are : AreBounds a c.of-bounds.result.low c.of-bounds.result.high = search rules in
-    let fit : is_some (budget_left (touches g.faults c.of-bounds.result.low c.of-bounds.result.high) (more_asked c.of-bounds.result.low) c.in-Some.left b) ≡ true = search rules in
-    sym (meet_from_fit g c.faults-k.ensures.within a is_a b is_b c.of-bounds.result.low c.of-bounds.result.high are c.in-Some.left some) ∙ fit
+    let fit : is_some (budget_left (touches g.faults c.of-bounds.result.low c.of-bounds.result.high)
+    (more_asked c.of-bounds.result.low) c.in-Some.left b) ≡ true = search rules in
+    sym (meet_from_fit g c.faults-k.ensures.within a is_a b is_b c.of-bounds.result.low c.of-bounds.result.high are
+    c.in-Some.left some) ∙ fit
 
 pub returns-clause-lows : goal.returns-clause-lows
 returns-clause-lows c =
@@ -46,5 +50,6 @@ returns-clause-lows c =
     let is_b : IsCube g b = record { rising = c.literals-literals.ensures.rising; known = c.requires.second } in
     let some : budget_left (is_open g.faults) asked_of_literal g.faults a ≡ Some c.in-Some.left = search rules in
     let are : AreBounds a c.of-bounds.result.low c.of-bounds.result.high = search rules in
-    lows_raised g c.faults-k.ensures.within a is_a b is_b c.of-bounds.result.low c.of-bounds.result.high are c.in-Some.left some c.raise.new.self.low
+    lows_raised g c.faults-k.ensures.within a is_a b is_b c.of-bounds.result.low c.of-bounds.result.high are
+    c.in-Some.left some c.raise.new.self.low
     (rw c.literals-literals.ensures.literals at c.raise.ensures)

@@ -8,31 +8,44 @@ use Rattle.cpg_cube.proofs.cube.Cube.exchange.Goals as goal
 
 pub returns-then-left-clause-none : goal.returns-then-left-clause-none
 returns-then-left-clause-none c =
-    none_exchanged c.args.literal c.args.self.now c.restore.ensures.rising c.args.narrowed c.requires.place c.requires.on c.left-left.result c.left-left.ensures (omega (arith, c.if-left.true))
+    none_exchanged c.args.literal c.args.self.now c.restore.ensures.rising c.args.narrowed c.requires.place
+    c.requires.on c.left-left.result c.left-left.ensures (omega (arith, c.if-left.true))
 
 pub invariant_of-self : goal.invariant_of-self
 invariant_of-self c =
     let xs = c.self.inside.literals.items in
-    let written : slice_set c.as_mut_slice.result.now c.args.narrowed.place c.left-left.result ≡ slice_set xs c.args.narrowed.place c.left-left.result = rw c.as_mut_slice.ensures.value refl in
-    let filled : refill (length xs) xs (slice_set c.as_mut_slice.result.now c.args.narrowed.place c.left-left.result) ≡ slice_set c.args.self.now c.args.narrowed.place c.left-left.result =
-    rw written (items-with_items c.self.inside.literals _ (length-set xs c.args.narrowed.place c.left-left.result)) ∙ ap (λ ys. slice_set ys c.args.narrowed.place c.left-left.result) c.self.view_is in
-    subst IsRising (sym filled) (rising_exchanged c.args.literal c.args.self.now (subst IsRising c.self.view_is c.self.invariant) c.args.narrowed c.requires.place c.requires.on c.left-left.result
+    let written : slice_set c.as_mut_slice.result.now c.args.narrowed.place c.left-left.result
+    ≡ slice_set xs c.args.narrowed.place c.left-left.result = rw c.as_mut_slice.ensures.value refl in
+    let filled : refill (length xs) xs (slice_set c.as_mut_slice.result.now c.args.narrowed.place c.left-left.result)
+    ≡ slice_set c.args.self.now c.args.narrowed.place c.left-left.result =
+    rw written (items-with_items c.self.inside.literals _ (length-set xs c.args.narrowed.place c.left-left.result))
+    ∙ ap (λ ys. slice_set ys c.args.narrowed.place c.left-left.result) c.self.view_is in
+    subst IsRising (sym filled) (rising_exchanged c.args.literal c.args.self.now (subst IsRising c.self.view_is
+    c.self.invariant) c.args.narrowed c.requires.place c.requires.on c.left-left.result
     c.left-left.ensures c.requires.rising)
 
 pub returns-clause-narrowed : goal.returns-clause-narrowed
 returns-clause-narrowed c =
     let xs = c.self.inside.literals.items in
-    let written : slice_set c.as_mut_slice.result.now c.args.narrowed.place c.left-left.result ≡ slice_set xs c.args.narrowed.place c.left-left.result = rw c.as_mut_slice.ensures.value refl in
-    let filled : refill (length xs) xs (slice_set c.as_mut_slice.result.now c.args.narrowed.place c.left-left.result) ≡ slice_set c.args.self.now c.args.narrowed.place c.left-left.result =
-    rw written (items-with_items c.self.inside.literals _ (length-set xs c.args.narrowed.place c.left-left.result)) ∙ ap (λ ys. slice_set ys c.args.narrowed.place c.left-left.result) c.self.view_is in
+    let written : slice_set c.as_mut_slice.result.now c.args.narrowed.place c.left-left.result
+    ≡ slice_set xs c.args.narrowed.place c.left-left.result = rw c.as_mut_slice.ensures.value refl in
+    let filled : refill (length xs) xs (slice_set c.as_mut_slice.result.now c.args.narrowed.place c.left-left.result)
+    ≡ slice_set c.args.self.now c.args.narrowed.place c.left-left.result =
+    rw written (items-with_items c.self.inside.literals _ (length-set xs c.args.narrowed.place c.left-left.result))
+    ∙ ap (λ ys. slice_set ys c.args.narrowed.place c.left-left.result) c.self.view_is in
     let some : c.left-left.result.low ≤ c.left-left.result.high = omega (arith, c.if-left.false) in
-    some_exchanged c.args.literal c.args.self.now (subst IsRising c.self.view_is c.self.invariant) c.args.narrowed c.requires.place c.requires.on c.left-left.result c.left-left.ensures some ∙
+    some_exchanged c.args.literal c.args.self.now (subst IsRising c.self.view_is c.self.invariant) c.args.narrowed
+    c.requires.place c.requires.on c.left-left.result c.left-left.ensures some ∙
     ap Some (sym filled)
 
 pub returns-clause-undo : goal.returns-clause-undo
 returns-clause-undo c =
     let xs = c.self.inside.literals.items in
-    let written : slice_set c.as_mut_slice.result.now c.args.narrowed.place c.left-left.result ≡ slice_set xs c.args.narrowed.place c.left-left.result = rw c.as_mut_slice.ensures.value refl in
-    let filled : refill (length xs) xs (slice_set c.as_mut_slice.result.now c.args.narrowed.place c.left-left.result) ≡ slice_set c.args.self.now c.args.narrowed.place c.left-left.result =
-    rw written (items-with_items c.self.inside.literals _ (length-set xs c.args.narrowed.place c.left-left.result)) ∙ ap (λ ys. slice_set ys c.args.narrowed.place c.left-left.result) c.self.view_is in
-    undo_exchanged c.args.literal c.args.self.now (subst IsRising c.self.view_is c.self.invariant) c.args.narrowed c.requires.place c.requires.on c.left-left.result c.left-left.ensures _ filled
+    let written : slice_set c.as_mut_slice.result.now c.args.narrowed.place c.left-left.result
+    ≡ slice_set xs c.args.narrowed.place c.left-left.result = rw c.as_mut_slice.ensures.value refl in
+    let filled : refill (length xs) xs (slice_set c.as_mut_slice.result.now c.args.narrowed.place c.left-left.result)
+    ≡ slice_set c.args.self.now c.args.narrowed.place c.left-left.result =
+    rw written (items-with_items c.self.inside.literals _ (length-set xs c.args.narrowed.place c.left-left.result))
+    ∙ ap (λ ys. slice_set ys c.args.narrowed.place c.left-left.result) c.self.view_is in
+    undo_exchanged c.args.literal c.args.self.now (subst IsRising c.self.view_is c.self.invariant) c.args.narrowed
+    c.requires.place c.requires.on c.left-left.result c.left-left.ensures _ filled

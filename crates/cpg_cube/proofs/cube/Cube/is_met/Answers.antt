@@ -4,4 +4,5 @@ use Rattle.cpg_cube.proofs.Meeting.{met_is}
 use Rattle.cpg_cube.proofs.cube.Cube.is_met.Goals as goal
 
 pub returns-clause-met : goal.returns-clause-met
-returns-clause-met c = c.is_some.ensures ∙ ap is_some (rw c.literals.ensures.literals at c.budget_left.ensures) ∙ met_is c.args.k c.args.self.now
+returns-clause-met c = c.is_some.ensures ∙ ap is_some (rw c.literals.ensures.literals at c.budget_left.ensures)
+    ∙ met_is c.args.k c.args.self.now

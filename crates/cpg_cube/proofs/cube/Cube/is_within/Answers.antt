@@ -22,4 +22,5 @@ returns-clause-exact c =
     let some : budget_left (is_open g.faults) asked_of_literal g.faults a ≡ Some c.in-Some.left = search rules in
     let are : AreBounds a c.of-bounds.result.low c.of-bounds.result.high = search rules in
     (rw c.literals-literals.ensures.literals at c.span_all.ensures)
-    ∙ within_from_span g c.faults.ensures.within a is_a b is_b c.of-bounds.result.low c.of-bounds.result.high are c.in-Some.left some
+    ∙ within_from_span g c.faults.ensures.within a is_a b is_b c.of-bounds.result.low c.of-bounds.result.high are
+    c.in-Some.left some

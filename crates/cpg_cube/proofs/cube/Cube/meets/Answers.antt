@@ -14,5 +14,7 @@ pub returns-clause-least : goal.returns-clause-least
 returns-clause-least c order =
     let e = c.bounds_of_both.ensures in
     let meet : do_meet c.args.problem.now c.args.self.now c.args.other.now ≡ true = search rules in
-    let same : c.write_lows.new.least ≡ both_lows c.args.problem.now c.args.self.now c.args.other.now = c.write_lows.ensures.lows ∙ c.in-Some.ensures.lows in
-    rw same (both-least c.args.problem.now e.within.few_processes c.args.self.now c.args.other.now e.cubes.0 e.cubes.1 meet order)
+    let same : c.write_lows.new.least ≡ both_lows c.args.problem.now c.args.self.now c.args.other.now =
+    c.write_lows.ensures.lows ∙ c.in-Some.ensures.lows in
+    rw same (both-least c.args.problem.now e.within.few_processes c.args.self.now c.args.other.now e.cubes.0
+    e.cubes.1 meet order)

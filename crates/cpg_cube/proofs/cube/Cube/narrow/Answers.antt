@@ -2,4 +2,5 @@ use Rattle.cpg_cube.proofs.Narrow.{rising-narrowed}
 use Rattle.cpg_cube.proofs.cube.Cube.narrow.Goals as goal
 
 pub invariant_of-self-2 : goal.invariant_of-self-2
-invariant_of-self-2 c = rw (c.in_ok-narrowed.ensures.narrowed) (rising-narrowed c.args.literal c.self.inside.literals.items c.self.invariant)
+invariant_of-self-2 c = rw (c.in_ok-narrowed.ensures.narrowed)
+    (rising-narrowed c.args.literal c.self.inside.literals.items c.self.invariant)

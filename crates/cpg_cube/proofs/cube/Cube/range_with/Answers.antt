@@ -5,5 +5,6 @@ use Rattle.cpg_cube.proofs.cube.Cube.range_with.Goals as goal
 
 pub returns-then-is_above : goal.returns-then-is_above
 returns-then-is_above c =
-    let under : All (λ (l : Literal). l.variable < c.args.literal.variable) c.args.self.now = rw c.literals.ensures.literals at c.if-is_above.ensures in
+    let under : All (λ (l : Literal). l.variable < c.args.literal.variable) c.args.self.now =
+    rw c.literals.ensures.literals at c.if-is_above.ensures in
     sym (range_above c.args.literal c.args.self.now under)

@@ -4,10 +4,12 @@ use Rattle.cpg_table.specs.Writing.{AreTablesWith, AreWritable}
 use Rattle.cpg_expand.proofs.built_rows.BuiltRows.assemble.Goals as goal
 
 pub tables_of-requires-clause-rows : goal.tables_of-requires-clause-rows
-tables_of-requires-clause-rows c = subst (λ (h : Graph). AreWritable h c.args.self.rows.items) (sym c.problem.ensures.problem) c.requires
+tables_of-requires-clause-rows c =
+    subst (λ (h : Graph). AreWritable h c.args.self.rows.items) (sym c.problem.ensures.problem) c.requires
 
 pub returns : goal.returns
 returns c = record {
-  written = subst (λ (h : Graph). AreTablesWith h c.args.self.rows.items c.in_ok-tables.tables) c.problem.ensures.problem c.in_ok-tables.ensures;
+  written = subst (λ (h : Graph). AreTablesWith h c.args.self.rows.items c.in_ok-tables.tables)
+      c.problem.ensures.problem c.in_ok-tables.ensures;
   same = refl;
 }

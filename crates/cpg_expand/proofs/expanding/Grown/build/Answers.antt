@@ -5,5 +5,6 @@ use Rattle.cpg_expand.proofs.expanding.Grown.build.Goals as goal
 pub unreachable-requires : goal.unreachable-requires
 unreachable-requires c =
     let g = c.args.admitted.now.graph in
-    narrow_unnamed (HaveWideRows g c.args.admitted.now.order c.args.self.trees.forest.times) g c.args.self.order c.in-Err-TooWide.field-0 c.in-Err-TooWide.field-0-0 c.requires.narrow
+    narrow_unnamed (HaveWideRows g c.args.admitted.now.order c.args.self.trees.forest.times) g c.args.self.order
+    c.in-Err-TooWide.field-0 c.in-Err-TooWide.field-0-0 c.requires.narrow
     c.in-Err-TooWide.field-0-is c.in-Err-TooWide.ensures.fault

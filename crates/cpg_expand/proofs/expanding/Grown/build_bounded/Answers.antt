@@ -25,11 +25,15 @@ returns-clause-rows c =
     let frozen : List (Option ℕ) = c.args.self.trees.frozen in
     let forest : ForestState = c.args.self.trees.forest in
     let rows : List Row = c.in_ok-rows.rows.items in
-    let made : AreRowsOf g urgency forest.times rows = said_of (λ h us ts. AreRowsOf h us ts rows) g c.problem-problem.result.now urgency c.order-urgency.result.now forest.times
+    let made : AreRowsOf g urgency forest.times rows = said_of (λ h us ts. AreRowsOf h us ts rows) g
+    c.problem-problem.result.now urgency c.order-urgency.result.now forest.times
     c.into_times-times.result.items
-    c.problem-problem.ensures.problem c.order-urgency.ensures.order c.into_times-times.ensures c.in_ok-rows.ensures.rows in
-    let found : AreRowsFound g urgency order frozen rows = grown_rows_found g urgency guards a order c.requires.topological frozen forest c.requires.grown.trees rows made in
-    let few : IfSome c.args.self.wide (λ item. DoRowsFit g rows) = subst (λ (h : Graph). IfSome c.args.self.wide (λ item. DoRowsFit h rows)) c.problem-problem.ensures.problem
+    c.problem-problem.ensures.problem c.order-urgency.ensures.order c.into_times-times.ensures
+    c.in_ok-rows.ensures.rows in
+    let found : AreRowsFound g urgency order frozen rows = grown_rows_found g urgency guards a order
+    c.requires.topological frozen forest c.requires.grown.trees rows made in
+    let few : IfSome c.args.self.wide (λ item. DoRowsFit g rows) =
+    subst (λ (h : Graph). IfSome c.args.self.wide (λ item. DoRowsFit h rows)) c.problem-problem.ensures.problem
     c.in_ok-rows.ensures.few in
     record {
       same = refl;
@@ -47,5 +51,7 @@ returns-in_err-rows-clause-fault c =
     let fault = c.in_err-rows.field-0.0 in
     handed_on _ c.from_residual.result fault c.from_residual.ensures.1
     (named_least (HaveWideRows g urgency forest.times) g c.args.self.order c.args.self.wide fault c.requires.grown.wide
-    (said_of (λ h us ts. ShowsLarge c.args.self.wide (HaveWideRows h us ts) fault) g c.problem-problem.result.now urgency c.order-urgency.result.now forest.times c.into_times-times.result.items
-    c.problem-problem.ensures.problem c.order-urgency.ensures.order c.into_times-times.ensures c.in_err-rows.ensures.fault))
+    (said_of (λ h us ts. ShowsLarge c.args.self.wide (HaveWideRows h us ts) fault) g c.problem-problem.result.now
+    urgency c.order-urgency.result.now forest.times c.into_times-times.result.items
+    c.problem-problem.ensures.problem c.order-urgency.ensures.order c.into_times-times.ensures
+    c.in_err-rows.ensures.fault))

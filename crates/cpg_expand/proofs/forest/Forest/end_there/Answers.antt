@@ -16,6 +16,8 @@ returns c =
           c.self.inside.wide;
     } in
     let both = read_end g c.index.result.now (ends_of g f c.args.process) c.in_ok-there.there
-    (ends_read g f c.requires.forest inside c.self.view_is c.index.result.now c.args.process c.args.process c.index.ensures refl c.requires.process)
-    (ends_tree g f c.requires.forest c.args.process c.requires.process) c.in_ok-there.ensures.is c.in_ok-there.ensures.each c.in_ok-there.ensures.pass in
+    (ends_read g f c.requires.forest inside c.self.view_is c.index.result.now c.args.process c.args.process
+    c.index.ensures refl c.requires.process)
+    (ends_tree g f c.requires.forest c.args.process c.requires.process) c.in_ok-there.ensures.is
+    c.in_ok-there.ensures.each c.in_ok-there.ensures.pass in
     record { tree = both.0; later = both.1 }

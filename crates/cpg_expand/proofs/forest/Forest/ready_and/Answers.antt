@@ -26,20 +26,24 @@ returns-in_ok-both-in-After c =
       wide =
           c.self.inside.wide;
     } in
-    let same : end ≡ ends_of g f p = ends_read g f c.requires.forest inside c.self.view_is end p p c.index.ensures refl l in
+    let same : end ≡ ends_of g f p =
+    ends_read g f c.requires.forest inside c.self.view_is end p p c.index.ensures refl l in
     let of : IsTree g end = subst (IsTree g) (sym same) (ends_tree g f c.requires.forest p l) in
     record {
-      tree = same_tree g there both c.requires.there.faults c.in_ok-both-in-After.ensures.is.faults c.in_ok-both-in-After.ensures.each
+      tree = same_tree g there both c.requires.there.faults c.in_ok-both-in-After.ensures.is.faults
+          c.in_ok-both-in-After.ensures.each
           (c.in_ok-both-in-After.ensures.pass (is_variable g) c.requires.there.known of.known);
       both = subst (λ (r : Ready). IsLatest g.faults (ready_by g f r) there both) (sym c.in-After.is)
-          (subst (λ (tree : TreeState _). IsLatest g.faults (later_tree tree) there both) same (latest_ends g end there both of c.requires.there c.in_ok-both-in-After.ensures.is));
+          (subst (λ (tree : TreeState _). IsLatest g.faults (later_tree tree) there both) same
+          (latest_ends g end there both of c.requires.there c.in_ok-both-in-After.ensures.is));
     }
 
 pub returns-in_ok-both-in-At-clause-tree : goal.returns-in_ok-both-in-At-clause-tree
 returns-in_ok-both-in-At-clause-tree c =
     let g = c.args.problem.now in
     let of : IsTree g c.in-At.tree = subst (IsWait g) c.in-At.is c.requires.ready in
-    same_tree g c.in-At.tree c.in_ok-both-in-At.both of.faults c.in_ok-both-in-At.ensures.is.faults c.in_ok-both-in-At.ensures.each
+    same_tree g c.in-At.tree c.in_ok-both-in-At.both of.faults c.in_ok-both-in-At.ensures.is.faults
+    c.in_ok-both-in-At.ensures.each
     (c.in_ok-both-in-At.ensures.pass (is_variable g) of.known c.requires.there.known)
 
 pub returns-in_ok-both-in-At-clause-both : goal.returns-in_ok-both-in-At-clause-both
@@ -48,4 +52,5 @@ returns-in_ok-both-in-At-clause-both c =
     let f = c.args.self.now in
     let of : IsTree g c.in-At.tree = subst (IsWait g) c.in-At.is c.requires.ready in
     subst (λ (r : Ready). IsLatest g.faults (ready_by g f r) c.args.there.now c.in_ok-both-in-At.both) (sym c.in-At.is)
-    (latest_valued g c.in-At.tree c.args.there.now c.in_ok-both-in-At.both of c.requires.there c.in_ok-both-in-At.ensures.is)
+    (latest_valued g c.in-At.tree c.args.there.now c.in_ok-both-in-At.both of c.requires.there
+    c.in_ok-both-in-At.ensures.is)

@@ -13,4 +13,5 @@ returns-clause-both c =
     let f = c.args.self.now in
     let wait = ready_by g f c.args.ready.now in
     latest_input g f c.args.edge wait c.in_ok-both.both c.requires.message
-    (subst (λ x. IsLatest g.faults wait (later_by (slot_length g (home g x)) (times_of g f x)) c.in_ok-both.both) c.message_item.ensures.item c.in_ok-both.ensures.both)
+    (subst (λ x. IsLatest g.faults wait (later_by (slot_length g (home g x)) (times_of g f x)) c.in_ok-both.both)
+    c.message_item.ensures.item c.in_ok-both.ensures.both)

@@ -25,12 +25,15 @@ returns-in_ok-start-in-After c =
       wide =
           c.self.inside.wide;
     } in
-    let same : end ≡ ends_of g f p = ends_read g f c.requires.forest inside c.self.view_is end p p c.index.ensures refl l in
+    let same : end ≡ ends_of g f p =
+    ends_read g f c.requires.forest inside c.self.view_is end p p c.index.ensures refl l in
     let of : IsTree g end = subst (IsTree g) (sym same) (ends_tree g f c.requires.forest p l) in
     record {
-      tree = same_tree g end t of.faults c.in_ok-start-in-After.ensures.is.faults c.in_ok-start-in-After.ensures.each (c.in_ok-start-in-After.ensures.pass (is_variable g) of.known);
+      tree = same_tree g end t of.faults c.in_ok-start-in-After.ensures.is.faults c.in_ok-start-in-After.ensures.each
+          (c.in_ok-start-in-After.ensures.pass (is_variable g) of.known);
       start = subst (λ (r : Ready). IsStartAfter g f (ready_by g f r) c.args.release [] t) (sym c.in-After.is)
-          (subst (λ (tree : TreeState _). IsStartAfter g f (later_tree tree) c.args.release [] t) same (start_after_ends g f end t c.args.release of c.in_ok-start-in-After.ensures.is));
+          (subst (λ (tree : TreeState _). IsStartAfter g f (later_tree tree) c.args.release [] t) same
+          (start_after_ends g f end t c.args.release of c.in_ok-start-in-After.ensures.is));
     }
 
 pub returns-in_ok-start-in-At : goal.returns-in_ok-start-in-At
@@ -41,6 +44,8 @@ returns-in_ok-start-in-At c =
     let t = c.in_ok-start-in-At.start in
     let of : IsTree g wait = subst (IsWait g) c.in-At.is c.requires.ready in
     record {
-      tree = same_tree g wait t of.faults c.in_ok-start-in-At.ensures.is.faults c.in_ok-start-in-At.ensures.each (c.in_ok-start-in-At.ensures.pass (is_variable g) of.known);
-      start = subst (λ (r : Ready). IsStartAfter g f (ready_by g f r) c.args.release [] t) (sym c.in-At.is) (start_valued g f wait t c.args.release of c.in_ok-start-in-At.ensures.is);
+      tree = same_tree g wait t of.faults c.in_ok-start-in-At.ensures.is.faults c.in_ok-start-in-At.ensures.each
+          (c.in_ok-start-in-At.ensures.pass (is_variable g) of.known);
+      start = subst (λ (r : Ready). IsStartAfter g f (ready_by g f r) c.args.release [] t) (sym c.in-At.is)
+          (start_valued g f wait t c.args.release of c.in_ok-start-in-At.ensures.is);
     }

@@ -7,7 +7,8 @@ use Rattle.cpg_expand.specs.Agreeing.{IsTree}
 use Rattle.cpg_expand.specs.Forest.{ForestState, IsWait, ends_of, ready_by, times_of}
 use Rattle.cpg_expand.specs.Later.{IsReleased}
 use Rattle.cpg_expand.specs.declared.forest.Ready.{Ready}
-use Rattle.cpg_expand.proofs.GuardTrees.{ends_and_read, ends_read, ends_tree, same_tree, times_read, times_tree, valued_and_read}
+use Rattle.cpg_expand.proofs.GuardTrees.{ends_and_read, ends_read, ends_tree, same_tree, times_read, times_tree}
+use Rattle.cpg_expand.proofs.GuardTrees.{valued_and_read}
 use Rattle.cpg_expand.proofs.forest.Forest.started_by_frame.Goals as goal
 
 pub returns-in_ok-start-in-After : goal.returns-in_ok-start-in-After
@@ -29,15 +30,20 @@ returns-in_ok-start-in-After c =
       wide =
           c.self.inside.wide;
     } in
-    let same : times ≡ times_of g f x = times_read g f c.requires.forest inside c.self.view_is times x x c.index-times.ensures refl c.requires.item in
-    let same_end : end ≡ ends_of g f p = ends_read g f c.requires.forest inside c.self.view_is end p p c.index.ensures refl l in
+    let same : times ≡ times_of g f x =
+    times_read g f c.requires.forest inside c.self.view_is times x x c.index-times.ensures refl c.requires.item in
+    let same_end : end ≡ ends_of g f p =
+    ends_read g f c.requires.forest inside c.self.view_is end p p c.index.ensures refl l in
     let of_times : IsTree g times = subst (IsTree g) (sym same) (times_tree g f c.requires.forest x c.requires.item) in
     let of_end : IsTree g end = subst (IsTree g) (sym same_end) (ends_tree g f c.requires.forest p l) in
     record {
-      tree = same_tree g times start of_times.faults c.in_ok-start-in-After.ensures.is.faults c.in_ok-start-in-After.ensures.each
+      tree = same_tree g times start of_times.faults c.in_ok-start-in-After.ensures.is.faults
+          c.in_ok-start-in-After.ensures.each
           (c.in_ok-start-in-After.ensures.pass (is_variable g) of_times.known of_end.known);
-      start = subst (λ (r : Ready). IsReleased g.faults (ready_by g f r) (later_by (slot_length g (home g x)) (times_of g f x)) c.args.release start) (sym c.in-After.is)
-          (ends_and_read g (λ n. Some (max n c.args.release)) delay (slot_length g (home g x)) (c.slot_length-delay.ensures ∙ ap (slot_length g) c.home.ensures.home) times
+      start = subst (λ (r : Ready). IsReleased g.faults (ready_by g f r)
+          (later_by (slot_length g (home g x)) (times_of g f x)) c.args.release start) (sym c.in-After.is)
+          (ends_and_read g (λ n. Some (max n c.args.release)) delay (slot_length g (home g x))
+          (c.slot_length-delay.ensures ∙ ap (slot_length g) c.home.ensures.home) times
           (times_of g f x) same of_times end (ends_of g f p) start same_end of_end c.in_ok-start-in-After.ensures.is);
     }
 
@@ -59,11 +65,15 @@ returns-in_ok-start-in-At c =
       wide =
           c.self.inside.wide;
     } in
-    let same : times ≡ times_of g f x = times_read g f c.requires.forest inside c.self.view_is times x x c.index-times.ensures refl c.requires.item in
+    let same : times ≡ times_of g f x =
+    times_read g f c.requires.forest inside c.self.view_is times x x c.index-times.ensures refl c.requires.item in
     let of_times : IsTree g times = subst (IsTree g) (sym same) (times_tree g f c.requires.forest x c.requires.item) in
     record {
-      tree = same_tree g ready start of.faults c.in_ok-start-in-At.ensures.is.faults c.in_ok-start-in-At.ensures.each (c.in_ok-start-in-At.ensures.pass (is_variable g) of.known of_times.known);
-      start = subst (λ (r : Ready). IsReleased g.faults (ready_by g f r) (later_by (slot_length g (home g x)) (times_of g f x)) c.args.release start) (sym c.in-At.is)
-          (valued_and_read g (λ n. Some (max n c.args.release)) delay (slot_length g (home g x)) (c.slot_length-delay.ensures ∙ ap (slot_length g) c.home.ensures.home) times
+      tree = same_tree g ready start of.faults c.in_ok-start-in-At.ensures.is.faults c.in_ok-start-in-At.ensures.each
+          (c.in_ok-start-in-At.ensures.pass (is_variable g) of.known of_times.known);
+      start = subst (λ (r : Ready). IsReleased g.faults (ready_by g f r)
+          (later_by (slot_length g (home g x)) (times_of g f x)) c.args.release start) (sym c.in-At.is)
+          (valued_and_read g (λ n. Some (max n c.args.release)) delay (slot_length g (home g x))
+          (c.slot_length-delay.ensures ∙ ap (slot_length g) c.home.ensures.home) times
           (times_of g f x) same of_times ready start of c.in_ok-start-in-At.ensures.is);
     }

@@ -30,16 +30,22 @@ returns-in_ok-start-in-After c =
       wide =
           c.self.inside.wide;
     } in
-    let same : times ≡ times_of g f x = times_read g f c.requires.forest inside c.self.view_is times x x c.index-times.ensures refl c.requires.item in
-    let same_end : end ≡ ends_of g f p = ends_read g f c.requires.forest inside c.self.view_is end p p c.index-end.ensures refl l in
+    let same : times ≡ times_of g f x =
+    times_read g f c.requires.forest inside c.self.view_is times x x c.index-times.ensures refl c.requires.item in
+    let same_end : end ≡ ends_of g f p =
+    ends_read g f c.requires.forest inside c.self.view_is end p p c.index-end.ensures refl l in
     let of_times : IsTree g times = subst (IsTree g) (sym same) (times_tree g f c.requires.forest x c.requires.item) in
     let of_end : IsTree g end = subst (IsTree g) (sym same_end) (ends_tree g f c.requires.forest p l) in
     record {
-      tree = same_tree g c.args.active.now start c.requires.active.faults c.in_ok-start-in-After.ensures.is.faults c.in_ok-start-in-After.ensures.each
+      tree = same_tree g c.args.active.now start c.requires.active.faults c.in_ok-start-in-After.ensures.is.faults
+          c.in_ok-start-in-After.ensures.each
           (c.in_ok-start-in-After.ensures.pass (is_variable g) c.requires.active.known of_times.known of_end.known);
-      start = subst (λ (r : Ready). IsReleasedWhere g.faults c.args.active.now (ready_by g f r) (later_by (slot_length g (home g x)) (times_of g f x)) c.args.release start) (sym c.in-After.is)
-          (ends_where g c.args.release delay (slot_length g (home g x)) (c.slot_length-delay.ensures ∙ ap (slot_length g) c.home.ensures.home) times
-          (times_of g f x) same of_times c.args.active.now c.requires.active end (ends_of g f p) start same_end of_end c.in_ok-start-in-After.ensures.is);
+      start = subst (λ (r : Ready). IsReleasedWhere g.faults c.args.active.now (ready_by g f r)
+          (later_by (slot_length g (home g x)) (times_of g f x)) c.args.release start) (sym c.in-After.is)
+          (ends_where g c.args.release delay (slot_length g (home g x))
+          (c.slot_length-delay.ensures ∙ ap (slot_length g) c.home.ensures.home) times
+          (times_of g f x) same of_times c.args.active.now c.requires.active end
+          (ends_of g f p) start same_end of_end c.in_ok-start-in-After.ensures.is);
     }
 
 pub returns-in_ok-start-in-At : goal.returns-in_ok-start-in-At
@@ -60,12 +66,17 @@ returns-in_ok-start-in-At c =
       wide =
           c.self.inside.wide;
     } in
-    let same : times ≡ times_of g f x = times_read g f c.requires.forest inside c.self.view_is times x x c.index-times.ensures refl c.requires.item in
+    let same : times ≡ times_of g f x =
+    times_read g f c.requires.forest inside c.self.view_is times x x c.index-times.ensures refl c.requires.item in
     let of_times : IsTree g times = subst (IsTree g) (sym same) (times_tree g f c.requires.forest x c.requires.item) in
     record {
-      tree = same_tree g c.args.active.now start c.requires.active.faults c.in_ok-start-in-At.ensures.is.faults c.in_ok-start-in-At.ensures.each
+      tree = same_tree g c.args.active.now start c.requires.active.faults c.in_ok-start-in-At.ensures.is.faults
+          c.in_ok-start-in-At.ensures.each
           (c.in_ok-start-in-At.ensures.pass (is_variable g) c.requires.active.known of.known of_times.known);
-      start = subst (λ (r : Ready). IsReleasedWhere g.faults c.args.active.now (ready_by g f r) (later_by (slot_length g (home g x)) (times_of g f x)) c.args.release start) (sym c.in-At.is)
-          (read_where g c.args.release delay (slot_length g (home g x)) (c.slot_length-delay.ensures ∙ ap (slot_length g) c.home.ensures.home) times
-          (times_of g f x) same of_times c.args.active.now c.requires.active ready start of c.in_ok-start-in-At.ensures.is);
+      start = subst (λ (r : Ready). IsReleasedWhere g.faults c.args.active.now (ready_by g f r)
+          (later_by (slot_length g (home g x)) (times_of g f x)) c.args.release start) (sym c.in-At.is)
+          (read_where g c.args.release delay (slot_length g (home g x))
+          (c.slot_length-delay.ensures ∙ ap (slot_length g) c.home.ensures.home) times
+          (times_of g f x) same of_times c.args.active.now c.requires.active ready start of
+          c.in_ok-start-in-At.ensures.is);
     }

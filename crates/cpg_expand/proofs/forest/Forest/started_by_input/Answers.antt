@@ -13,4 +13,5 @@ returns-clause-start c =
     let f = c.args.self.now in
     let wait = ready_by g f c.args.ready.now in
     released_input g f c.args.edge c.args.release wait c.in_ok-start.start c.requires.message
-    (subst (λ x. IsReleased g.faults wait (later_by (slot_length g (home g x)) (times_of g f x)) c.args.release c.in_ok-start.start) c.message_item-item.ensures.item c.in_ok-start.ensures.start)
+    (subst (λ x. IsReleased g.faults wait (later_by (slot_length g (home g x)) (times_of g f x)) c.args.release
+    c.in_ok-start.start) c.message_item-item.ensures.item c.in_ok-start.ensures.start)

@@ -13,5 +13,6 @@ returns-clause-start c =
     let f = c.args.self.now in
     let wait = ready_by g f c.args.ready.now in
     input_where g f c.args.edge c.args.release c.args.active.now wait c.in_ok-start.start c.requires.message
-    (subst (λ x. IsReleasedWhere g.faults c.args.active.now wait (later_by (slot_length g (home g x)) (times_of g f x)) c.args.release c.in_ok-start.start) c.message_item-item.ensures.item
+    (subst (λ x. IsReleasedWhere g.faults c.args.active.now wait (later_by (slot_length g (home g x)) (times_of g f x))
+    c.args.release c.in_ok-start.start) c.message_item-item.ensures.item
     c.in_ok-start.ensures.start)

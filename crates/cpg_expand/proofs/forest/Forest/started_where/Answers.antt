@@ -13,12 +13,17 @@ returns c =
     let f = c.args.self.now in
     let active = c.args.active.now in
     let never : TreeState (Option ℕ) = c.in_ok-never.never in
-    let of_never : IsTree g never = constant_tree g None c.faults.result never c.faults.ensures.faults c.in_ok-never.ensures.each c.in_ok-never.ensures.is
+    let of_never : IsTree g never = constant_tree g None c.faults.result never c.faults.ensures.faults
+    c.in_ok-never.ensures.each c.in_ok-never.ensures.is
     (c.in_ok-never.ensures.pass (is_variable g)) in
     record {
-      tree = same_tree g active c.in_ok-there.there c.requires.active.faults c.in_ok-there.ensures.is.faults c.in_ok-there.ensures.each
-          (c.in_ok-there.ensures.pass (is_variable g) c.requires.active.known c.in_ok-start.ensures.tree.known of_never.known);
-      start = picked_where g f active (ready_by g f c.args.ready.now) c.in_ok-there.there c.args.release c.in_ok-start.start never c.requires.active c.in_ok-start.ensures.tree of_never
+      tree = same_tree g active c.in_ok-there.there c.requires.active.faults c.in_ok-there.ensures.is.faults
+          c.in_ok-there.ensures.each
+          (c.in_ok-there.ensures.pass (is_variable g) c.requires.active.known c.in_ok-start.ensures.tree.known
+          of_never.known);
+      start = picked_where g f active (ready_by g f c.args.ready.now) c.in_ok-there.there c.args.release
+          c.in_ok-start.start never c.requires.active c.in_ok-start.ensures.tree of_never
           c.in_ok-start.ensures.start
-          (subst (λ k. IsConstant None k never) c.faults.ensures.faults c.in_ok-never.ensures.is) c.in_ok-there.ensures.is;
+          (subst (λ k. IsConstant None k never) c.faults.ensures.faults c.in_ok-never.ensures.is)
+          c.in_ok-there.ensures.is;
     }

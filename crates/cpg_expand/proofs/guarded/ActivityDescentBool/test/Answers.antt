@@ -4,4 +4,5 @@ use Rattle.cpg_expand.proofs.guarded.ActivityDescentBool.test.Goals as goal
 
 pub returns-clause-fits : goal.returns-clause-fits
 returns-clause-fits c = of_answer c.by_value.result _ _ c.by_value.ensures.picks
-    (λ t picks off on of_off of_on. active_test c.args.self.now.problem.now.faults c.args.condition off on c.args.no.now c.args.yes.now t of_off of_on picks)
+    (λ t picks off on of_off of_on. active_test c.args.self.now.problem.now.faults c.args.condition off on c.args.no.now
+    c.args.yes.now t of_off of_on picks)

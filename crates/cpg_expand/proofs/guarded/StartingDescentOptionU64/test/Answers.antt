@@ -6,5 +6,6 @@ use Rattle.cpg_expand.proofs.guarded.StartingDescentOptionU64.test.Goals as goal
 pub returns-clause-fits : goal.returns-clause-fits
 returns-clause-fits c = of_answer c.by_value.result _ _ c.by_value.ensures.picks
     (λ t picks off on of_off of_on. start_test c.args.self.now.problem.now c.args.self.now.forest.now
-    (ready_by c.args.self.now.problem.now c.args.self.now.forest.now c.args.self.now.wait.now) c.args.self.now.release c.args.self.now.inputs.now
+    (ready_by c.args.self.now.problem.now c.args.self.now.forest.now c.args.self.now.wait.now) c.args.self.now.release
+    c.args.self.now.inputs.now
     c.args.condition off on c.args.no.now c.args.yes.now t of_off of_on picks)

@@ -9,16 +9,20 @@ use Rattle.cpg_expand.proofs.measuring.Peak.or_past.Goals as goal
 pub or-requires-clause-tree : goal.or-requires-clause-tree
 or-requires-clause-tree c =
     let g = c.args.problem.now in
-    same_tree g c.args.end.now c.in_ok-past.past c.requires.tree.faults c.in_ok-past.ensures.is.faults c.in_ok-past.ensures.each (c.in_ok-past.ensures.pass (is_variable g) c.requires.tree.known)
+    same_tree g c.args.end.now c.in_ok-past.past c.requires.tree.faults c.in_ok-past.ensures.is.faults
+    c.in_ok-past.ensures.each (c.in_ok-past.ensures.pass (is_variable g) c.requires.tree.known)
 
 pub returns : goal.returns
 returns c =
     let g = c.args.problem.now in
-    let of : IsTree g c.in_ok-past.past = same_tree g c.args.end.now c.in_ok-past.past c.requires.tree.faults c.in_ok-past.ensures.is.faults c.in_ok-past.ensures.each
+    let of : IsTree g c.in_ok-past.past = same_tree g c.args.end.now c.in_ok-past.past c.requires.tree.faults
+    c.in_ok-past.ensures.is.faults c.in_ok-past.ensures.each
     (c.in_ok-past.ensures.pass (is_variable g) c.requires.tree.known) in
     record {
       tree = c.in_ok-past.past;
       of = of;
-      made = subst (λ (d : ℕ). IsMap (λ (x : Option ℕ) (z : Option ℕ). z ≡ time_past d x) c.args.end.now c.in_ok-past.past) c.due.ensures c.in_ok-past.ensures.is;
+      made =
+          subst (λ (d : ℕ). IsMap (λ (x : Option ℕ) (z : Option ℕ). z ≡ time_past d x) c.args.end.now c.in_ok-past.past)
+          c.due.ensures c.in_ok-past.ensures.is;
       next = c.in_ok-peak.ensures;
     }

@@ -1,8 +1,10 @@
 -- `after` makes the struct, and picks the history of its clause. Assumes `Logic`.
 use Rattle.std.proofs.Common.{◌≡◌}
 use base.Fml.{fsep, ftrue}
-use Rattle.cpg_history.proofs.Walks.{List, [], ◌∷◌, refl, proved, named, ‵, raw, ◌⊛◌, ◌$◌, ◌∵◌, !, qed, done, move, keep, split, fjoin, fpack, suffices, agg, enter, returns, no_more, and_then}
-use Rattle.cpg_history.proofs.Walks.{unit_lit, alloc_all, pass_all, free_all, look_at, sets, RefOf, yes, owns, shr_vals, shr_Tells, plain, named_lft, types_at, nothing, owned, makes, alive, says}
+use Rattle.cpg_history.proofs.Walks.{List, [], ◌∷◌, refl, proved, named, ‵, raw, ◌⊛◌, ◌$◌, ◌∵◌, !, qed, done, move}
+use Rattle.cpg_history.proofs.Walks.{keep, split, fjoin, fpack, suffices, agg, enter, returns, no_more, and_then}
+use Rattle.cpg_history.proofs.Walks.{unit_lit, alloc_all, pass_all, free_all, look_at, sets, RefOf, yes, owns, shr_vals}
+use Rattle.cpg_history.proofs.Walks.{shr_Tells, plain, named_lft, types_at, nothing, owned, makes, alive, says}
 use Rattle.cpg_history.proofs.Walks.{Stays, stay_dropped, walk_of, ends_at, Goes-dropped, empty, vunit}
 use Rattle.cpg_history.specs.Event.{after}
 use Rattle.cpg_history.specs.Fetch.{Fetch}
@@ -23,19 +25,31 @@ after_spec 𝓤 𝓛 𝓜 𝓡 wired =
     let c = f.clauses 𝓛 𝓜.mem 𝓡.returns in let W = walk_of 𝓛 f.ended stayed c in
     proved 𝓛 f.ended stayed c 𝓜 𝓡 (
       Goes-dropped 𝓛 3 (RefOf (0 ∷ []) tt (plain (λ _. R)) (λ _. tt)) yes (λ κs x w. refl),
-      (Goes-dropped 𝓛 3 (RefOf (1 ∷ []) tt (plain (λ κs. E.the_row (named_lft 3 2 tt κs))) (λ _. tt)) yes (λ κs x w. refl), tt),
+      (
+        Goes-dropped 𝓛 3 (RefOf (1 ∷ []) tt (plain (λ κs. E.the_row (named_lft 3 2 tt κs))) (λ _. tt)) yes
+            (λ κs x w. refl),
+        tt,
+      ),
     )
     f.Key.name code.function (code.unfolded 𝓤 𝓛.H 𝓜 𝓡 wired)
-    (λ κs. (shr_vals, (shr_vals, tt))) (λ κs. (shr_Tells (named 0) κs.0 R, (shr_Tells (named 1) κs.1.0 (E.the_row (named_lft 3 2 tt κs)), tt))) (λ κs qs bounds a _ are.
+    (λ κs. (shr_vals, (shr_vals, tt)))
+    (λ κs. (shr_Tells (named 0) κs.0 R, (shr_Tells (named 1) κs.1.0 (E.the_row (named_lft 3 2 tt κs)), tt)))
+    (λ κs qs bounds a _ are.
     let y : W.Ghost = ((κs, qs, bounds, a, (shr_vals a.0, (shr_vals a.1.0, tt))), tt) in
     let past : List Fetch = after a.1.0.now a.0.now in
-    let seen : (inner : Inside) × ((inner.fetches ≡ past) × Unit {0}) = (record { made = tt; fetches = past }, (refl, tt)) in
-    qed 𝓛 ((raw (alive 𝓛 f.signature κs qs) ⊛ ‵ (owns (types_at f.signature.params κs) a y.0.4)) ∷ raw ((c κs a).requires tt) ∷ []) ∵
+    let seen : (inner : Inside) × ((inner.fetches ≡ past) × Unit {0}) =
+    (record { made = tt; fetches = past }, (refl, tt)) in
+    qed 𝓛 ((raw (alive 𝓛 f.signature κs qs) ⊛ ‵ (owns (types_at f.signature.params κs) a y.0.4))
+    ∷ raw ((c κs a).requires tt) ∷ []) ∵
     keep ! (0 ∷ []) $ split ! $ keep ! (0 ∷ []) $
     enter ! _ _ _ _ _ $ alloc_all ! (λ l. pass_all ! refl ((tt, tt), ((tt, tt), tt)) $
     sets ! (agg ! (and_then ! (unit_lit !) (no_more !))) refl (tt, (tt, tt)) $
     returns ! (look_at ! 0 refl) $ free_all ! refl $
     suffices ! _ (ends_at 𝓛 f.ended stayed c y empty past (tt, (tt, tt)) (tt, (tt, tt))) $ says ! refl $
-    nothing ! $ nothing ! $ owned ! fields.the_row _ (makes fields.the_type (λ _ _. tt, tt) 𝓛) (record { made = tt }) (empty ∷ []) ((vunit ∷ [], tt), (refl, (refl, tt))) $ fjoin ! $ fjoin ! $
+    nothing ! $ nothing ! $ owned ! fields.the_row _ (makes fields.the_type (λ _ _. tt, tt) 𝓛)
+    (record { made = tt }) (empty ∷ []) (
+      (vunit ∷ [], tt),
+      (refl, (refl, tt)),
+    ) $ fjoin ! $ fjoin ! $
     fpack ! _ (λ x. fsep (inside.the_row.own_val x.0 (empty ∷ [])) ftrue) seen $
     nothing ! $ nothing ! $ fjoin ! $ nothing ! $ fjoin ! $ move ! (2 ∷ 0 ∷ 1 ∷ []) $ done !))

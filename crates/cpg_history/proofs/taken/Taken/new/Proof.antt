@@ -1,8 +1,10 @@
 -- `new` makes the struct, and picks no bytes for it. Assumes `Logic`.
 use Rattle.std.proofs.Common.{ℕ, ◌≡◌}
 use base.Fml.{fsep, ftrue}
-use Rattle.cpg_history.proofs.Walks.{List, [], ◌∷◌, refl, proved, ‵, raw, ◌⊛◌, ◌$◌, ◌∵◌, !, qed, done, move, keep, split, fjoin, fpack, suffices, agg, enter, returns, no_more, and_then, unit_lit}
-use Rattle.cpg_history.proofs.Walks.{alloc_all, pass_all, free_all, look_at, sets, owns, types_at, nothing, owned, makes, alive, says, Stays, walk_of, ends_at, empty, vunit}
+use Rattle.cpg_history.proofs.Walks.{List, [], ◌∷◌, refl, proved, ‵, raw, ◌⊛◌, ◌$◌, ◌∵◌, !, qed, done, move, keep}
+use Rattle.cpg_history.proofs.Walks.{split, fjoin, fpack, suffices, agg, enter, returns, no_more, and_then, unit_lit}
+use Rattle.cpg_history.proofs.Walks.{alloc_all, pass_all, free_all, look_at, sets, owns, types_at, nothing, owned}
+use Rattle.cpg_history.proofs.Walks.{makes, alive, says, Stays, walk_of, ends_at, empty, vunit}
 use Rattle.cpg_history.specs.contracts.taken.Taken.TheInside as inside
 use Rattle.cpg_history.specs.contracts.taken.Taken.TheInside.TheFields as fields
 use Rattle.cpg_history.specs.contracts.taken.Taken.new as f
@@ -21,13 +23,19 @@ new_spec 𝓤 𝓛 𝓜 𝓡 wired =
     (λ κs. tt) (λ κs. tt) (λ κs qs bounds a _ are.
     let y : W.Ghost = ((κs, qs, bounds, a, tt), tt) in
     let bytes : List ℕ = [] in
-    let seen : (inner : Inside) × ((inner.bytes ≡ bytes) × Unit {0}) = (record { made = tt; bytes = bytes }, (refl, tt)) in
-    qed 𝓛 ((raw (alive 𝓛 f.signature κs qs) ⊛ ‵ (owns (types_at f.signature.params κs) a tt)) ∷ raw ((c κs a).requires tt) ∷ []) ∵
+    let seen : (inner : Inside) × ((inner.bytes ≡ bytes) × Unit {0}) =
+    (record { made = tt; bytes = bytes }, (refl, tt)) in
+    qed 𝓛 ((raw (alive 𝓛 f.signature κs qs) ⊛ ‵ (owns (types_at f.signature.params κs) a tt))
+    ∷ raw ((c κs a).requires tt) ∷ []) ∵
     keep ! (0 ∷ []) $ split ! $ keep ! (0 ∷ []) $
     enter ! _ _ _ _ _ $ alloc_all ! (λ l. pass_all ! refl tt $
     sets ! (agg ! (and_then ! (unit_lit !) (no_more !))) refl (tt, (tt, tt)) $
     returns ! (look_at ! 0 refl) $ free_all ! refl $
     suffices ! _ (ends_at 𝓛 f.ended stayed c y empty bytes tt tt) $ says ! refl $
-    nothing ! $ nothing ! $ owned ! fields.the_row _ (makes fields.the_type (λ _ _. tt, tt) 𝓛) (record { made = tt }) (empty ∷ []) ((vunit ∷ [], tt), (refl, (refl, tt))) $ fjoin ! $ fjoin ! $
+    nothing ! $ nothing ! $ owned ! fields.the_row _ (makes fields.the_type (λ _ _. tt, tt) 𝓛)
+    (record { made = tt }) (empty ∷ []) (
+      (vunit ∷ [], tt),
+      (refl, (refl, tt)),
+    ) $ fjoin ! $ fjoin ! $
     fpack ! _ (λ x. fsep (inside.the_row.own_val x.0 (empty ∷ [])) ftrue) seen $
     nothing ! $ move ! (2 ∷ 0 ∷ 1 ∷ []) $ done !))

@@ -13,16 +13,22 @@ returns-clause-line c =
     let put = c.place_after-end.new.out in
     let room : old.count ≤ length old.literals.items = omega (arith, is.few, is.literals) in
     let at : c.index-at.result.now ≡ get_or old.ends.items old.count 0 =
-    c.index-at.ensures ∙ get_or_default old.ends.items old.count c.index-at.result.now 0 (omega (arith, c.requires.few, is.ends)) in
-    let long : length put ≡ 256 * 84 = c.place_after-end.ensures.len ∙ ap length c.as_mut_slice.ensures.value ∙ is.text in
+    c.index-at.ensures
+    ∙ get_or_default old.ends.items old.count c.index-at.result.now 0 (omega (arith, c.requires.few, is.ends)) in
+    let long : length put ≡ 256 * 84 =
+    c.place_after-end.ensures.len ∙ ap length c.as_mut_slice.ensures.value ∙ is.text in
     let stands : length old.text.items ≡ vec_len old.text = search rules in
-    let same = refilled (vec_len old.text) put old.text.items (c.place_after-end.ensures.len ∙ ap length c.as_mut_slice.ensures.value ∙ stands) in
+    let same = refilled (vec_len old.text) put old.text.items
+    (c.place_after-end.ensures.len ∙ ap length c.as_mut_slice.ensures.value ∙ stands) in
     let short = end_short labels old.literals.items old.text.items old.ends.items old.count is.are room in
-    let few : c.place_after-end.result ≤ get_or old.ends.items old.count 0 + 84 = omega (arith, at, c.place_after-end.ensures.few) in
+    let few : c.place_after-end.result ≤ get_or old.ends.items old.count 0 + 84 =
+    omega (arith, at, c.place_after-end.ensures.few) in
     record {
-      are = rw same (line_added labels old.literals.items old.text.items old.ends.items old.count is.are room _ put _ c.args.literal c.place_after-end.result refl refl
+      are = rw same (line_added labels old.literals.items old.text.items old.ends.items old.count is.are room _ put _
+          c.args.literal c.place_after-end.result refl refl
           (omega (arith, c.requires.few, is.literals)) (omega (arith, c.requires.few, is.ends))
-          (c.place_after-end.ensures.text ∙ ap₂ (λ e t. take e t ++ text_after labels old.count c.args.literal) at c.as_mut_slice.ensures.value)
+          (c.place_after-end.ensures.text
+          ∙ ap₂ (λ e t. take e t ++ text_after labels old.count c.args.literal) at c.as_mut_slice.ensures.value)
           few (omega (arith, few, short, long, c.requires.few)));
       few = omega (arith, c.requires.few);
       literals = length-set old.literals.items old.count c.args.literal ∙ is.literals;

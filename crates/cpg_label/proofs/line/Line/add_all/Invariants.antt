@@ -5,6 +5,7 @@ use Rattle.cpg_label.proofs.line.Line.add_all.Given as goal
 abbrev pub invariant-loop-literal : goal.invariant-loop-literal
 invariant-loop-literal l = record {
   line : IsLine l.labels l.self;
-  literals : take l.self.count l.self.literals.items ≡ take l.fn.self.count l.fn.self.literals.items ++ take l.literal-index l.literals;
+  literals : take l.self.count l.self.literals.items ≡ take l.fn.self.count l.fn.self.literals.items
+      ++ take l.literal-index l.literals;
   count : l.self.count ≡ l.fn.self.count + l.literal-index;
 }

@@ -6,7 +6,8 @@ pub returns-clause-line : goal.returns-clause-line
 returns-clause-line c =
     let old = c.args.self.now in
     record {
-      are = line_kept c.args.labels.now old.literals.items old.text.items old.ends.items old.count c.requires.line.are (omega (arith, c.requires.line.few, c.requires.line.literals)) c.args.count
+      are = line_kept c.args.labels.now old.literals.items old.text.items old.ends.items old.count c.requires.line.are
+          (omega (arith, c.requires.line.few, c.requires.line.literals)) c.args.count
           c.requires.within;
       few = omega (arith, c.requires.within, c.requires.line.few);
       literals = c.requires.line.literals;

@@ -12,7 +12,8 @@ returns c labels =
     let text_long : length text.items ≡ vec_len text = search rules in
     let ends_long : length ends.items ≡ vec_len ends = search rules in
     record {
-      are = line_new labels literals.items text.items ends.items (c.in_ok-ends.ensures.items_if_clones_equal (search rules));
+      are = line_new labels literals.items text.items ends.items
+          (c.in_ok-ends.ensures.items_if_clones_equal (search rules));
       few = omega arith;
       literals = omega (arith, literals_long, c.in_ok-literals.ensures.len);
       text = omega (arith, text_long, c.in_ok-text.ensures.len);

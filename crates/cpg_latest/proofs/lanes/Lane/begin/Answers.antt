@@ -6,9 +6,11 @@ use Rattle.cpg_latest.proofs.Halves.{half_first, half_more, half_all}
 use Rattle.cpg_latest.proofs.lanes.Lane.begin.Goals as goal
 
 pub loop-faults-init : goal.loop-faults-init
-loop-faults-init c = let lane = subst (IsLane c.args.setting.now.problem.now (CanBegin c.args.setting.now c.args.frozen.now c.args.process c.args.asked.now.scenario.now.values))
+loop-faults-init c = let lane = subst (IsLane c.args.setting.now.problem.now
+    (CanBegin c.args.setting.now c.args.frozen.now c.args.process c.args.asked.now.scenario.now.values))
     (sym c.self.view_is) c.requires.lane in record {
-      half = half_first (CanBegin c.args.setting.now c.args.frozen.now c.args.process c.args.asked.now.scenario.now.values)
+      half =
+          half_first (CanBegin c.args.setting.now c.args.frozen.now c.args.process c.args.asked.now.scenario.now.values)
           (HasSentTo c.args.setting.now c.args.frozen.now c.args.process 0 0 c.args.asked.now.scenario.now.values)
           (c.args.setting.now.problem.now.faults + 1) c.self.inside.courses.items lane.count lane.each;
       last = λ acts more goes late are. last_first c.args.setting.now.problem.now late c.args.process;
@@ -16,8 +18,10 @@ loop-faults-init c = let lane = subst (IsLane c.args.setting.now.problem.now (Ca
 
 pub begin-last-requires-clause-course : goal.begin-last-requires-clause-course
 begin-last-requires-clause-course c =
-    subst (CanBegin c.args.setting.now c.args.frozen.now c.args.process c.args.asked.now.scenario.now.values c.loop-faults.faults) (sym c.index_mut-course.ensures.value)
-    (c.loop-faults.invariant.half.left c.loop-faults.faults c.index_mut-course.result.now (omega arith) (omega (arith, c.loop-faults-test.true, c.requires.lane.count, ap length c.self.view_is)))
+    subst (CanBegin c.args.setting.now c.args.frozen.now c.args.process c.args.asked.now.scenario.now.values
+    c.loop-faults.faults) (sym c.index_mut-course.ensures.value)
+    (c.loop-faults.invariant.half.left c.loop-faults.faults c.index_mut-course.result.now (omega arith)
+    (omega (arith, c.loop-faults-test.true, c.requires.lane.count, ap length c.self.view_is)))
 
 pub begin-last-requires-clause-last : goal.begin-last-requires-clause-last
 begin-last-requires-clause-last c = c.loop-faults.invariant.last
@@ -26,9 +30,12 @@ pub loop-faults-preserved : goal.loop-faults-preserved
 loop-faults-preserved c = record {
   half = half_more (CanBegin c.args.setting.now c.args.frozen.now c.args.process c.args.asked.now.scenario.now.values)
       (HasSentTo c.args.setting.now c.args.frozen.now c.args.process 0 0 c.args.asked.now.scenario.now.values)
-      (c.args.setting.now.problem.now.faults + 1) c.loop-faults.faults c.loop-faults.self-inside.courses.items _ c.begin-last.new.course c.loop-faults.invariant.half
-      (omega (arith, c.loop-faults-test.true, c.requires.lane.count, ap length c.self.view_is)) c.begin-last.ensures.sends refl;
-  last = λ acts more goes late are. c.begin-last.ensures.end acts more goes late are ∙ last_next c.args.setting.now.problem.now late c.loop-faults.faults c.args.process;
+      (c.args.setting.now.problem.now.faults + 1) c.loop-faults.faults c.loop-faults.self-inside.courses.items _
+      c.begin-last.new.course c.loop-faults.invariant.half
+      (omega (arith, c.loop-faults-test.true, c.requires.lane.count, ap length c.self.view_is))
+      c.begin-last.ensures.sends refl;
+  last = λ acts more goes late are. c.begin-last.ensures.end acts more goes late are
+      ∙ last_next c.args.setting.now.problem.now late c.loop-faults.faults c.args.process;
 }
 
 pub returns : goal.returns
@@ -36,6 +43,13 @@ returns c = record {
   count = c.loop-faults.invariant.half.count_is;
   each = half_all (CanBegin c.args.setting.now c.args.frozen.now c.args.process c.args.asked.now.scenario.now.values)
       (HasSentTo c.args.setting.now c.args.frozen.now c.args.process 0 0 c.args.asked.now.scenario.now.values)
-      (c.args.setting.now.problem.now.faults + 1) c.loop-faults.faults c.loop-faults.self-inside.courses.items c.loop-faults.invariant.half
-      (omega (arith, c.loop-faults-test.false, c.loop-faults.auto.faults-end, c.requires.lane.count, ap length c.self.view_is));
+      (c.args.setting.now.problem.now.faults + 1) c.loop-faults.faults c.loop-faults.self-inside.courses.items
+      c.loop-faults.invariant.half
+      (omega (
+        arith,
+        c.loop-faults-test.false,
+        c.loop-faults.auto.faults-end,
+        c.requires.lane.count,
+        ap length c.self.view_is,
+      ));
 }

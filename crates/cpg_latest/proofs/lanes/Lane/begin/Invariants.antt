@@ -5,7 +5,8 @@ use Rattle.cpg_latest.proofs.lanes.Lane.begin.Given as goal
 
 abbrev pub invariant-loop-faults : goal.invariant-loop-faults
 invariant-loop-faults l = record {
-  half : AreHalf (CanBegin l.setting l.frozen l.process l.asked.scenario.now.values) (HasSentTo l.setting l.frozen l.process 0 0 l.asked.scenario.now.values) l.faults
+  half : AreHalf (CanBegin l.setting l.frozen l.process l.asked.scenario.now.values)
+      (HasSentTo l.setting l.frozen l.process 0 0 l.asked.scenario.now.values) l.faults
       (l.setting.problem.now.faults + 1) l.self-inside.courses.items;
   last : l.asked.acts ≡ true → IsLastEnd l.setting l.frozen l.process l.asked.scenario.now.values l.faults l.last;
 }

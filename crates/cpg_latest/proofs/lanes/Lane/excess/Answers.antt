@@ -6,5 +6,7 @@ use Rattle.cpg_latest.proofs.lanes.Lane.excess.Goals as goal
 
 pub loop-process-preserved : goal.loop-process-preserved
 loop-process-preserved c =
-    greatest_below (λ p. end_in c.index-course.result.now.known p - due c.args.problem.now p) c.loop-process.process c.loop-process.most c.max-most.result c.loop-process.invariant
-    (c.max-most.ensures ∙ ap (λ v. max c.loop-process.most v) (c.saturating_sub.ensures ∙ ap₂ (λ e d. e - d) c.end-end.ensures c.due.ensures))
+    greatest_below (λ p. end_in c.index-course.result.now.known p - due c.args.problem.now p) c.loop-process.process
+    c.loop-process.most c.max-most.result c.loop-process.invariant
+    (c.max-most.ensures ∙ ap (λ v. max c.loop-process.most v)
+    (c.saturating_sub.ensures ∙ ap₂ (λ e d. e - d) c.end-end.ensures c.due.ensures))

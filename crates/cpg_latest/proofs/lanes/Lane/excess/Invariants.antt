@@ -5,4 +5,5 @@ use Rattle.cpg_run.specs.Run.{end_in}
 use Rattle.cpg_latest.proofs.lanes.Lane.excess.Given as goal
 
 abbrev pub invariant-loop-process : goal.invariant-loop-process
-invariant-loop-process l = l.most ≡ greatest (map (λ p. end_in l.course.known p - due l.problem p) (numbers_below l.process))
+invariant-loop-process l =
+    l.most ≡ greatest (map (λ p. end_in l.course.known p - due l.problem p) (numbers_below l.process))

@@ -5,5 +5,6 @@ use Rattle.cpg_latest.proofs.lanes.Lane.finish.Goals as goal
 
 pub loop-process-preserved : goal.loop-process-preserved
 loop-process-preserved c =
-    greatest_below (λ p. end_in c.index-course.result.now.known p) c.loop-process.process c.loop-process.latest c.max-latest.result c.loop-process.invariant
+    greatest_below (λ p. end_in c.index-course.result.now.known p) c.loop-process.process c.loop-process.latest
+    c.max-latest.result c.loop-process.invariant
     (c.max-latest.ensures ∙ ap (λ v. max c.loop-process.latest v) c.end.ensures)

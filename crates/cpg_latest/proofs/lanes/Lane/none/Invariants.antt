@@ -3,4 +3,5 @@ use Rattle.cpg_run.specs.Known.{no_times}
 use Rattle.cpg_latest.proofs.lanes.Lane.none.Given as goal
 
 abbrev pub invariant-loop : goal.invariant-loop
-invariant-loop l = l.courses.items ≡ replicate l.counter (record { known = no_times l.problem; ready = replicate (length l.problem.nodes) 0; free = replicate (length l.problem.nodes) 0 })
+invariant-loop l = l.courses.items ≡ replicate l.counter
+    (record { known = no_times l.problem; ready = replicate (length l.problem.nodes) 0; free = replicate (length l.problem.nodes) 0 })

@@ -1,4 +1,5 @@
-use Rattle.std.proofs.Common.{◌≡◌, ◌∙◌, ◌+◌, ◌^◌, ◌<◌, false, true, refl, sym, ap, length, get_or, Contains, subst, arith}
+use Rattle.std.proofs.Common.{◌≡◌, ◌∙◌, ◌+◌, ◌^◌, ◌<◌, false, true, refl, sym, ap, length, get_or, Contains, subst}
+use Rattle.std.proofs.Common.{arith}
 use Rattle.std.proofs.lemmas.List.Elements.{Contains-get_or}
 use Rattle.cpg_base.specs.Activity.{item_active}
 use Rattle.cpg_base.specs.Graph.{item_at}
@@ -15,7 +16,8 @@ use Rattle.cpg_latest.proofs.lanes.Lane.send.Goals as goal
 
 pub is_sent-requires-clause-item : goal.is_sent-requires-clause-item
 is_sent-requires-clause-item c =
-    subst (λ xs. Contains xs (get_or c.queue.result.now c.args.at 0)) c.queue.ensures (Contains-get_or c.queue.result.now c.args.at 0 (omega (arith, c.requires.at, ap length c.queue.ensures)))
+    subst (λ xs. Contains xs (get_or c.queue.result.now c.args.at 0)) c.queue.ensures
+    (Contains-get_or c.queue.result.now c.args.at 0 (omega (arith, c.requires.at, ap length c.queue.ensures)))
 
 pub returns-then-not-is_sent : goal.returns-then-not-is_sent
 returns-then-not-is_sent c =
@@ -23,43 +25,55 @@ returns-then-not-is_sent c =
     let order = c.args.setting.now.order.now in
     let p = c.args.process in
     let values = c.args.asked.now.scenario.now.values in
-    let here : get_or c.queue.result.now c.args.at 0 ≡ queued g p c.args.at = ap (λ xs. get_or xs c.args.at 0) c.queue.ensures in
+    let here : get_or c.queue.result.now c.args.at 0 ≡ queued g p c.args.at =
+    ap (λ xs. get_or xs c.args.at 0) c.queue.ensures in
     lane_map g (HasSentTo c.args.setting.now c.args.frozen.now p (c.args.at + 1) c.args.at values)
     (HasSentTo c.args.setting.now c.args.frozen.now p (c.args.at + 1) (c.args.at + 1) values) c.args.self.now
-    (λ n course few s. unsent g order c.requires.setting.topological (IsDone g order p (c.args.at + 1)) c.args.frozen.now values p c.requires.process
+    (λ n course few s. unsent g order c.requires.setting.topological
+    (IsDone g order p (c.args.at + 1)) c.args.frozen.now values p c.requires.process
     (on_graph g c.requires.setting.admitted.1.limits p c.requires.process) n few
-    c.args.at c.requires.at course s (λ acts. subst (λ y. item_active g values (item_at g y) ≡ false) here (c.is_sent.ensures.unsent c.if-not-is_sent.true acts))) c.requires.lane
+    c.args.at c.requires.at course s (λ acts. subst (λ y. item_active g values (item_at g y) ≡ false) here
+    (c.is_sent.ensures.unsent c.if-not-is_sent.true acts))) c.requires.lane
 
 pub loop-faults-init : goal.loop-faults-init
 loop-faults-init c = let lane = subst (IsLane c.args.setting.now.problem.now
-    (HasSentTo c.args.setting.now c.args.frozen.now c.args.process (c.args.at + 1) c.args.at c.args.asked.now.scenario.now.values)) (sym c.self.view_is) c.requires.lane in
-    half_first (HasSentTo c.args.setting.now c.args.frozen.now c.args.process (c.args.at + 1) c.args.at c.args.asked.now.scenario.now.values)
-    (HasSentTo c.args.setting.now c.args.frozen.now c.args.process (c.args.at + 1) (c.args.at + 1) c.args.asked.now.scenario.now.values)
+    (HasSentTo c.args.setting.now c.args.frozen.now c.args.process
+    (c.args.at + 1) c.args.at c.args.asked.now.scenario.now.values)) (sym c.self.view_is) c.requires.lane in
+    half_first (HasSentTo c.args.setting.now c.args.frozen.now c.args.process
+    (c.args.at + 1) c.args.at c.args.asked.now.scenario.now.values)
+    (HasSentTo c.args.setting.now c.args.frozen.now c.args.process (c.args.at + 1)
+    (c.args.at + 1) c.args.asked.now.scenario.now.values)
     (c.args.setting.now.problem.now.faults + 1) c.self.inside.courses.items lane.count lane.each
 
 pub send-requires-clause-item : goal.send-requires-clause-item
 send-requires-clause-item c =
     let g = c.args.setting.now.problem.now in
     let x = get_or c.queue.result.now c.args.at 0 in
-    (in_queue g c.args.process x (subst (λ xs. Contains xs x) c.queue.ensures (Contains-get_or c.queue.result.now c.args.at 0 (omega (arith, c.requires.at, ap length c.queue.ensures))))).within
+    (in_queue g c.args.process x (subst (λ xs. Contains xs x) c.queue.ensures (Contains-get_or c.queue.result.now
+    c.args.at 0 (omega (arith, c.requires.at, ap length c.queue.ensures))))).within
 
 pub send-requires-clause-slot : goal.send-requires-clause-slot
 send-requires-clause-slot c =
     let g = c.args.setting.now.problem.now in
-    queued_slot g c.requires.setting.admitted.1.slots c.args.process (queued g c.args.process c.args.at) (Contains-get_or (queue_of g c.args.process) c.args.at 0 c.requires.at)
+    queued_slot g c.requires.setting.admitted.1.slots c.args.process (queued g c.args.process c.args.at)
+    (Contains-get_or (queue_of g c.args.process) c.args.at 0 c.requires.at)
 
 pub send-requires-clause-times : goal.send-requires-clause-times
 send-requires-clause-times c =
-    let few : c.loop-faults.faults < c.args.setting.now.problem.now.faults + 1 = omega (arith, c.loop-faults-test.true, c.requires.lane.count, ap length c.self.view_is) in
-    let s = subst (HasSentTo c.args.setting.now c.args.frozen.now c.args.process (c.args.at + 1) c.args.at c.args.asked.now.scenario.now.values c.loop-faults.faults)
+    let few : c.loop-faults.faults < c.args.setting.now.problem.now.faults + 1 =
+    omega (arith, c.loop-faults-test.true, c.requires.lane.count, ap length c.self.view_is) in
+    let s = subst (HasSentTo c.args.setting.now c.args.frozen.now c.args.process
+    (c.args.at + 1) c.args.at c.args.asked.now.scenario.now.values c.loop-faults.faults)
     (sym c.index_mut-course.ensures.value)
     (c.loop-faults.invariant.left c.loop-faults.faults c.index_mut-course.result.now (omega arith) few) in
     s.places.times
 
 pub send-requires-clause-free : goal.send-requires-clause-free
 send-requires-clause-free c =
-    let few : c.loop-faults.faults < c.args.setting.now.problem.now.faults + 1 = omega (arith, c.loop-faults-test.true, c.requires.lane.count, ap length c.self.view_is) in
-    let s = subst (HasSentTo c.args.setting.now c.args.frozen.now c.args.process (c.args.at + 1) c.args.at c.args.asked.now.scenario.now.values c.loop-faults.faults)
+    let few : c.loop-faults.faults < c.args.setting.now.problem.now.faults + 1 =
+    omega (arith, c.loop-faults-test.true, c.requires.lane.count, ap length c.self.view_is) in
+    let s = subst (HasSentTo c.args.setting.now c.args.frozen.now c.args.process
+    (c.args.at + 1) c.args.at c.args.asked.now.scenario.now.values c.loop-faults.faults)
     (sym c.index_mut-course.ensures.value)
     (c.loop-faults.invariant.left c.loop-faults.faults c.index_mut-course.result.now (omega arith) few) in
     s.places.free_count
@@ -70,14 +84,20 @@ send-requires-clause-early c =
     let order = c.args.setting.now.order.now in
     let p = c.args.process in
     let values = c.args.asked.now.scenario.now.values in
-    let few : c.loop-faults.faults < g.faults + 1 = omega (arith, c.loop-faults-test.true, c.requires.lane.count, ap length c.self.view_is) in
-    let here : get_or c.queue.result.now c.args.at 0 ≡ queued g p c.args.at = ap (λ xs. get_or xs c.args.at 0) c.queue.ensures in
-    let s = subst (HasSentTo c.args.setting.now c.args.frozen.now p (c.args.at + 1) c.args.at values c.loop-faults.faults) (sym c.index_mut-course.ensures.value)
+    let few : c.loop-faults.faults < g.faults + 1 =
+    omega (arith, c.loop-faults-test.true, c.requires.lane.count, ap length c.self.view_is) in
+    let here : get_or c.queue.result.now c.args.at 0 ≡ queued g p c.args.at =
+    ap (λ xs. get_or xs c.args.at 0) c.queue.ensures in
+    let s =
+    subst (HasSentTo c.args.setting.now c.args.frozen.now p (c.args.at + 1) c.args.at values c.loop-faults.faults)
+    (sym c.index_mut-course.ensures.value)
     (c.loop-faults.invariant.left c.loop-faults.faults c.index_mut-course.result.now (omega arith) few) in
     let sent = c.is_sent.ensures.sent c.if-not-is_sent.false in
     (item_small g order c.requires.setting.topological c.args.frozen.now values p c.requires.process
-    (on_graph g c.requires.setting.admitted.1.limits p c.requires.process) c.args.at c.requires.at c.loop-faults.faults few
-    c.index_mut-course.result.now s sent.0 (subst (λ y. item_active g values (item_at g y) ≡ true) here sent.1) c.requires.setting.admitted.1.limits c.requires.asked.long c.requires.early).0
+    (on_graph g c.requires.setting.admitted.1.limits p c.requires.process) c.args.at c.requires.at
+    c.loop-faults.faults few
+    c.index_mut-course.result.now s sent.0 (subst (λ y. item_active g values (item_at g y) ≡ true) here sent.1)
+    c.requires.setting.admitted.1.limits c.requires.asked.long c.requires.early).0
 
 pub send-requires-clause-time : goal.send-requires-clause-time
 send-requires-clause-time c =
@@ -85,15 +105,21 @@ send-requires-clause-time c =
     let order = c.args.setting.now.order.now in
     let p = c.args.process in
     let values = c.args.asked.now.scenario.now.values in
-    let few : c.loop-faults.faults < g.faults + 1 = omega (arith, c.loop-faults-test.true, c.requires.lane.count, ap length c.self.view_is) in
-    let here : get_or c.queue.result.now c.args.at 0 ≡ queued g p c.args.at = ap (λ xs. get_or xs c.args.at 0) c.queue.ensures in
-    let s = subst (HasSentTo c.args.setting.now c.args.frozen.now p (c.args.at + 1) c.args.at values c.loop-faults.faults) (sym c.index_mut-course.ensures.value)
+    let few : c.loop-faults.faults < g.faults + 1 =
+    omega (arith, c.loop-faults-test.true, c.requires.lane.count, ap length c.self.view_is) in
+    let here : get_or c.queue.result.now c.args.at 0 ≡ queued g p c.args.at =
+    ap (λ xs. get_or xs c.args.at 0) c.queue.ensures in
+    let s =
+    subst (HasSentTo c.args.setting.now c.args.frozen.now p (c.args.at + 1) c.args.at values c.loop-faults.faults)
+    (sym c.index_mut-course.ensures.value)
     (c.loop-faults.invariant.left c.loop-faults.faults c.index_mut-course.result.now (omega arith) few) in
     let sent = c.is_sent.ensures.sent c.if-not-is_sent.false in
     subst (λ y. send_at g c.args.frozen.now p y c.index_mut-course.result.now < 2 ^ 59) (sym here)
     (item_small g order c.requires.setting.topological c.args.frozen.now values p c.requires.process
-    (on_graph g c.requires.setting.admitted.1.limits p c.requires.process) c.args.at c.requires.at c.loop-faults.faults few
-    c.index_mut-course.result.now s sent.0 (subst (λ y. item_active g values (item_at g y) ≡ true) here sent.1) c.requires.setting.admitted.1.limits c.requires.asked.long c.requires.early).1
+    (on_graph g c.requires.setting.admitted.1.limits p c.requires.process) c.args.at c.requires.at
+    c.loop-faults.faults few
+    c.index_mut-course.result.now s sent.0 (subst (λ y. item_active g values (item_at g y) ≡ true) here sent.1)
+    c.requires.setting.admitted.1.limits c.requires.asked.long c.requires.early).1
 
 pub loop-faults-preserved : goal.loop-faults-preserved
 loop-faults-preserved c =
@@ -101,25 +127,42 @@ loop-faults-preserved c =
     let order = c.args.setting.now.order.now in
     let p = c.args.process in
     let values = c.args.asked.now.scenario.now.values in
-    let few : c.loop-faults.faults < g.faults + 1 = omega (arith, c.loop-faults-test.true, c.requires.lane.count, ap length c.self.view_is) in
-    let here : get_or c.queue.result.now c.args.at 0 ≡ queued g p c.args.at = ap (λ xs. get_or xs c.args.at 0) c.queue.ensures in
+    let few : c.loop-faults.faults < g.faults + 1 =
+    omega (arith, c.loop-faults-test.true, c.requires.lane.count, ap length c.self.view_is) in
+    let here : get_or c.queue.result.now c.args.at 0 ≡ queued g p c.args.at =
+    ap (λ xs. get_or xs c.args.at 0) c.queue.ensures in
     let course = c.index_mut-course.result.now in
-    let s = subst (HasSentTo c.args.setting.now c.args.frozen.now p (c.args.at + 1) c.args.at values c.loop-faults.faults) (sym c.index_mut-course.ensures.value)
+    let s =
+    subst (HasSentTo c.args.setting.now c.args.frozen.now p (c.args.at + 1) c.args.at values c.loop-faults.faults)
+    (sym c.index_mut-course.ensures.value)
     (c.loop-faults.invariant.left c.loop-faults.faults course (omega arith) few) in
     let sent = c.is_sent.ensures.sent c.if-not-is_sent.false in
-    half_more (HasSentTo c.args.setting.now c.args.frozen.now p (c.args.at + 1) c.args.at values) (HasSentTo c.args.setting.now c.args.frozen.now p (c.args.at + 1) (c.args.at + 1) values)
-    (g.faults + 1) c.loop-faults.faults c.loop-faults.self-inside.courses.items _ c.send.new.course c.loop-faults.invariant few
-    (subst (HasSentTo c.args.setting.now c.args.frozen.now p (c.args.at + 1) (c.args.at + 1) values c.loop-faults.faults)
+    half_more (HasSentTo c.args.setting.now c.args.frozen.now p (c.args.at + 1) c.args.at values)
+    (HasSentTo c.args.setting.now c.args.frozen.now p (c.args.at + 1) (c.args.at + 1) values)
+    (g.faults + 1) c.loop-faults.faults c.loop-faults.self-inside.courses.items _ c.send.new.course
+    c.loop-faults.invariant few
+    (subst
+    (HasSentTo c.args.setting.now c.args.frozen.now p (c.args.at + 1) (c.args.at + 1) values c.loop-faults.faults)
     (sym (c.send.ensures ∙ ap (λ y. course_sent g c.args.frozen.now p y course) here))
     (item_sent g order c.requires.setting.topological c.args.frozen.now values p c.requires.process
-    (on_graph g c.requires.setting.admitted.1.limits p c.requires.process) c.args.at c.requires.at c.loop-faults.faults few
+    (on_graph g c.requires.setting.admitted.1.limits p c.requires.process) c.args.at c.requires.at
+    c.loop-faults.faults few
     course s sent.0 (subst (λ y. item_active g values (item_at g y) ≡ true) here sent.1))) refl
 
 pub returns : goal.returns
 returns c = record {
   count = c.loop-faults.invariant.count_is;
-  each = half_all (HasSentTo c.args.setting.now c.args.frozen.now c.args.process (c.args.at + 1) c.args.at c.args.asked.now.scenario.now.values)
-      (HasSentTo c.args.setting.now c.args.frozen.now c.args.process (c.args.at + 1) (c.args.at + 1) c.args.asked.now.scenario.now.values)
-      (c.args.setting.now.problem.now.faults + 1) c.loop-faults.faults c.loop-faults.self-inside.courses.items c.loop-faults.invariant
-      (omega (arith, c.loop-faults-test.false, c.loop-faults.auto.faults-end, c.requires.lane.count, ap length c.self.view_is));
+  each = half_all (HasSentTo c.args.setting.now c.args.frozen.now c.args.process
+      (c.args.at + 1) c.args.at c.args.asked.now.scenario.now.values)
+      (HasSentTo c.args.setting.now c.args.frozen.now c.args.process (c.args.at + 1)
+      (c.args.at + 1) c.args.asked.now.scenario.now.values)
+      (c.args.setting.now.problem.now.faults + 1) c.loop-faults.faults c.loop-faults.self-inside.courses.items
+      c.loop-faults.invariant
+      (omega (
+        arith,
+        c.loop-faults-test.false,
+        c.loop-faults.auto.faults-end,
+        c.requires.lane.count,
+        ap length c.self.view_is,
+      ));
 }

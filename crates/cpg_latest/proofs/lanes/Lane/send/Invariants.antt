@@ -5,5 +5,6 @@ use Rattle.cpg_latest.proofs.lanes.Lane.send.Given as goal
 
 abbrev pub invariant-loop-faults : goal.invariant-loop-faults
 invariant-loop-faults l =
-    AreHalf (HasSentTo l.setting l.frozen l.process (l.at + 1) l.at l.asked.scenario.now.values) (HasSentTo l.setting l.frozen l.process (l.at + 1) (l.at + 1) l.asked.scenario.now.values) l.faults
+    AreHalf (HasSentTo l.setting l.frozen l.process (l.at + 1) l.at l.asked.scenario.now.values)
+    (HasSentTo l.setting l.frozen l.process (l.at + 1) (l.at + 1) l.asked.scenario.now.values) l.faults
     (l.setting.problem.now.faults + 1) l.self-inside.courses.items

@@ -25,31 +25,47 @@ invariant_of-self g c =
       live = live ∙ ap (λ t. after t (old.fed ++ piece)) (sym same);
       read = omega (arith, old.read, long, bound.1);
       few = search rules;
-      told = omega (arith, old.told, ap (λ (done : List Act). length done) grown.1, length-append c.self.inside.live.progress.acts grown.0);
+      told = omega (
+        arith,
+        old.told,
+        ap (λ (done : List Act). length done) grown.1,
+        length-append c.self.inside.live.progress.acts grown.0,
+      );
       room = omega (arith, old.room, ap entry_count same);
     }
 
 pub returns-in_err-count-clause-rest : goal.returns-in_err-count-clause-rest
 returns-in_err-count-clause-rest g c r =
-    read_rest (g.S.Shelf.state c.args.shelf.now) (g.S.Shelf.state c.read.new.self) c.read.ensures.names c.read.result c.read.new.buf (search rules) c.read.ensures.history c.read.ensures.bytes r
+    read_rest (g.S.Shelf.state c.args.shelf.now) (g.S.Shelf.state c.read.new.self) c.read.ensures.names c.read.result
+    c.read.new.buf (search rules) c.read.ensures.history c.read.ensures.bytes r
 
 pub returns-clause-rest : goal.returns-clause-rest
 returns-clause-rest g c r =
-    read_rest (g.S.Shelf.state c.args.shelf.now) (g.S.Shelf.state c.read.new.self) c.read.ensures.names c.read.result c.read.new.buf (search rules) c.read.ensures.history c.read.ensures.bytes r
+    read_rest (g.S.Shelf.state c.args.shelf.now) (g.S.Shelf.state c.read.new.self) c.read.ensures.names c.read.result
+    c.read.new.buf (search rules) c.read.ensures.history c.read.ensures.bytes r
 
 pub returns-clause-piece : goal.returns-clause-piece
 returns-clause-piece g c =
     let old = c.self.invariant in
     let piece = take c.in_ok-count.count c.read.new.buf in
     let table = table_in c.self.inside in
-    let same : c.feed.new.self.progress.dispatcher.table ≡ table = table_after table (old.fed ++ piece) c.feed.new.self (c.feed.ensures.whole table old.fed old.live) in
+    let same : c.feed.new.self.progress.dispatcher.table ≡ table =
+    table_after table (old.fed ++ piece) c.feed.new.self (c.feed.ensures.whole table old.fed old.live) in
     record {
       piece = piece;
       long = search rules;
       gave = search rules;
       state = ap (λ (t : NodeTable). let f : Follower =
-          record { head = c.self.inside.head; table = t; live = c.feed.new.self; told = c.self.inside.told; read = c.self.inside.read + c.in_ok-count.count } in f) same
-          ∙ ap (λ (f : Follower). let h : Follower = record f { live = c.feed.new.self; read = f.read + c.in_ok-count.count } in h) c.self.view_is;
+          record {
+            head = c.self.inside.head;
+            table = t;
+            live = c.feed.new.self;
+            told = c.self.inside.told;
+            read = c.self.inside.read + c.in_ok-count.count;
+          } in f) same
+          ∙ ap (λ (f : Follower). let h : Follower =
+          record f { live = c.feed.new.self; read = f.read + c.in_ok-count.count } in h) c.self.view_is;
       few = search rules;
-      fed = subst (λ l. Feeds l piece c.feed.new.self) (ap (λ (f : Follower). f.live) c.self.view_is) c.feed.ensures.whole;
+      fed = subst (λ l. Feeds l piece c.feed.new.self)
+          (ap (λ (f : Follower). f.live) c.self.view_is) c.feed.ensures.whole;
     }

@@ -4,7 +4,8 @@ use Rattle.cpg_io.specs.Sink.{Took, TookPrefix}
 use Rattle.cpg_live.specs.declared.following.TheConstants.{STREAM_LIMIT}
 use Rattle.cpg_live.specs.Follower.{Follower}
 use Rattle.cpg_live.specs.Streams.{act_lines}
-use Rattle.cpg_live.proofs.Along.{along_at, fed_cut, fed_lawless, fed_long, fed_on, lines_told, on_err, on_ok, unread, wrote_all}
+use Rattle.cpg_live.proofs.Along.{along_at, fed_cut, fed_lawless, fed_long, fed_on, lines_told, on_err, on_ok, unread}
+use Rattle.cpg_live.proofs.Along.{wrote_all}
 use Rattle.cpg_live.proofs.following.Follower.follow_piece.Goals as goal
 
 pub returns-in_default-clause-along : goal.returns-in_default-clause-along
@@ -31,7 +32,8 @@ returns-then-is_err-clause-along g c start name past a =
       is = (
         on_err c.tell.result failed c.tell.ensures.cause.failed,
         fed_cut name past rest.history start now out f.head f.table f.live.progress.acts f.told n.read n.live k
-            (subst (TookPrefix now out) (lines_told shelf rest f n c.in-Ok.fed.count c.in-Ok.ensures.piece) (on_err c.tell.result failed c.tell.ensures.part)),
+            (subst (TookPrefix now out) (lines_told shelf rest f n c.in-Ok.fed.count c.in-Ok.ensures.piece)
+            (on_err c.tell.result failed c.tell.ensures.part)),
       );
     }
 
@@ -52,11 +54,14 @@ returns-in-Some-clause-along g c start name past a =
       history_is = k.history_is;
       is = (
         act_lines f.head n.live.progress.acts,
-        fed_lawless name past rest.history start now out f.head f.table f.live.progress.acts f.told n.read n.live k c.in-Some.bad bad,
+        fed_lawless name past rest.history start now out f.head f.table f.live.progress.acts f.told n.read n.live k
+            c.in-Some.bad bad,
         record {
           faultless = on_ok c.tell.result told_all c.tell.ensures.cause.kept;
-          taken = wrote_all name past rest.history start now out f.head f.table f.live.progress.acts f.told n.read n.live k
-              (subst (Took now out) (lines_told shelf rest f n c.in-Ok.fed.count c.in-Ok.ensures.piece) (on_ok c.tell.result told_all c.tell.ensures.whole));
+          taken =
+              wrote_all name past rest.history start now out f.head f.table f.live.progress.acts f.told n.read n.live k
+              (subst (Took now out) (lines_told shelf rest f n c.in-Ok.fed.count c.in-Ok.ensures.piece)
+              (on_ok c.tell.result told_all c.tell.ensures.whole));
         },
       );
     }
@@ -80,11 +85,14 @@ returns-then-self-gt-STREAM_LIMIT-clause-along g c start name past a =
       history_is = k.history_is;
       is = (
         act_lines f.head n.live.progress.acts,
-        fed_long name past rest.history start now out f.head f.table f.live.progress.acts f.told n.read n.live k none over,
+        fed_long name past rest.history start now out f.head f.table f.live.progress.acts f.told n.read
+            n.live k none over,
         record {
           faultless = on_ok c.tell.result told_all c.tell.ensures.cause.kept;
-          taken = wrote_all name past rest.history start now out f.head f.table f.live.progress.acts f.told n.read n.live k
-              (subst (Took now out) (lines_told shelf rest f n c.in-Ok.fed.count c.in-Ok.ensures.piece) (on_ok c.tell.result told_all c.tell.ensures.whole));
+          taken =
+              wrote_all name past rest.history start now out f.head f.table f.live.progress.acts f.told n.read n.live k
+              (subst (Took now out) (lines_told shelf rest f n c.in-Ok.fed.count c.in-Ok.ensures.piece)
+              (on_ok c.tell.result told_all c.tell.ensures.whole));
         },
       );
     }
@@ -101,20 +109,42 @@ returns-clause-along g c start name past a =
     let none : n.live.bad ≡ None = search rules in
     let read : c.self.inside.read ≡ n.read = ap (λ (f : Follower). f.read) (c.self.view_is ∙ c.tell.ensures.state) in
     let within : n.read ≤ STREAM_LIMIT = omega (arith, c.if-self-gt-STREAM_LIMIT.false, read) in
-    along_at name past shelf rest c.in-Ok.fed.count start now out f n c.tell.new.self a c.in-Ok.ensures.piece none within
-    (subst (Took now out) (lines_told shelf rest f n c.in-Ok.fed.count c.in-Ok.ensures.piece) (on_ok c.tell.result told_all c.tell.ensures.whole)) c.tell.ensures.state
+    along_at name past shelf rest c.in-Ok.fed.count start now out f n c.tell.new.self a
+    c.in-Ok.ensures.piece none within
+    (subst (Took now out) (lines_told shelf rest f n c.in-Ok.fed.count c.in-Ok.ensures.piece)
+    (on_ok c.tell.result told_all c.tell.ensures.whole)) c.tell.ensures.state
 
 pub returns-in_default-clause-left : goal.returns-in_default-clause-left
 returns-in_default-clause-left g c = c.in_default.ensures.same
 
 pub returns-then-is_err-clause-left : goal.returns-then-is_err-clause-left
-returns-then-is_err-clause-left g c = record { count = c.in-Ok.fed.count; fed = c.feed_piece.new.self; piece = c.in-Ok.ensures.piece; told = c.tell.ensures.state }
+returns-then-is_err-clause-left g c = record {
+  count = c.in-Ok.fed.count;
+  fed = c.feed_piece.new.self;
+  piece = c.in-Ok.ensures.piece;
+  told = c.tell.ensures.state;
+}
 
 pub returns-in-Some-clause-left : goal.returns-in-Some-clause-left
-returns-in-Some-clause-left g c = record { count = c.in-Ok.fed.count; fed = c.feed_piece.new.self; piece = c.in-Ok.ensures.piece; told = c.tell.ensures.state }
+returns-in-Some-clause-left g c = record {
+  count = c.in-Ok.fed.count;
+  fed = c.feed_piece.new.self;
+  piece = c.in-Ok.ensures.piece;
+  told = c.tell.ensures.state;
+}
 
 pub returns-then-self-gt-STREAM_LIMIT-clause-left : goal.returns-then-self-gt-STREAM_LIMIT-clause-left
-returns-then-self-gt-STREAM_LIMIT-clause-left g c = record { count = c.in-Ok.fed.count; fed = c.feed_piece.new.self; piece = c.in-Ok.ensures.piece; told = c.tell.ensures.state }
+returns-then-self-gt-STREAM_LIMIT-clause-left g c = record {
+  count = c.in-Ok.fed.count;
+  fed = c.feed_piece.new.self;
+  piece = c.in-Ok.ensures.piece;
+  told = c.tell.ensures.state;
+}
 
 pub returns-clause-left : goal.returns-clause-left
-returns-clause-left g c = record { count = c.in-Ok.fed.count; fed = c.feed_piece.new.self; piece = c.in-Ok.ensures.piece; told = c.tell.ensures.state }
+returns-clause-left g c = record {
+  count = c.in-Ok.fed.count;
+  fed = c.feed_piece.new.self;
+  piece = c.in-Ok.ensures.piece;
+  told = c.tell.ensures.state;
+}

@@ -19,5 +19,6 @@ invariant_of-result c =
     }
 
 pub returns : goal.returns
-returns c = opened c.args.tables.head c.into_node-head.result.0 (table_at c.args.tables.nodes c.args.node) c.into_node-head.result.1 c.in_ok-live.live c.into_node-head.ensures.head
+returns c = opened c.args.tables.head c.into_node-head.result.0
+    (table_at c.args.tables.nodes c.args.node) c.into_node-head.result.1 c.in_ok-live.live c.into_node-head.ensures.head
     c.into_node-head.ensures.table c.in_ok-live.ensures

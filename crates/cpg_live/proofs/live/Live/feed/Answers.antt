@@ -8,7 +8,8 @@ pub returns-clause-whole : goal.returns-clause-whole
 returns-clause-whole c = feeds c.args.self.now c.take_bytes.new.self c.args.piece.now c.take_bytes.ensures
 
 pub returns-clause-grows : goal.returns-clause-grows
-returns-clause-grows c = let g = bytes_grow c.args.self.now c.args.piece.now in (g.0, ap (λ (s : LiveState). s.progress.acts) c.take_bytes.ensures ∙ g.1)
+returns-clause-grows c = let g = bytes_grow c.args.self.now c.args.piece.now in
+    (g.0, ap (λ (s : LiveState). s.progress.acts) c.take_bytes.ensures ∙ g.1)
 
 pub returns-clause-kept : goal.returns-clause-kept
 returns-clause-kept c = kept c.args.self.now c.take_bytes.new.self c.args.piece.now c.take_bytes.ensures

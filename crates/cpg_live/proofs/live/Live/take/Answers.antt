@@ -8,7 +8,9 @@ pub invariant_of-self-2 : goal.invariant_of-self-2
 invariant_of-self-2 c = record {
   part = c.self.invariant.part;
   room = c.self.invariant.room;
-  later = λ lawful open'. subst (λ (p : NodeProgress). is_after p.dispatcher.last c.args.time ≡ true) (sym c.step.ensures.progress)
-      (step_after c.args.time c.args.event c.self.inside.progress (ap (λ (s : LiveState). is_after s.progress.dispatcher.last c.args.time) c.self.view_is ∙ c.requires)
+  later = λ lawful open'.
+      subst (λ (p : NodeProgress). is_after p.dispatcher.last c.args.time ≡ true) (sym c.step.ensures.progress)
+      (step_after c.args.time c.args.event c.self.inside.progress
+      (ap (λ (s : LiveState). is_after s.progress.dispatcher.last c.args.time) c.self.view_is ∙ c.requires)
       (sym c.is_close-self-inside.ensures ∙ open'));
 }

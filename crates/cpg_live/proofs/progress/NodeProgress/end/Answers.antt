@@ -6,7 +6,8 @@ use Rattle.cpg_live.proofs.Steps.{may_finish}
 use Rattle.cpg_live.proofs.progress.NodeProgress.end.Goals as goal
 
 pub finished-requires : goal.finished-requires
-finished-requires c = may_finish c.self.inside.node.dispatcher c.args.time (record { process = c.args.process; faults = c.in-Some.faults; value = c.args.value })
+finished-requires c = may_finish c.self.inside.node.dispatcher c.args.time
+    (record { process = c.args.process; faults = c.in-Some.faults; value = c.args.value })
     (subst (λ (p : NodeProgress). IsTurned p.dispatcher c.args.time) (sym c.self.view_is) c.requires.before)
     (subst (λ (p : NodeProgress). is_after p.dispatcher.last c.args.time ≡ true) (sym c.self.view_is) c.requires.after)
     (sym c.may_end.ensures ∙ c.if-not-may_end.false)

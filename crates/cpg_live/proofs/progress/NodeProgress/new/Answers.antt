@@ -12,7 +12,8 @@ invariant_of-result c =
     let room : c.in-Some.entries ≤ vec_capacity c.reserve.new.self = search rules in
     let none : length c.reserve.new.self.items ≡ 0 = search rules in
     record {
-      made = subst (λ (s : NodeState). IsTable s.dispatcher.table) (sym c.in_ok-node.ensures) c.count_entries.ensures.made;
+      made =
+          subst (λ (s : NodeState). IsTable s.dispatcher.table) (sym c.in_ok-node.ensures) c.count_entries.ensures.made;
       room = omega (
         arith,
         room,

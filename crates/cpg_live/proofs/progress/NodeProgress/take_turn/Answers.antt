@@ -23,16 +23,20 @@ pub append_acts-requires : goal.append_acts-requires
 append_acts-requires c = omega (
   arith,
   length-append c.self.inside.acts.items c.acts.result.now,
-  room_taken c.self.inside.node c.turn.new.self c.args.time (length c.self.inside.acts.items) (vec_capacity c.self.inside.acts) c.acts.result.now
-      (ap (λ (p : NodeProgress). next p.dispatcher) c.self.view_is ∙ c.requires) c.turn.ensures.turn c.turn.ensures.acts c.acts.ensures c.self.invariant.room,
+  room_taken c.self.inside.node c.turn.new.self c.args.time (length c.self.inside.acts.items)
+      (vec_capacity c.self.inside.acts) c.acts.result.now
+      (ap (λ (p : NodeProgress). next p.dispatcher) c.self.view_is ∙ c.requires) c.turn.ensures.turn c.turn.ensures.acts
+      c.acts.ensures c.self.invariant.room,
 )
 
 pub invariant_of-self : goal.invariant_of-self
 invariant_of-self c =
-    let here : next c.self.inside.node.dispatcher ≡ Some c.args.time = ap (λ (p : NodeProgress). next p.dispatcher) c.self.view_is ∙ c.requires in
+    let here : next c.self.inside.node.dispatcher ≡ Some c.args.time =
+    ap (λ (p : NodeProgress). next p.dispatcher) c.self.view_is ∙ c.requires in
     record {
       made = subst (λ (d : Dispatcher). IsTable d.table)
-          (sym (at_some (next c.self.inside.node.dispatcher) c.args.time (λ t. c.turn.new.self.dispatcher ≡ turn c.self.inside.node.dispatcher t [] []) here c.turn.ensures.turn))
+          (sym (at_some (next c.self.inside.node.dispatcher) c.args.time
+          (λ t. c.turn.new.self.dispatcher ≡ turn c.self.inside.node.dispatcher t [] []) here c.turn.ensures.turn))
           c.self.invariant.made;
       room = omega (
         arith,
@@ -40,20 +44,24 @@ invariant_of-self c =
         ap (λ l. length l) c.append_acts.ensures.acts,
         c.append_acts.ensures.room,
         room_taken c.self.inside.node c.turn.new.self c.args.time (length c.self.inside.acts.items)
-            (vec_capacity c.self.inside.acts) c.acts.result.now here c.turn.ensures.turn c.turn.ensures.acts c.acts.ensures c.self.invariant.room,
+            (vec_capacity c.self.inside.acts) c.acts.result.now here c.turn.ensures.turn c.turn.ensures.acts
+            c.acts.ensures c.self.invariant.room,
       );
     }
 
 pub returns-clause-turn : goal.returns-clause-turn
-returns-clause-turn c = turn_taken c.args.self.now c.self.inside.node c.turn.new.self c.args.time c.self.inside.acts.items c.acts.result.now c.append_acts.new.acts.items c.self.view_is c.requires
+returns-clause-turn c = turn_taken c.args.self.now c.self.inside.node c.turn.new.self c.args.time
+    c.self.inside.acts.items c.acts.result.now c.append_acts.new.acts.items c.self.view_is c.requires
     c.turn.ensures.turn c.turn.ensures.acts c.acts.ensures c.append_acts.ensures.acts
 
 pub returns-clause-fewer : goal.returns-clause-fewer
 returns-clause-fewer c =
-    let here : next c.self.inside.node.dispatcher ≡ Some c.args.time = ap (λ (p : NodeProgress). next p.dispatcher) c.self.view_is ∙ c.requires in
+    let here : next c.self.inside.node.dispatcher ≡ Some c.args.time =
+    ap (λ (p : NodeProgress). next p.dispatcher) c.self.view_is ∙ c.requires in
     omega (
       arith,
       table_less c.self.inside.node.dispatcher c.args.time [] here c.self.invariant.made,
-      ap instants_left (at_some (next c.self.inside.node.dispatcher) c.args.time (λ t. c.turn.new.self.dispatcher ≡ turn c.self.inside.node.dispatcher t [] []) here c.turn.ensures.turn),
+      ap instants_left (at_some (next c.self.inside.node.dispatcher) c.args.time
+          (λ t. c.turn.new.self.dispatcher ≡ turn c.self.inside.node.dispatcher t [] []) here c.turn.ensures.turn),
       ap (λ (p : NodeProgress). instants_left p.dispatcher) c.self.view_is,
     )

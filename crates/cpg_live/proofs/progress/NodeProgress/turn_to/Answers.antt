@@ -13,12 +13,16 @@ pub loop-time-preserved : goal.loop-time-preserved
 loop-time-preserved c =
     let here = sym c.instant_to.ensures ∙ c.in-Some.is in
     record {
-      turned = ap (turned (c.args.last + 1)) c.take_turn.ensures.turn ∙ turned_next (c.args.last + 1) c.loop-time.self c.in-Some.time here ∙ c.loop-time.invariant.turned;
-      few = few_next (c.args.last + 1) c.args.self.now c.loop-time.self c.take_turn.new.self c.in-Some.time c.loop-time.invariant.few here c.take_turn.ensures.turn c.take_turn.ensures.fewer;
+      turned = ap (turned (c.args.last + 1)) c.take_turn.ensures.turn
+          ∙ turned_next (c.args.last + 1) c.loop-time.self c.in-Some.time here ∙ c.loop-time.invariant.turned;
+      few = few_next (c.args.last + 1) c.args.self.now c.loop-time.self c.take_turn.new.self c.in-Some.time
+          c.loop-time.invariant.few here c.take_turn.ensures.turn c.take_turn.ensures.fewer;
     }
 
 pub returns-clause-turns : goal.returns-clause-turns
-returns-clause-turns c = sym (turned_last (c.args.last + 1) c.loop-time.self (sym c.instant_to.ensures ∙ c.in_default.is)) ∙ c.loop-time.invariant.turned
+returns-clause-turns c =
+    sym (turned_last (c.args.last + 1) c.loop-time.self (sym c.instant_to.ensures ∙ c.in_default.is))
+    ∙ c.loop-time.invariant.turned
 
 pub returns-clause-few : goal.returns-clause-few
 returns-clause-few c = c.loop-time.invariant.few

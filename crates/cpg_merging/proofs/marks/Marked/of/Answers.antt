@@ -3,4 +3,5 @@ use Rattle.cpg_merging.specs.Totals.{AreMarked}
 use Rattle.cpg_merging.proofs.marks.Marked.of.Goals as goal
 
 pub returns-clause-marks : goal.returns-clause-marks
-returns-clause-marks c = subst (AreMarked c.args.problem.now c.in_ok-marks.marks) c.as_slice.ensures.value c.in_ok-marks.ensures
+returns-clause-marks c =
+    subst (AreMarked c.args.problem.now c.in_ok-marks.marks) c.as_slice.ensures.value c.in_ok-marks.ensures

@@ -7,7 +7,9 @@ use Rattle.cpg_node.proofs.Turning.{length_zip, timed_reported, next_reported}
 use Rattle.cpg_node.proofs.node.Node.finished.Goals as goal
 
 -- what runs then
-runs : (c : goal.After-self-1) → (with_items c.self.inside.running c.note_report.new.running).items ≡ zip_with (with_report c.args.ended) c.self.inside.table.own c.self.inside.running.items
+runs : (c : goal.After-self-1) →
+    (with_items c.self.inside.running c.note_report.new.running).items
+    ≡ zip_with (with_report c.args.ended) c.self.inside.table.own c.self.inside.running.items
 runs c = with_items_is c.self.inside.running c.note_report.new.running (omega arith) ∙ cc
 
 pub invariant_of-self : goal.invariant_of-self
@@ -15,15 +17,18 @@ invariant_of-self c =
     let n = c.self.inside in
     record {
       made = c.self.invariant.made;
-      count = ap length (runs c) ∙ length_zip (with_report c.args.ended) n.table.own n.running.items c.self.invariant.count;
+      count =
+          ap length (runs c) ∙ length_zip (with_report c.args.ended) n.table.own n.running.items c.self.invariant.count;
       mirror = c.self.invariant.mirror;
-      starts = subst AreTimed (sym (runs c)) (timed_reported c.args.ended n.table.own n.running.items c.self.invariant.starts);
+      starts = subst AreTimed (sym (runs c))
+          (timed_reported c.args.ended n.table.own n.running.items c.self.invariant.starts);
       planned = c.self.invariant.planned;
       early = c.self.invariant.early;
       entries = c.self.invariant.entries;
       times = c.self.invariant.times;
       instants = c.self.invariant.instants;
-      next = c.self.invariant.next ∙ sym (ap (λ (r : List (Option Running)). next (record { table = n.table; heard = n.heard.items; running = r; last = n.last })) (runs c) ∙
+      next = c.self.invariant.next ∙ sym (ap (λ (r : List (Option Running)).
+          next (record { table = n.table; heard = n.heard.items; running = r; last = n.last })) (runs c) ∙
           next_reported c.args.ended n.table n.heard.items n.running.items n.last);
       room = c.self.invariant.room;
       due_room = c.self.invariant.due_room;

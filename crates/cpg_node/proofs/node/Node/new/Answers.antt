@@ -11,13 +11,15 @@ invariant_of-result c = record {
   made = c.own.ensures.made;
   count = search rules;
   mirror = search rules;
-  starts = subst AreTimed (sym (c.in_ok-running.ensures.items_if_clones_equal (search rules))) (All-replicate IsTimed _ None tt);
+  starts = subst AreTimed (sym (c.in_ok-running.ensures.items_if_clones_equal (search rules)))
+      (All-replicate IsTimed _ None tt);
   planned = c.in_ok-plan.ensures.same;
   early = plan_early c.args.table c.own.ensures.made c.in_ok-plan.plan.items c.in_ok-plan.ensures.same;
   entries = line_open (λ (p : Planned). p.time) c.in_ok-plan.plan.items c.in_ok-plan.ensures.rises;
   times = c.in_ok-times.ensures.same;
   instants = line_open (λ t. t) c.in_ok-times.times.items c.in_ok-times.ensures.rises;
-  next = next_open (record { table = c.args.table; heard = c.in_ok-heard.heard.items; running = c.in_ok-running.running.items; last = None }) refl;
+  next = next_open
+      (record { table = c.args.table; heard = c.in_ok-heard.heard.items; running = c.in_ok-running.running.items; last = None }) refl;
   room = search rules;
   due_room = search rules;
 }

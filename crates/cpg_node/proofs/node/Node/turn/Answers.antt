@@ -1,38 +1,47 @@
-use Rattle.std.proofs.Common.{ap₂, ℕ, ◌-◌, take, drop, map, filter, slice_get, ap, sym, ◌∙◌, ◌≡◌, ◌++◌, length, subst, arith, List, Option, Some}
+use Rattle.std.proofs.Common.{ap₂, ℕ, ◌-◌, take, drop, map, filter, slice_get, ap, sym, ◌∙◌, ◌≡◌, ◌++◌, length, subst}
+use Rattle.std.proofs.Common.{arith, List, Option, Some}
 use Rattle.std.specs.Prelude.{All}
 use Rattle.std.specs.List.{flat_map}
 use Rattle.std.specs.Vec.{with_items}
 use Rattle.std.proofs.lemmas.List.{with_items_is}
 use Rattle.cpg_table.specs.declared.own.Own.{Own}
-use Rattle.cpg_node.specs.Dispatcher.{Running, Range, least_of, is_after, possible_ends, due_reports_of, turn, acts_of_turn, zip_with, running_after}
+use Rattle.cpg_node.specs.Dispatcher.{Running, Range, least_of, is_after, possible_ends, due_reports_of, turn}
+use Rattle.cpg_node.specs.Dispatcher.{acts_of_turn, zip_with, running_after}
 use Rattle.cpg_node.specs.Sound.{dispatcher_of}
 use Rattle.cpg_node.specs.State.{AreTimed, earlier}
 use Rattle.cpg_node.specs.Plan.{IsLine, act_of, takes}
 use Rattle.cpg_node.proofs.Next.{next_is}
 use Rattle.cpg_node.proofs.Lines.{moves_on_seen}
 use Rattle.cpg_node.proofs.TableBounds.{AreShort, times_short}
-use Rattle.cpg_node.proofs.Turning.{length_zip, acts_are, line_moves, early_turn, timed_turn, next_found, turn_is, returned_turn, returned_acts}
+use Rattle.cpg_node.proofs.Turning.{length_zip, acts_are, line_moves, early_turn, timed_turn, next_found, turn_is}
+use Rattle.cpg_node.proofs.Turning.{returned_turn, returned_acts}
 use Rattle.cpg_node.proofs.node.Node.turn.Goals as goal
 
 pub gather_due-requires-clause-times : goal.gather_due-requires-clause-times
-gather_due-requires-clause-times c = subst (All AreShort) (sym c.own.ensures.own) (times_short c.self.inside.table c.own.ensures.made)
+gather_due-requires-clause-times c =
+    subst (All AreShort) (sym c.own.ensures.own) (times_short c.self.inside.table c.own.ensures.made)
 
 pub earliest_end-end-requires-clause-times : goal.earliest_end-end-requires-clause-times
-earliest_end-end-requires-clause-times c = subst (All AreShort) (sym c.own-3.ensures.own) (times_short c.self.inside.table c.own.ensures.made)
+earliest_end-end-requires-clause-times c =
+    subst (All AreShort) (sym c.own-3.ensures.own) (times_short c.self.inside.table c.own.ensures.made)
 
 -- what runs then
 runs-8 : (c : goal.After-as_slice-8) → (with_items c.self.inside.running c.turn_executions.new.running).items
-    ≡ zip_with (running_after (c.args.ended.now ++ c.gather_due.new.due.items) c.gather_acts.new.acts.items c.in-Some.time) c.self.inside.table.own c.self.inside.running.items
+    ≡ zip_with (running_after (c.args.ended.now ++ c.gather_due.new.due.items) c.gather_acts.new.acts.items
+    c.in-Some.time) c.self.inside.table.own c.self.inside.running.items
 runs-8 c = with_items_is c.self.inside.running c.turn_executions.new.running (omega arith) ∙ cc
 
 timed-8 : (c : goal.After-as_slice-8) → AreTimed (with_items c.self.inside.running c.turn_executions.new.running).items
 timed-8 c =
     let n = c.self.inside in
     let v = c.self.invariant in
-    subst AreTimed (sym (runs-8 c)) (timed_turn (c.args.ended.now ++ c.gather_due.new.due.items) c.gather_acts.new.acts.items c.in-Some.time
-    (early_turn n.table n.heard.items n.running.items n.last c.in-Some.time n.plan.items c.as_slice-3.result.now c.deref.result.now n.plan_place c.past_entries-plan_end.result v.planned v.entries
+    subst AreTimed (sym (runs-8 c))
+    (timed_turn (c.args.ended.now ++ c.gather_due.new.due.items) c.gather_acts.new.acts.items c.in-Some.time
+    (early_turn n.table n.heard.items n.running.items n.last c.in-Some.time n.plan.items c.as_slice-3.result.now
+    c.deref.result.now n.plan_place c.past_entries-plan_end.result v.planned v.entries
     (sym v.next ∙ c.in-Some.is)
-    c.as_slice-3.ensures.value c.deref.ensures.value c.past_entries-plan_end.ensures.within c.past_entries-plan_end.ensures.before c.past_entries-plan_end.ensures.here c.as_slice-4.result.now
+    c.as_slice-3.ensures.value c.deref.ensures.value c.past_entries-plan_end.ensures.within
+    c.past_entries-plan_end.ensures.before c.past_entries-plan_end.ensures.here c.as_slice-4.result.now
     c.gather_acts.new.acts.items c.gather_acts.ensures.acts v.early)
     n.table.own n.running.items v.starts)
 
@@ -40,21 +49,29 @@ pub earliest_end-end-requires-clause-starts : goal.earliest_end-end-requires-cla
 earliest_end-end-requires-clause-starts c = subst AreTimed (sym c.as_slice-8.ensures.value) (timed-8 c)
 
 runs : (c : goal.After-self-6-1) → (with_items c.self.inside.running c.turn_executions.new.running).items
-    ≡ zip_with (running_after (c.args.ended.now ++ c.gather_due.new.due.items) c.gather_acts.new.acts.items c.in-Some.time) c.self.inside.table.own c.self.inside.running.items
+    ≡ zip_with (running_after (c.args.ended.now ++ c.gather_due.new.due.items) c.gather_acts.new.acts.items
+    c.in-Some.time) c.self.inside.table.own c.self.inside.running.items
 runs c = with_items_is c.self.inside.running c.turn_executions.new.running (omega arith) ∙ cc
 
-heard_length : (c : goal.After-self-6-1) → length (with_items c.self.inside.heard c.hear_all.new.heard).items ≡ length c.self.inside.heard.items
-heard_length c = ap length (with_items_is c.self.inside.heard c.hear_all.new.heard (omega arith)) ∙ omega (arith, ap length c.as_mut_slice.ensures.value)
+heard_length : (c : goal.After-self-6-1) →
+    length (with_items c.self.inside.heard c.hear_all.new.heard).items ≡ length c.self.inside.heard.items
+heard_length c = ap length (with_items_is c.self.inside.heard c.hear_all.new.heard (omega arith))
+    ∙ omega (arith, ap length c.as_mut_slice.ensures.value)
 
-instants : (c : goal.After-self-6-1) → IsLine (λ t. t) (Some c.in-Some.time) c.self.inside.times.items c.past_times-self-inside.result
-instants c = moves_on_seen (λ t. t) c.self.inside.last c.self.inside.times.items c.as_slice-7.result.now c.self.inside.times_place c.past_times-self-inside.result c.in-Some.time
+instants : (c : goal.After-self-6-1) →
+    IsLine (λ t. t) (Some c.in-Some.time) c.self.inside.times.items c.past_times-self-inside.result
+instants c = moves_on_seen (λ t. t) c.self.inside.last c.self.inside.times.items c.as_slice-7.result.now
+    c.self.inside.times_place c.past_times-self-inside.result c.in-Some.time
     c.self.invariant.instants
-    (next_is (dispatcher_of c.self.inside) c.in-Some.time (sym c.self.invariant.next ∙ c.in-Some.is)).after c.as_slice-7.ensures.value c.past_times-self-inside.ensures.within
+    (next_is (dispatcher_of c.self.inside) c.in-Some.time (sym c.self.invariant.next ∙ c.in-Some.is)).after
+    c.as_slice-7.ensures.value c.past_times-self-inside.ensures.within
     c.past_times-self-inside.ensures.before c.past_times-self-inside.ensures.here
 
 -- the first of the table's times that is left
-left : (c : goal.After-self-6-1) → c.time_at-time.result ≡ slice_get c.self.inside.times.items c.past_times-self-inside.result
-left c = c.time_at-time.ensures ∙ ap (λ (l : List ℕ). slice_get l c.past_times-self-inside.result) c.as_slice-9.ensures.value
+left : (c : goal.After-self-6-1) →
+    c.time_at-time.result ≡ slice_get c.self.inside.times.items c.past_times-self-inside.result
+left c =
+    c.time_at-time.ensures ∙ ap (λ (l : List ℕ). slice_get l c.past_times-self-inside.result) c.as_slice-9.ensures.value
 
 pub invariant_of-self : goal.invariant_of-self
 invariant_of-self c =
@@ -62,25 +79,33 @@ invariant_of-self c =
     let v = c.self.invariant in
     record {
       made = v.made;
-      count = ap length (runs c) ∙ length_zip (running_after (c.args.ended.now ++ c.gather_due.new.due.items) c.gather_acts.new.acts.items c.in-Some.time) n.table.own n.running.items v.count;
+      count = ap length (runs c) ∙ length_zip (running_after (c.args.ended.now ++ c.gather_due.new.due.items)
+          c.gather_acts.new.acts.items c.in-Some.time) n.table.own n.running.items v.count;
       mirror = heard_length c ∙ v.mirror;
-      starts = subst AreTimed (sym (runs c)) (timed_turn (c.args.ended.now ++ c.gather_due.new.due.items) c.gather_acts.new.acts.items c.in-Some.time
-          (early_turn n.table n.heard.items n.running.items n.last c.in-Some.time n.plan.items c.as_slice-3.result.now c.deref.result.now n.plan_place c.past_entries-plan_end.result v.planned
+      starts = subst AreTimed (sym (runs c))
+          (timed_turn (c.args.ended.now ++ c.gather_due.new.due.items) c.gather_acts.new.acts.items c.in-Some.time
+          (early_turn n.table n.heard.items n.running.items n.last c.in-Some.time n.plan.items c.as_slice-3.result.now
+          c.deref.result.now n.plan_place c.past_entries-plan_end.result v.planned
           v.entries (sym v.next ∙ c.in-Some.is)
-          c.as_slice-3.ensures.value c.deref.ensures.value c.past_entries-plan_end.ensures.within c.past_entries-plan_end.ensures.before c.past_entries-plan_end.ensures.here c.as_slice-4.result.now
+          c.as_slice-3.ensures.value c.deref.ensures.value c.past_entries-plan_end.ensures.within
+          c.past_entries-plan_end.ensures.before c.past_entries-plan_end.ensures.here c.as_slice-4.result.now
           c.gather_acts.new.acts.items c.gather_acts.ensures.acts v.early)
           n.table.own n.running.items v.starts);
       planned = v.planned;
       early = v.early;
-      entries = line_moves n.table n.heard.items n.running.items n.last c.in-Some.time n.plan.items c.as_slice-3.result.now c.deref.result.now n.plan_place c.past_entries-plan_end.result v.planned
+      entries = line_moves n.table n.heard.items n.running.items n.last c.in-Some.time n.plan.items
+          c.as_slice-3.result.now c.deref.result.now n.plan_place c.past_entries-plan_end.result v.planned
           v.entries (sym v.next ∙ c.in-Some.is)
-          c.as_slice-3.ensures.value c.deref.ensures.value c.past_entries-plan_end.ensures.within c.past_entries-plan_end.ensures.before c.past_entries-plan_end.ensures.here;
+          c.as_slice-3.ensures.value c.deref.ensures.value c.past_entries-plan_end.ensures.within
+          c.past_entries-plan_end.ensures.before c.past_entries-plan_end.ensures.here;
       times = v.times;
       instants = instants c;
       next = c.earlier-self-inside.ensures ∙ ap₂ earlier (left c) (c.earliest_end-end.ensures
-          ∙ ap₂ (λ (os : List Own) (rs : List (Option Running)). least_of (filter (is_after (Some c.in-Some.time)) (flat_map (λ ends. ends) (zip_with possible_ends os rs)))) c.own-3.ensures.own
+          ∙ ap₂ (λ (os : List Own) (rs : List (Option Running)). least_of (filter (is_after (Some c.in-Some.time))
+          (flat_map (λ ends. ends) (zip_with possible_ends os rs)))) c.own-3.ensures.own
           c.as_slice-8.ensures.value)
-          ∙ sym (next_found n.table (with_items n.heard c.hear_all.new.heard).items (with_items n.running c.turn_executions.new.running).items c.in-Some.time n.times.items
+          ∙ sym (next_found n.table (with_items n.heard c.hear_all.new.heard).items
+          (with_items n.running c.turn_executions.new.running).items c.in-Some.time n.times.items
           c.past_times-self-inside.result v.times (instants c));
       room = omega (arith, v.room, c.gather_acts.ensures.room);
       due_room = omega (arith, v.due_room, c.gather_due.ensures.room);
@@ -94,23 +119,31 @@ turned : (c : goal.After-self-6-1) → let n = c.self.inside in
 turned c =
     let n = c.self.inside in
     let v = c.self.invariant in
-    turn_is n.table n.heard.items n.running.items n.last c.in-Some.time c.args.ended.now c.gather_due.new.due.items c.args.frames.now
-    (with_items n.heard c.hear_all.new.heard).items c.gather_acts.new.acts.items (with_items n.running c.turn_executions.new.running).items
-    (c.gather_due.ensures.reports ∙ ap₂ (λ (os : List Own) (rs : List (Option Running)). flat_map (λ es. es) (zip_with (due_reports_of c.in-Some.time) os rs)) c.own.ensures.own
+    turn_is n.table n.heard.items n.running.items n.last c.in-Some.time c.args.ended.now c.gather_due.new.due.items
+    c.args.frames.now
+    (with_items n.heard c.hear_all.new.heard).items c.gather_acts.new.acts.items
+    (with_items n.running c.turn_executions.new.running).items
+    (c.gather_due.ensures.reports ∙ ap₂ (λ (os : List Own) (rs : List (Option Running)).
+    flat_map (λ es. es) (zip_with (due_reports_of c.in-Some.time) os rs)) c.own.ensures.own
     c.as_slice.ensures.value)
     (with_items_is n.heard c.hear_all.new.heard (omega arith) ∙ cc)
-    (acts_are n.table n.heard.items n.running.items n.last c.in-Some.time n.plan.items c.as_slice-3.result.now c.deref.result.now n.plan_place c.past_entries-plan_end.result v.planned v.entries
+    (acts_are n.table n.heard.items n.running.items n.last c.in-Some.time n.plan.items c.as_slice-3.result.now
+    c.deref.result.now n.plan_place c.past_entries-plan_end.result v.planned v.entries
     (sym v.next ∙ c.in-Some.is)
-    c.as_slice-3.ensures.value c.deref.ensures.value c.past_entries-plan_end.ensures.within c.past_entries-plan_end.ensures.before c.past_entries-plan_end.ensures.here
+    c.as_slice-3.ensures.value c.deref.ensures.value c.past_entries-plan_end.ensures.within
+    c.past_entries-plan_end.ensures.before c.past_entries-plan_end.ensures.here
     (with_items n.heard c.hear_all.new.heard).items c.gather_acts.new.acts.items
     (c.gather_acts.ensures.acts ∙ ap (λ (h : List Range). map act_of
-    (filter (takes (n.table.sends ++ n.table.starts) h) (take (c.past_entries-plan_end.result - n.plan_place) (drop n.plan_place c.deref.result.now)))) c.as_slice-4.ensures.value))
+    (filter (takes (n.table.sends ++ n.table.starts) h) (take (c.past_entries-plan_end.result - n.plan_place)
+    (drop n.plan_place c.deref.result.now)))) c.as_slice-4.ensures.value))
     (runs c)
 
 pub returns-clause-turn : goal.returns-clause-turn
-returns-clause-turn c = returned_turn c.args.self.now (dispatcher_of c.self.inside) c.self.inside.acts.items c.in-Some.time _ c.args.ended.now c.args.frames.now c.self.view_is
+returns-clause-turn c = returned_turn c.args.self.now (dispatcher_of c.self.inside) c.self.inside.acts.items
+    c.in-Some.time _ c.args.ended.now c.args.frames.now c.self.view_is
     (sym c.self.invariant.next ∙ c.in-Some.is) (turned c).0
 
 pub returns-clause-acts : goal.returns-clause-acts
-returns-clause-acts c = returned_acts c.args.self.now (dispatcher_of c.self.inside) c.self.inside.acts.items c.in-Some.time _ c.args.ended.now c.args.frames.now c.self.view_is
+returns-clause-acts c = returned_acts c.args.self.now (dispatcher_of c.self.inside) c.self.inside.acts.items
+    c.in-Some.time _ c.args.ended.now c.args.frames.now c.self.view_is
     (sym c.self.invariant.next ∙ c.in-Some.is) (turned c).1

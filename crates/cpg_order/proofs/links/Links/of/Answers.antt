@@ -7,37 +7,54 @@ use Rattle.cpg_order.proofs.links.Links.of.Goals as goal
 
 pub index_mut-requires : goal.index_mut-requires
 index_mut-requires c =
-    let long = length_filed (target c.args.problem.now) c.loop-e.e (process_count c.args.problem.now) c.loop-e.inputs.items c.loop-e.invariant.inputs in
-    let to = (c.edges-edge-items.ensures.within.edges c.loop-e.e (record { from = 0; to = 0; size = 0; when = None; frozen = false }) (omega (arith, ap length c.edges-edge-items.ensures.edges))).to in
+    let long = length_filed (target c.args.problem.now) c.loop-e.e
+    (process_count c.args.problem.now) c.loop-e.inputs.items c.loop-e.invariant.inputs in
+    let to = (c.edges-edge-items.ensures.within.edges c.loop-e.e
+    (record { from = 0; to = 0; size = 0; when = None; frozen = false }) (omega (
+      arith,
+      ap length c.edges-edge-items.ensures.edges,
+    ))).to in
     rw c.edges-edge-items.ensures.edges (omega arith)
 
 pub index_mut-requires-in-loop-e : goal.index_mut-requires-in-loop-e
 index_mut-requires-in-loop-e c =
-    let long = length_filed (source c.args.problem.now) c.loop-e.e (process_count c.args.problem.now) c.loop-e.outputs.items c.loop-e.invariant.outputs in
-    let from = (c.edges-edge-items.ensures.within.edges c.loop-e.e (record { from = 0; to = 0; size = 0; when = None; frozen = false })
+    let long = length_filed (source c.args.problem.now) c.loop-e.e
+    (process_count c.args.problem.now) c.loop-e.outputs.items c.loop-e.invariant.outputs in
+    let from = (c.edges-edge-items.ensures.within.edges c.loop-e.e
+    (record { from = 0; to = 0; size = 0; when = None; frozen = false })
     (omega (arith, ap length c.edges-edge-items.ensures.edges))).from in
     rw c.edges-edge-items.ensures.edges (omega arith)
 
 pub loop-e-preserved : goal.loop-e-preserved
 loop-e-preserved c =
-    let ends = c.edges-edge-items.ensures.within.edges c.loop-e.e (record { from = 0; to = 0; size = 0; when = None; frozen = false }) (omega (arith, ap length c.edges-edge-items.ensures.edges)) in
+    let ends = c.edges-edge-items.ensures.within.edges c.loop-e.e
+    (record { from = 0; to = 0; size = 0; when = None; frozen = false })
+    (omega (arith, ap length c.edges-edge-items.ensures.edges)) in
     record {
-      inputs = rw c.edges-edge-items.ensures.edges (file_next (target c.args.problem.now) c.loop-e.e (process_count c.args.problem.now) (target c.args.problem.now c.loop-e.e) c.loop-e.inputs.items
-          c.index_mut.result.now c.push.new.self refl ends.to c.loop-e.invariant.inputs (rw c.edges-edge-items.ensures.edges at c.index_mut.ensures.value) c.in_ok-push.ensures);
-      outputs = rw c.edges-edge-items.ensures.edges (file_next (source c.args.problem.now) c.loop-e.e (process_count c.args.problem.now) (source c.args.problem.now c.loop-e.e) c.loop-e.outputs.items
+      inputs = rw c.edges-edge-items.ensures.edges (file_next (target c.args.problem.now) c.loop-e.e
+          (process_count c.args.problem.now) (target c.args.problem.now c.loop-e.e) c.loop-e.inputs.items
+          c.index_mut.result.now c.push.new.self refl ends.to c.loop-e.invariant.inputs
+          (rw c.edges-edge-items.ensures.edges at c.index_mut.ensures.value) c.in_ok-push.ensures);
+      outputs = rw c.edges-edge-items.ensures.edges (file_next (source c.args.problem.now) c.loop-e.e
+          (process_count c.args.problem.now) (source c.args.problem.now c.loop-e.e) c.loop-e.outputs.items
           c.index_mut-in-loop-e.result.now c.push-in-loop-e.new.self refl ends.from c.loop-e.invariant.outputs
           (rw c.edges-edge-items.ensures.edges at c.index_mut-in-loop-e.ensures.value) c.in_ok-push-2.ensures);
     }
 
-same_lists : (n m : ℕ) (xs us ys vs : List (List ℕ)) → n ≡ m → xs ≡ us → ys ≡ vs → (let l : EdgeLists = record { count = n; inputs = xs; outputs = ys } in l) ≡ record
+same_lists : (n m : ℕ) (xs us ys vs : List (List ℕ)) → n ≡ m → xs ≡ us → ys ≡ vs →
+    (let l : EdgeLists = record { count = n; inputs = xs; outputs = ys } in l) ≡ record
     { count = m; inputs = us; outputs = vs }
 same_lists n m xs us ys vs p q r = cc
 
 pub returns : goal.returns
 returns c =
     let all : c.loop-e.e ≡ edge_count c.args.problem.now = omega (arith, ap length c.edges-edge-items.ensures.edges) in
-    same_lists (length c.loop-e.inputs.items) (process_count c.args.problem.now) c.loop-e.inputs.items (map (inputs c.args.problem.now) (numbers_below (process_count c.args.problem.now)))
+    same_lists (length c.loop-e.inputs.items) (process_count c.args.problem.now) c.loop-e.inputs.items
+    (map (inputs c.args.problem.now) (numbers_below (process_count c.args.problem.now)))
     c.loop-e.outputs.items (map (outputs c.args.problem.now) (numbers_below (process_count c.args.problem.now)))
-    (length_filed (target c.args.problem.now) c.loop-e.e (process_count c.args.problem.now) c.loop-e.inputs.items c.loop-e.invariant.inputs)
-    (c.loop-e.invariant.inputs ∙ ap (λ e. map (with_key (target c.args.problem.now) e) (numbers_below (process_count c.args.problem.now))) all)
-    (c.loop-e.invariant.outputs ∙ ap (λ e. map (with_key (source c.args.problem.now) e) (numbers_below (process_count c.args.problem.now))) all)
+    (length_filed (target c.args.problem.now) c.loop-e.e
+    (process_count c.args.problem.now) c.loop-e.inputs.items c.loop-e.invariant.inputs)
+    (c.loop-e.invariant.inputs
+    ∙ ap (λ e. map (with_key (target c.args.problem.now) e) (numbers_below (process_count c.args.problem.now))) all)
+    (c.loop-e.invariant.outputs
+    ∙ ap (λ e. map (with_key (source c.args.problem.now) e) (numbers_below (process_count c.args.problem.now))) all)

@@ -8,7 +8,8 @@ pub returns-in-Some : goal.returns-in-Some
 unfolding number_of
 returns-in-Some c = record {
   number =
-      ap (known c.args.place) (ap (position (bytes_eq c.args.name.now)) (sym c.self.view_is) ∙ sym (position-texts c.args.name.now c.self.inside.names.keys) ∙ sym c.get_index_of.ensures.index ∙
+      ap (known c.args.place) (ap (position (bytes_eq c.args.name.now)) (sym c.self.view_is)
+      ∙ sym (position-texts c.args.name.now c.self.inside.names.keys) ∙ sym c.get_index_of.ensures.index ∙
       c.in-Some.is);
 }
 
@@ -16,6 +17,7 @@ pub returns-in-None : goal.returns-in-None
 unfolding number_of
 returns-in-None c = record {
   number =
-      ap (known c.args.place) (ap (position (bytes_eq c.args.name.now)) (sym c.self.view_is) ∙ sym (position-texts c.args.name.now c.self.inside.names.keys) ∙ sym c.get_index_of.ensures.index ∙
+      ap (known c.args.place) (ap (position (bytes_eq c.args.name.now)) (sym c.self.view_is)
+      ∙ sym (position-texts c.args.name.now c.self.inside.names.keys) ∙ sym c.get_index_of.ensures.index ∙
       c.in-None.is);
 }

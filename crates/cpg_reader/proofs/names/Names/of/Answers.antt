@@ -8,7 +8,8 @@ pub returns-then-not-branch-clause-apart : goal.returns-then-not-branch-clause-a
 unfolding apart
 returns-then-not-branch-clause-apart g c =
     let there = was_there _ (sym c.if-not-branch.true ∙ c.in_ok-insert.ensures.added) in
-    is_double c.args.table c.args.key g.T.Named.named c.args.elements.now c.loop-index.index c.index-elements-index.result c.loop-index.names.keys c.name.result
+    is_double c.args.table c.args.key g.T.Named.named c.args.elements.now c.loop-index.index
+    c.index-elements-index.result c.loop-index.names.keys c.name.result
     (apart_from c.args.table c.args.key 0 [] (map g.T.Named.named c.args.elements.now))
     c.loop-index-test.true c.index-elements-index.is c.name.ensures there c.loop-index.invariant.same
     ∙ ap (λ place. Err (DoubleName place)) (sym c.of_name.ensures)
@@ -17,9 +18,12 @@ pub loop-index-preserved : goal.loop-index-preserved
 loop-index-preserved g c =
     let new = was_new _ (sym c.if-not-branch.false ∙ c.in_ok-insert.ensures.added) in
     record {
-      seen = seen_more c.loop-index.names.keys c.name.result c.insert.new.self.keys c.in_ok-insert.ensures.keys new g.T.Named.named c.args.elements.now c.loop-index.index c.index-elements-index.result
+      seen = seen_more c.loop-index.names.keys c.name.result c.insert.new.self.keys c.in_ok-insert.ensures.keys new
+          g.T.Named.named c.args.elements.now c.loop-index.index c.index-elements-index.result
           c.loop-index-test.true c.index-elements-index.is c.name.ensures c.loop-index.invariant.seen;
-      same = is_new c.args.table c.args.key g.T.Named.named c.args.elements.now c.loop-index.index c.index-elements-index.result c.loop-index.names.keys c.name.result
+      same = is_new c.args.table c.args.key g.T.Named.named c.args.elements.now c.loop-index.index
+          c.index-elements-index.result c.loop-index.names.keys c.name.result
           (apart_from c.args.table c.args.key 0 [] (map g.T.Named.named c.args.elements.now))
-          c.loop-index-test.true c.index-elements-index.is c.name.ensures new c.insert.new.self.keys c.in_ok-insert.ensures.keys c.loop-index.invariant.same;
+          c.loop-index-test.true c.index-elements-index.is c.name.ensures new c.insert.new.self.keys
+          c.in_ok-insert.ensures.keys c.loop-index.invariant.same;
     }

@@ -5,5 +5,6 @@ use Rattle.cpg_reader.proofs.names.Names.of.Given as goal
 abbrev pub invariant-loop-index : goal.invariant-loop-index
 invariant-loop-index g l = record {
   seen : map (λ name. name.now) l.names.keys ≡ map g.T.Named.named (take l.index l.fn.elements);
-  same : apart_from l.table l.key 0 [] (map g.T.Named.named l.fn.elements) ≡ apart_from l.table l.key l.index (map (λ name. name.now) l.names.keys) (map g.T.Named.named (drop l.index l.fn.elements));
+  same : apart_from l.table l.key 0 [] (map g.T.Named.named l.fn.elements) ≡ apart_from l.table l.key l.index
+      (map (λ name. name.now) l.names.keys) (map g.T.Named.named (drop l.index l.fn.elements));
 }

@@ -8,7 +8,9 @@ use Rattle.cpg_reader.proofs.shape.RawProcessElement.read.Goals as goal
 pub returns-in_err-work : goal.returns-in_err-work
 returns-in_err-work c =
     let p = err_from_is_err_and c.from_residual-in_err-work.result c.from_residual-in_err-work.ensures.1 in
-    rw (p.1, p.2, process-parts (row_view c.args.row.now) _ _ c.in_ok-name.ensures c.in_ok-node.ensures) (Refuses-along c.in_err-work.field-0.0 _ _ (λ f e. rw e refl) c.in_err-work.ensures)
+    rw (p.1, p.2, process-parts (row_view c.args.row.now) _ _ c.in_ok-name.ensures c.in_ok-node.ensures)
+    (Refuses-along c.in_err-work.field-0.0 _ _ (λ f e. rw e refl) c.in_err-work.ensures)
 
 pub returns : goal.returns
-returns c = process-parts (row_view c.args.row.now) _ _ c.in_ok-name.ensures c.in_ok-node.ensures ∙ rw c.in_ok-work.ensures (search rules)
+returns c = process-parts (row_view c.args.row.now) _ _ c.in_ok-name.ensures c.in_ok-node.ensures
+    ∙ rw c.in_ok-work.ensures (search rules)

@@ -7,4 +7,5 @@ use Rattle.cpg_row_trees.proofs.places.Places.are_everywhere.Goals as goal
 pub returns : goal.returns
 returns c = of_true c.are_all_there.result c.are_all_there.ensures (λ all s none.
     let is = c.self.invariant in
-    there_in is.0 s (subst (All IsThere) (c.as_slice.ensures.value ∙ is.1) all) (sym (place_seen c.self.inside.items.items is.0 c.args.self.now s is.1 c.self.view_is) ∙ none))
+    there_in is.0 s (subst (All IsThere) (c.as_slice.ensures.value ∙ is.1) all)
+    (sym (place_seen c.self.inside.items.items is.0 c.args.self.now s is.1 c.self.view_is) ∙ none))

@@ -9,6 +9,8 @@ pub returns : goal.returns
 returns g c = of_true c.do_pass_with.result c.do_pass_with.ensures (λ all s lies.
     let is = c.self.invariant in
     let also = c.other.invariant in
-    subst (λ (x : Option ℕ). g.J.PairTest.guarantees c.args.test.now x (place_at c.args.other.now s) s) (sym (place_seen c.self.inside.items.items is.0 c.args.self.now s is.1 c.self.view_is))
-    (subst (λ (x : Option ℕ). g.J.PairTest.guarantees c.args.test.now (value_at is.0 s) x s) (sym (place_seen c.other.inside.items.items also.0 c.args.other.now s also.1 c.other.view_is))
+    subst (λ (x : Option ℕ). g.J.PairTest.guarantees c.args.test.now x (place_at c.args.other.now s) s)
+    (sym (place_seen c.self.inside.items.items is.0 c.args.self.now s is.1 c.self.view_is))
+    (subst (λ (x : Option ℕ). g.J.PairTest.guarantees c.args.test.now (value_at is.0 s) x s)
+    (sym (place_seen c.other.inside.items.items also.0 c.args.other.now s also.1 c.other.view_is))
     (all is.0 also.0 (c.as_slice.ensures.value ∙ is.1) (c.as_slice-2.ensures.value ∙ also.1) s lies)))

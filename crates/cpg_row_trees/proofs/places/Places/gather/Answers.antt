@@ -7,5 +7,6 @@ use Rattle.cpg_row_trees.proofs.places.Places.gather.Goals as goal
 pub returns : goal.returns
 returns g c = of_true c.in_ok-all.all c.in_ok-all.ensures.found (λ all s lies.
     let is = c.self.invariant in
-    subst (λ (x : Option ℕ). g.J.Test.guarantees c.args.test.now x s × IsAmong c.gather.new.found.items x) (sym (place_seen c.self.inside.items.items is.0 c.args.self.now s is.1 c.self.view_is))
+    subst (λ (x : Option ℕ). g.J.Test.guarantees c.args.test.now x s × IsAmong c.gather.new.found.items x)
+    (sym (place_seen c.self.inside.items.items is.0 c.args.self.now s is.1 c.self.view_is))
     (all is.0 (c.as_slice.ensures.value ∙ is.1) s lies))

@@ -6,4 +6,5 @@ use Rattle.cpg_rules.proofs.shared.SharedParts.+are_equal.Goals as goal
 
 pub returns-then-first-second : goal.returns-then-first-second
 returns-then-first-second t c = sym (same_guard-refl (tree_at c.args.self.now.parts c.args.first))
-    ∙ ap (λ n. same_guard (tree_at c.args.self.now.parts c.args.first) (tree_at c.args.self.now.parts n)) c.if-first-second.true
+    ∙ ap (λ n. same_guard (tree_at c.args.self.now.parts c.args.first) (tree_at c.args.self.now.parts n))
+    c.if-first-second.true

@@ -4,11 +4,14 @@ use Rattle.cpg_rules.specs.Sharing.{tree_at}
 use Rattle.cpg_rules.proofs.shared.SharedParts.+living.Given as goal
 
 abbrev pub decreases-is_either_live : goal.decreases-is_either_live
-decreases-is_either_live l = 4 * max (size_of (tree_at l.self.now.parts l.no.0) + size_of (tree_at l.self.now.parts l.no.1))
+decreases-is_either_live l =
+    4 * max (size_of (tree_at l.self.now.parts l.no.0) + size_of (tree_at l.self.now.parts l.no.1))
     (size_of (tree_at l.self.now.parts l.yes.0) + size_of (tree_at l.self.now.parts l.yes.1)) + 2
 
 abbrev pub decreases-are_both_live : goal.decreases-are_both_live
-decreases-are_both_live l = 4 * (size_of (tree_at l.self.now.parts l.first) + size_of (tree_at l.self.now.parts l.second)) + 1
+decreases-are_both_live l =
+    4 * (size_of (tree_at l.self.now.parts l.first) + size_of (tree_at l.self.now.parts l.second)) + 1
 
 abbrev pub decreases-are_found_live : goal.decreases-are_found_live
-decreases-are_found_live l = 4 * (size_of (tree_at l.self.now.parts l.first) + size_of (tree_at l.self.now.parts l.second))
+decreases-are_found_live l =
+    4 * (size_of (tree_at l.self.now.parts l.first) + size_of (tree_at l.self.now.parts l.second))

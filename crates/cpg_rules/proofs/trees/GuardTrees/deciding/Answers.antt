@@ -5,5 +5,7 @@ use Rattle.cpg_rules.proofs.trees.GuardTrees.deciding.Goals as goal
 
 pub returns-clause-deciding : goal.returns-clause-deciding
 returns-clause-deciding c = λ g order urgency topological are. c.in_ok-conditions.ensures
-    ∙ ways_are_deciding g order c.args.process (tree_of c.args.self.now c.args.process) c.args.scenario.now.values urgency topological
-    (are.trees c.args.process (let within = c.requires.process in omega (arith, are.count))) (c.requires.scenario ∙ are.conditions)
+    ∙ ways_are_deciding g order c.args.process
+    (tree_of c.args.self.now c.args.process) c.args.scenario.now.values urgency topological
+    (are.trees c.args.process (let within = c.requires.process in omega (arith, are.count)))
+    (c.requires.scenario ∙ are.conditions)

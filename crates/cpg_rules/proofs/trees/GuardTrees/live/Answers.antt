@@ -4,5 +4,6 @@ use Rattle.cpg_rules.proofs.trees.GuardTrees.live.Goals as goal
 
 pub returns-clause-live : goal.returns-clause-live
 returns-clause-live c = λ g order topological are. c.is_live-live.ensures
-    ∙ live_by-is g order topological c.args.self.now are c.args.scenario.now.values (c.requires.scenario ∙ are.conditions) c.args.edge
+    ∙ live_by-is g order topological c.args.self.now are c.args.scenario.now.values
+    (c.requires.scenario ∙ are.conditions) c.args.edge
     (let within = c.requires.edge in omega (arith, length-edges g order c.args.self.now are))

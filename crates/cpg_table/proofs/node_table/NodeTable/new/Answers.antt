@@ -7,5 +7,6 @@ pub of-requires-clause-rows : goal.of-requires-clause-rows
 of-requires-clause-rows c = record {
   items = ap items_of (sym c.as_slice-2.ensures.value) ∙ c.in-Some.ensures.items;
   lawful = subst (λ s. All (IsLawfulRow s) c.args.rows.items) c.space_of.ensures
-      (subst (All (IsLawfulRow c.space_of.result)) c.as_slice.ensures.value (c.are_rows.ensures.0 c.if-not-are_rows.false));
+      (subst (All (IsLawfulRow c.space_of.result)) c.as_slice.ensures.value
+      (c.are_rows.ensures.0 c.if-not-are_rows.false));
 }

@@ -21,7 +21,8 @@ returns-clause-table c =
     let sends : c.split_off-2.new.self.items ≡ take m (drop n rows) = c.in_ok-hears.ensures.items ∙ ap (take m) rest in
     let hears : c.in_ok-hears.hears.items ≡ drop m (drop n rows) = c.in_ok-hears.ensures.tail ∙ ap (drop m) rest in
     let all : c.split_off.new.self.items ++ (c.split_off-2.new.self.items ++ c.in_ok-hears.hears.items) ≡ rows =
-    ap₂ (λ ps qs. ps ++ qs) starts (ap₂ (λ ps qs. ps ++ qs) sends hears ∙ take-append-drop m (drop n rows)) ∙ take-append-drop n rows in
+    ap₂ (λ ps qs. ps ++ qs) starts (ap₂ (λ ps qs. ps ++ qs) sends hears ∙ take-append-drop m (drop n rows))
+    ∙ take-append-drop n rows in
     record {
       faults = c.faults.ensures.faults;
       first_broadcast = c.first_broadcast.ensures;
@@ -33,4 +34,5 @@ returns-clause-table c =
     }
 
 pub invariant_of-result : goal.invariant_of-result
-invariant_of-result c = record { head = c.args.head.now; node = c.args.node; lawful = c.faults.ensures.within; of = returns-clause-table c }
+invariant_of-result c =
+    record { head = c.args.head.now; node = c.args.node; lawful = c.faults.ensures.within; of = returns-clause-table c }

@@ -12,7 +12,8 @@ returns-in-Some-clause-columns c =
     let i = c.loop-table.table-index in
     let same = c.as_slice-table-items.ensures.value ∙ ap (λ (t : Tables). t.nodes) c.self.view_is in
     let within : i < length ts = subst (λ (xs : List NodeTable). i < length xs) same c.loop-table-test.true in
-    let table : c.table-item.result ≡ table_at ts i = c.table-item.is ∙ ap (λ xs. get_or xs i c.table-item.result) same ∙ get_or_default ts i c.table-item.result empty_table within in
+    let table : c.table-item.result ≡ table_at ts i = c.table-item.is ∙ ap (λ xs. get_or xs i c.table-item.result) same
+    ∙ get_or_default ts i c.table-item.result empty_table within in
     let found : row_columns c.table-item.result.starts c.args.item ≡ Some c.in-Some.columns.now = search rules in
     found_start c.args.item ts i within c.loop-table.invariant c.in-Some.columns.now
     (subst (λ (t : NodeTable). row_columns t.starts c.args.item ≡ Some c.in-Some.columns.now) table found)
@@ -23,9 +24,11 @@ returns-in-Some-row_columns-clause-columns c =
     let i = c.loop-table.table-index in
     let same = c.as_slice-table-items.ensures.value ∙ ap (λ (t : Tables). t.nodes) c.self.view_is in
     let within : i < length ts = subst (λ (xs : List NodeTable). i < length xs) same c.loop-table-test.true in
-    let table : c.table-item.result ≡ table_at ts i = c.table-item.is ∙ ap (λ xs. get_or xs i c.table-item.result) same ∙ get_or_default ts i c.table-item.result empty_table within in
+    let table : c.table-item.result ≡ table_at ts i = c.table-item.is ∙ ap (λ xs. get_or xs i c.table-item.result) same
+    ∙ get_or_default ts i c.table-item.result empty_table within in
     let none : row_columns c.table-item.result.starts c.args.item ≡ None = search rules in
-    let found : row_columns c.table-item.result.sends c.args.item ≡ Some c.in-Some-row_columns.columns.now = search rules in
+    let found : row_columns c.table-item.result.sends c.args.item ≡ Some c.in-Some-row_columns.columns.now =
+    search rules in
     found_send c.args.item ts i within c.loop-table.invariant c.in-Some-row_columns.columns.now
     (subst (λ (t : NodeTable). row_columns t.starts c.args.item ≡ None) table none)
     (subst (λ (t : NodeTable). row_columns t.sends c.args.item ≡ Some c.in-Some-row_columns.columns.now) table found)
@@ -36,7 +39,8 @@ loop-table-preserved c =
     let i = c.loop-table.table-index in
     let same = c.as_slice-table-items.ensures.value ∙ ap (λ (t : Tables). t.nodes) c.self.view_is in
     let within : i < length ts = subst (λ (xs : List NodeTable). i < length xs) same c.loop-table-test.true in
-    let table : c.table-item.result ≡ table_at ts i = c.table-item.is ∙ ap (λ xs. get_or xs i c.table-item.result) same ∙ get_or_default ts i c.table-item.result empty_table within in
+    let table : c.table-item.result ≡ table_at ts i = c.table-item.is ∙ ap (λ xs. get_or xs i c.table-item.result) same
+    ∙ get_or_default ts i c.table-item.result empty_table within in
     let none : row_columns c.table-item.result.starts c.args.item ≡ None = search rules in
     let none_sent : row_columns c.table-item.result.sends c.args.item ≡ None = search rules in
     found_none c.args.item ts i within c.loop-table.invariant

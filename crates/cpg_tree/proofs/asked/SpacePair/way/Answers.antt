@@ -31,8 +31,10 @@ pub returns-then-not-is_open_below-2 : goal.returns-then-not-is_open_below-2
 returns-then-not-is_open_below-2 c = (
   record {
     asked = c.walk_above.ensures.asked;
-    goes = λ s d. from_false c.is_open_below-2.result c.if-not-is_open_below-2.true c.is_open_below-2.ensures.none s d.0;
-    lies = λ s d. c.walk_above.ensures.lies s d (from_false c.is_open_below-2.result c.if-not-is_open_below-2.true c.is_open_below-2.ensures.none s d.0);
+    goes =
+        λ s d. from_false c.is_open_below-2.result c.if-not-is_open_below-2.true c.is_open_below-2.ensures.none s d.0;
+    lies = λ s d. c.walk_above.ensures.lies s d
+        (from_false c.is_open_below-2.result c.if-not-is_open_below-2.true c.is_open_below-2.ensures.none s d.0);
   },
   c.walk_above.ensures.back,
 )
@@ -41,8 +43,10 @@ pub returns-then-not-is_open_above-2 : goal.returns-then-not-is_open_above-2
 returns-then-not-is_open_above-2 c = (
   record {
     asked = c.walk_below.ensures.asked;
-    goes = λ s d. from_false c.is_open_above-2.result c.if-not-is_open_above-2.true c.is_open_above-2.ensures.none s d.0;
-    lies = λ s d. c.walk_below.ensures.lies s d (from_false c.is_open_above-2.result c.if-not-is_open_above-2.true c.is_open_above-2.ensures.none s d.0);
+    goes =
+        λ s d. from_false c.is_open_above-2.result c.if-not-is_open_above-2.true c.is_open_above-2.ensures.none s d.0;
+    lies = λ s d. c.walk_below.ensures.lies s d
+        (from_false c.is_open_above-2.result c.if-not-is_open_above-2.true c.is_open_above-2.ensures.none s d.0);
   },
   c.walk_below.ensures.back,
 )

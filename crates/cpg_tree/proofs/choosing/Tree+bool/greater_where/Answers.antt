@@ -13,7 +13,8 @@ of-requires g c =
     let b = c.items-other_items.ensures.flat in
     let r = c.in_ok-greater_where.ensures.made n.0 a.0 b.0 n.1 a.1 b.1 in
     let are = all_added c.new-items.result.items c.greater_where.new.out.items r.0 c.new-items.ensures.items r.1 in
-    good_made c.faults-faults.result c.whole-space.result r.0 c.greater_where.new.out.items c.whole-space.ensures.is r.2.fit are
+    good_made c.faults-faults.result c.whole-space.result r.0 c.greater_where.new.out.items
+    c.whole-space.ensures.is r.2.fit are
 
 pub returns-clause-is : goal.returns-clause-is
 returns-clause-is g c =
@@ -24,10 +25,14 @@ returns-clause-is g c =
     let are = all_added c.new-items.result.items c.greater_where.new.out.items r.0 c.new-items.ensures.items r.1 in
     let answers : g.row.T.Denot → g.row.U.Denot → g.row.V.Denot → Type 0 = λ x y z. g.F.Fn.post c.args.made.now
     (max (g.R.Reading.number c.args.read.now x) (g.S.Reading.number c.args.also.now y), tt) z in
-    subst (IsJoinWhere answers c.args.none c.args.self.now c.args.tree.now c.args.other.now) (sym (c.of.ensures.is r.0 are))
-    (where_seen n.0 a.0 b.0 r.0 c.args.self.now c.args.tree.now c.args.other.now (c.items.ensures.paths n.0 n.1) (c.items-own_items.ensures.paths a.0 a.1) (c.items-other_items.ensures.paths b.0 b.1)
-    c.faults-faults.result answers c.args.none c.faults-faults.ensures c.requires.first c.requires.second (c.items.ensures.good n.0 n.1) (c.items-own_items.ensures.good a.0 a.1)
-    (c.items-other_items.ensures.good b.0 b.1) c.whole-space.result c.whole-space.ensures.is c.whole-space.ensures.lies r.2.fit r.2.made)
+    subst (IsJoinWhere answers c.args.none c.args.self.now c.args.tree.now c.args.other.now)
+    (sym (c.of.ensures.is r.0 are))
+    (where_seen n.0 a.0 b.0 r.0 c.args.self.now c.args.tree.now c.args.other.now (c.items.ensures.paths n.0 n.1)
+    (c.items-own_items.ensures.paths a.0 a.1) (c.items-other_items.ensures.paths b.0 b.1)
+    c.faults-faults.result answers c.args.none c.faults-faults.ensures c.requires.first c.requires.second
+    (c.items.ensures.good n.0 n.1) (c.items-own_items.ensures.good a.0 a.1)
+    (c.items-other_items.ensures.good b.0 b.1) c.whole-space.result c.whole-space.ensures.is c.whole-space.ensures.lies
+    r.2.fit r.2.made)
 
 pub returns-clause-pass : goal.returns-clause-pass
 returns-clause-pass g c test first second third =
@@ -37,7 +42,8 @@ returns-clause-pass g c test first second third =
     let r = c.in_ok-greater_where.ensures.made n.0 a.0 b.0 n.1 a.1 b.1 in
     let are = all_added c.new-items.result.items c.greater_where.new.out.items r.0 c.new-items.ensures.items r.1 in
     subst (λ (x : TreeState g.row.V.Denot). DoPathsPass test x.paths) (sym (c.of.ensures.is r.0 are))
-    (where_pass n.0 a.0 b.0 r.0 c.args.self.now c.args.tree.now c.args.other.now (c.items.ensures.paths n.0 n.1) (c.items-own_items.ensures.paths a.0 a.1) (c.items-other_items.ensures.paths b.0 b.1)
+    (where_pass n.0 a.0 b.0 r.0 c.args.self.now c.args.tree.now c.args.other.now (c.items.ensures.paths n.0 n.1)
+    (c.items-own_items.ensures.paths a.0 a.1) (c.items-other_items.ensures.paths b.0 b.1)
     c.faults-faults.result test (r.2.pass test) first second third)
 
 pub greater_where-requires-clause-own : goal.greater_where-requires-clause-own
@@ -46,9 +52,11 @@ greater_where-requires-clause-own g c =
     let m = c.items-other_items.ensures.flat in (
       n.0,
       n.1,
-      c.split_at.ensures.front ∙ ap (take c.len-forks.result) c.deref.ensures.value ∙ first_bounds (g.R.Reading.number c.args.read.now)
+      c.split_at.ensures.front ∙ ap (take c.len-forks.result) c.deref.ensures.value
+          ∙ first_bounds (g.R.Reading.number c.args.read.now)
           (g.S.Reading.number c.args.also.now) n.0 m.0 c.in_ok-bounds.bounds.items
-          c.push_bounds.new.bounds.items c.push_bounds-2.new.bounds.items c.len-forks.result c.in_ok-bounds.ensures.items (c.in_ok-push_bounds.ensures.bounds n.0 n.1)
+          c.push_bounds.new.bounds.items c.push_bounds-2.new.bounds.items c.len-forks.result
+          c.in_ok-bounds.ensures.items (c.in_ok-push_bounds.ensures.bounds n.0 n.1)
           (c.in_ok-push_bounds-2.ensures.bounds m.0 m.1) (c.len-forks.ensures ∙ c.push_bounds.new.bounds.ok.0),
     )
 
@@ -58,8 +66,10 @@ greater_where-requires-clause-others g c =
     let m = c.items-other_items.ensures.flat in (
       m.0,
       m.1,
-      c.split_at.ensures.back ∙ ap (drop c.len-forks.result) c.deref.ensures.value ∙ second_bounds (g.R.Reading.number c.args.read.now)
+      c.split_at.ensures.back ∙ ap (drop c.len-forks.result) c.deref.ensures.value
+          ∙ second_bounds (g.R.Reading.number c.args.read.now)
           (g.S.Reading.number c.args.also.now) n.0 m.0 c.in_ok-bounds.bounds.items
-          c.push_bounds.new.bounds.items c.push_bounds-2.new.bounds.items c.len-forks.result c.in_ok-bounds.ensures.items (c.in_ok-push_bounds.ensures.bounds n.0 n.1)
+          c.push_bounds.new.bounds.items c.push_bounds-2.new.bounds.items c.len-forks.result
+          c.in_ok-bounds.ensures.items (c.in_ok-push_bounds.ensures.bounds n.0 n.1)
           (c.in_ok-push_bounds-2.ensures.bounds m.0 m.1) (c.len-forks.ensures ∙ c.push_bounds.new.bounds.ok.0),
     )

@@ -12,7 +12,8 @@ of-requires c =
     let b = c.items-off.ensures.flat in
     let r = c.in_ok-pick_read.ensures.made n.0 a.0 b.0 n.1 a.1 b.1 in
     let are = all_added c.new-made.result.items c.pick_read.new.out.items r.0 c.new-made.ensures.items r.1 in
-    good_made c.faults-faults.result c.whole-space.result r.0 c.pick_read.new.out.items c.whole-space.ensures.is r.2.fit are
+    good_made c.faults-faults.result c.whole-space.result r.0 c.pick_read.new.out.items
+    c.whole-space.ensures.is r.2.fit are
 
 pub returns-clause-is : goal.returns-clause-is
 returns-clause-is c =
@@ -21,11 +22,15 @@ returns-clause-is c =
     let b = c.items-off.ensures.flat in
     let r = c.in_ok-pick_read.ensures.made n.0 a.0 b.0 n.1 a.1 b.1 in
     let are = all_added c.new-made.result.items c.pick_read.new.out.items r.0 c.new-made.ensures.items r.1 in
-    pick_shown c.args.self.now (later_by c.args.delay c.args.times.now) c.args.no.now n.0 (read_by (time_later c.args.delay) a.0) b.0 (c.items.ensures.good n.0 n.1)
-    (good_read (time_later c.args.delay) c.args.times.now.faults a.0 (c.items-on.ensures.good a.0 a.1)) (c.items-off.ensures.good b.0 b.1)
-    (c.items.ensures.paths n.0 n.1) (later_paths c.args.delay c.args.times.now a.0 (c.items-on.ensures.paths a.0 a.1)) (c.items-off.ensures.paths b.0 b.1) c.faults-faults.result
+    pick_shown c.args.self.now (later_by c.args.delay c.args.times.now) c.args.no.now n.0
+    (read_by (time_later c.args.delay) a.0) b.0 (c.items.ensures.good n.0 n.1)
+    (good_read (time_later c.args.delay) c.args.times.now.faults a.0 (c.items-on.ensures.good a.0 a.1))
+    (c.items-off.ensures.good b.0 b.1)
+    (c.items.ensures.paths n.0 n.1) (later_paths c.args.delay c.args.times.now a.0 (c.items-on.ensures.paths a.0 a.1))
+    (c.items-off.ensures.paths b.0 b.1) c.faults-faults.result
     c.faults-faults.ensures r.0 c.of.result (c.of.ensures.is r.0 are)
-    c.requires.first c.requires.second c.whole-space.result c.whole-space.ensures.is c.whole-space.ensures.lies r.2.fit r.2.made
+    c.requires.first c.requires.second c.whole-space.result c.whole-space.ensures.is c.whole-space.ensures.lies
+    r.2.fit r.2.made
 
 pub returns-clause-pass : goal.returns-clause-pass
 returns-clause-pass c test on_self on_times on_no =
@@ -34,8 +39,11 @@ returns-clause-pass c test on_self on_times on_no =
     let b = c.items-off.ensures.flat in
     let r = c.in_ok-pick_read.ensures.made n.0 a.0 b.0 n.1 a.1 b.1 in
     let are = all_added c.new-made.result.items c.pick_read.new.out.items r.0 c.new-made.ensures.items r.1 in
-    pick_passes c.args.self.now (later_by c.args.delay c.args.times.now) c.args.no.now n.0 (read_by (time_later c.args.delay) a.0) b.0 (c.items.ensures.good n.0 n.1)
-    (good_read (time_later c.args.delay) c.args.times.now.faults a.0 (c.items-on.ensures.good a.0 a.1)) (c.items-off.ensures.good b.0 b.1)
-    (c.items.ensures.paths n.0 n.1) (later_paths c.args.delay c.args.times.now a.0 (c.items-on.ensures.paths a.0 a.1)) (c.items-off.ensures.paths b.0 b.1) c.faults-faults.result
+    pick_passes c.args.self.now (later_by c.args.delay c.args.times.now) c.args.no.now n.0
+    (read_by (time_later c.args.delay) a.0) b.0 (c.items.ensures.good n.0 n.1)
+    (good_read (time_later c.args.delay) c.args.times.now.faults a.0 (c.items-on.ensures.good a.0 a.1))
+    (c.items-off.ensures.good b.0 b.1)
+    (c.items.ensures.paths n.0 n.1) (later_paths c.args.delay c.args.times.now a.0 (c.items-on.ensures.paths a.0 a.1))
+    (c.items-off.ensures.paths b.0 b.1) c.faults-faults.result
     c.faults-faults.ensures r.0 c.of.result (c.of.ensures.is r.0 are) test (r.2.pass test) on_self
     (later_pass c.args.delay c.args.times.now test on_times) on_no

@@ -5,4 +5,5 @@ use Rattle.cpg_tree.specs.Space.{IsInSpace, asked_beyond}
 use Rattle.cpg_tree.proofs.space.Space.affords.Given as goal
 
 abbrev pub invariant-loop-at : goal.invariant-loop-at
-invariant-loop-at l = (s : Scenario) → IsInSpace l.self s → matches l.literals s ≡ true → sum_by (asked_beyond l.self) (drop l.at l.literals) ≤ l.left
+invariant-loop-at l = (s : Scenario) → IsInSpace l.self s → matches l.literals s ≡ true →
+    sum_by (asked_beyond l.self) (drop l.at l.literals) ≤ l.left

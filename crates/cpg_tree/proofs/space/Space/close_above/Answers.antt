@@ -10,4 +10,5 @@ returns-clause-back c =
     ap with_highs (set-set space.high c.args.variable c.args.cut c.highest-high.result) ∙ c.highest-high.ensures
 
 pub returns-clause-lies : goal.returns-clause-lies
-returns-clause-lies c s lies h = lies_below c.args.self.now s lies c.args.variable c.args.cut (search rules) (search rules) h
+returns-clause-lies c s lies h =
+    lies_below c.args.self.now s lies c.args.variable c.args.cut (search rules) (search rules) h

@@ -5,10 +5,12 @@ use Rattle.cpg_cube.proofs.CubeLows.{holds-from}
 use Rattle.cpg_tree.proofs.space.Space.implies.Goals as goal
 
 pub returns-then-self-literal-2 : goal.returns-then-self-literal-2
-returns-then-self-literal-2 c s lies = holds-from s c.args.literal.now (omega (arith, c.if-self-literal.false, lies.low c.args.literal.now.variable (search rules)))
+returns-then-self-literal-2 c s lies = holds-from s c.args.literal.now
+    (omega (arith, c.if-self-literal.false, lies.low c.args.literal.now.variable (search rules)))
     (omega (arith, c.if-self-literal-2.true, lies.high c.args.literal.now.variable (search rules)))
 
 pub returns : goal.returns
 returns c = OnTrue_from (nat_le c.most.result c.args.literal.now.high) _
-    (λ e s lies. holds-from s c.args.literal.now (omega (arith, c.if-self-literal.false, lies.low c.args.literal.now.variable (search rules)))
+    (λ e s lies. holds-from s c.args.literal.now
+    (omega (arith, c.if-self-literal.false, lies.low c.args.literal.now.variable (search rules)))
     (omega (arith, c.most.ensures s lies, leb-true c.most.result c.args.literal.now.high e)))

@@ -5,5 +5,6 @@ use Rattle.cpg_tree.proofs.Spaces.{none_below, on_false}
 use Rattle.cpg_tree.proofs.space.Space.is_open_below.Goals as goal
 
 pub returns-clause-none : goal.returns-clause-none
-returns-clause-none c = on_false {P = (s : Scenario) → IsInSpace c.args.self.now s → c.args.cut < number_of s c.args.variable} _
+returns-clause-none c =
+    on_false {P = (s : Scenario) → IsInSpace c.args.self.now s → c.args.cut < number_of s c.args.variable} _
     (λ e s lies. none_below c.args.self.now s lies c.args.variable c.args.cut (search rules) e)

@@ -8,4 +8,5 @@ returns-then-not-is_open_above-clause-none c s lies = under c.args.low (number_o
     (from_false c.is_open_above.result c.if-not-is_open_above.true c.is_open_above.ensures.none s lies)
 
 pub returns-clause-lies : goal.returns-clause-lies
-returns-clause-lies c s lies h = c.raise.ensures.lies s lies (over c.args.low (number_of s c.args.variable) c.if-low-eq0.false h)
+returns-clause-lies c s lies h =
+    c.raise.ensures.lies s lies (over c.args.low (number_of s c.args.variable) c.if-low-eq0.false h)

@@ -7,5 +7,6 @@ use Rattle.cpg_tree.proofs.space.Space.raise.Goals as goal
 pub returns-clause-lies : goal.returns-clause-lies
 returns-clause-lies c s lies h =
     let space : Space = c.args.self.now in
-    subst (λ (n : ℕ). IsInSpace (record { low = slice_set space.low c.args.variable (c.args.cut + 1); high = space.high; left = space.left - n }) s) (sym c.faults_of.ensures)
+    subst (λ (n : ℕ). IsInSpace (record { low = slice_set space.low c.args.variable (c.args.cut + 1); high = space.high; left = space.left - n }) s)
+    (sym c.faults_of.ensures)
     (lies_above space s lies c.args.variable c.args.cut (search rules) (search rules) c.requires.below h)

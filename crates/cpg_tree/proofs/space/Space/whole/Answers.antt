@@ -4,7 +4,8 @@ use Rattle.cpg_tree.proofs.Spaces.{lies_whole}
 use Rattle.cpg_tree.proofs.space.Space.whole.Goals as goal
 
 pub loop-variable-init : goal.loop-variable-init
-loop-variable-init c = record { long = search rules; done = λ v l. absurd (omega arith); rest = λ v l h. get_or-replicate 256 v 1 0 h }
+loop-variable-init c =
+    record { long = search rules; done = λ v l. absurd (omega arith); rest = λ v l h. get_or-replicate 256 v 1 0 h }
 
 pub returns-clause-is : goal.returns-clause-is
 returns-clause-is c = record {
@@ -18,5 +19,6 @@ returns-clause-is c = record {
 }
 
 pub returns-clause-lies : goal.returns-clause-lies
-returns-clause-lies c s few = lies_whole c.args.k s few _ (λ v l. get_or-replicate 256 v 0 0 l) (λ v l. c.loop-variable.invariant.done v (search rules))
+returns-clause-lies c s few = lies_whole c.args.k s few _ (λ v l. get_or-replicate 256 v 0 0 l)
+    (λ v l. c.loop-variable.invariant.done v (search rules))
     (λ v l h. c.loop-variable.invariant.rest v (search rules) h) refl

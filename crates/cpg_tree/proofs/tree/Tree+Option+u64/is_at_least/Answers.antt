@@ -8,5 +8,6 @@ use Rattle.cpg_tree.proofs.tree.Tree+Option+u64.is_at_least.Goals as goal
 pub returns : goal.returns
 returns c = of_true c.are_at_least.result c.are_at_least.ensures (λ h.
     let n = c.items.ensures.flat in
-    subst (λ (t : TreeState (Option ℕ)). All (IsFrom c.args.least) t.paths) (state_seen c.args.self.now n.0 (c.items.ensures.paths n.0 n.1))
+    subst (λ (t : TreeState (Option ℕ)). All (IsFrom c.args.least) t.paths)
+    (state_seen c.args.self.now n.0 (c.items.ensures.paths n.0 n.1))
     (at_least_paths c.args.least c.args.self.now.faults n.0 [] (h n.0 n.1)))

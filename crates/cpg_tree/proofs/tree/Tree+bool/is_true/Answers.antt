@@ -2,4 +2,5 @@ use Rattle.cpg_tree.proofs.GoodLists.{true_value}
 use Rattle.cpg_tree.proofs.tree.Tree+bool.is_true.Goals as goal
 
 pub returns-in-Value : goal.returns-in-Value
-returns-in-Value c = true_value c.in-Value.value c.args.self.now c.items.result.now c.in-Value.ensures.shows c.items.ensures.paths
+returns-in-Value c =
+    true_value c.in-Value.value c.args.self.now c.items.result.now c.in-Value.ensures.shows c.items.ensures.paths

@@ -6,5 +6,7 @@ use Rattle.cpg_tree.proofs.tree.Tree.at.Goals as goal
 pub returns : goal.returns
 returns g c =
     let n = c.items.ensures.flat in
-    subst (λ (t : TreeState g.row.T.Denot). IsValueAt t c.args.scenario.now c.at_items.result) (state_seen c.args.self.now n.0 (c.items.ensures.paths n.0 n.1))
-    (subst (IsValueAt _ c.args.scenario.now) (sym (c.at_items.ensures n.0 n.1)) (value_path c.args.self.now.faults n.0 (c.items.ensures.good n.0 n.1) c.args.scenario.now))
+    subst (λ (t : TreeState g.row.T.Denot). IsValueAt t c.args.scenario.now c.at_items.result)
+    (state_seen c.args.self.now n.0 (c.items.ensures.paths n.0 n.1))
+    (subst (IsValueAt _ c.args.scenario.now) (sym (c.at_items.ensures n.0 n.1))
+    (value_path c.args.self.now.faults n.0 (c.items.ensures.good n.0 n.1) c.args.scenario.now))

@@ -13,4 +13,5 @@ returns-clause-is g c = c.of.ensures.is (Leaf c.args.value) (search rules)
 
 pub returns-clause-pass : goal.returns-clause-pass
 returns-clause-pass g c test =
-    subst (λ (t : TreeState g.row.T.Denot). DoPathsPass test t.paths) (sym (c.of.ensures.is (Leaf c.args.value) (search rules))) (paths_of_forks test c.args.k (Leaf c.args.value) tt)
+    subst (λ (t : TreeState g.row.T.Denot). DoPathsPass test t.paths)
+    (sym (c.of.ensures.is (Leaf c.args.value) (search rules))) (paths_of_forks test c.args.k (Leaf c.args.value) tt)

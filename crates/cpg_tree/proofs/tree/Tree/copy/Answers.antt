@@ -5,10 +5,14 @@ use Rattle.cpg_tree.proofs.tree.Tree.copy.Goals as goal
 
 pub of-requires : goal.of-requires
 of-requires g c =
-    let n = c.items.ensures.flat in
-    (n.0, c.in_ok-copied.ensures.items ∙ n.1, subst (λ (m : ℕ). IsGood m n.0) (sym c.faults.ensures) (c.items.ensures.good n.0 n.1))
+    let n = c.items.ensures.flat in (
+      n.0,
+      c.in_ok-copied.ensures.items ∙ n.1,
+      subst (λ (m : ℕ). IsGood m n.0) (sym c.faults.ensures) (c.items.ensures.good n.0 n.1),
+    )
 
 pub returns-clause-is : goal.returns-clause-is
 returns-clause-is g c =
     let n = c.items.ensures.flat in
-    c.of.ensures.is n.0 (c.in_ok-copied.ensures.items ∙ n.1) ∙ ap (λ (m : ℕ). state m n.0) c.faults.ensures ∙ state_seen c.args.self.now n.0 (c.items.ensures.paths n.0 n.1)
+    c.of.ensures.is n.0 (c.in_ok-copied.ensures.items ∙ n.1) ∙ ap (λ (m : ℕ). state m n.0) c.faults.ensures
+    ∙ state_seen c.args.self.now n.0 (c.items.ensures.paths n.0 n.1)

@@ -11,7 +11,8 @@ of-requires g c =
     let m = c.items-others.ensures.flat in
     let r = c.in_ok-greater_items.ensures.made n.0 m.0 n.1 m.1 in
     let are = all_added c.new-items.result.items c.greater_items.new.out.items r.0 c.new-items.ensures.items r.1 in
-    good_made c.faults-faults.result c.whole-space.result r.0 c.greater_items.new.out.items c.whole-space.ensures.is r.2.fit are
+    good_made c.faults-faults.result c.whole-space.result r.0 c.greater_items.new.out.items
+    c.whole-space.ensures.is r.2.fit are
 
 pub returns-clause-is : goal.returns-clause-is
 returns-clause-is g c =
@@ -19,8 +20,10 @@ returns-clause-is g c =
     let m = c.items-others.ensures.flat in
     let r = c.in_ok-greater_items.ensures.made n.0 m.0 n.1 m.1 in
     let are = all_added c.new-items.result.items c.greater_items.new.out.items r.0 c.new-items.ensures.items r.1 in
-    join_shown c.args.self.now c.args.other.now n.0 m.0 (c.items.ensures.good n.0 n.1) (c.items-others.ensures.good m.0 m.1) (c.items.ensures.paths n.0 n.1) (c.items-others.ensures.paths m.0 m.1)
-    c.faults-faults.result c.faults-faults.ensures r.0 c.of.result (c.of.ensures.is r.0 are) (λ (x : g.row.T.Denot) (y : g.row.U.Denot) (z : g.row.V.Denot). g.F.Fn.post c.args.made.now (
+    join_shown c.args.self.now c.args.other.now n.0 m.0 (c.items.ensures.good n.0 n.1)
+    (c.items-others.ensures.good m.0 m.1) (c.items.ensures.paths n.0 n.1) (c.items-others.ensures.paths m.0 m.1)
+    c.faults-faults.result c.faults-faults.ensures r.0 c.of.result (c.of.ensures.is r.0 are)
+    (λ (x : g.row.T.Denot) (y : g.row.U.Denot) (z : g.row.V.Denot). g.F.Fn.post c.args.made.now (
       max
           (g.R.Reading.number c.args.read.now x) (g.S.Reading.number c.args.also.now y),
       tt,
@@ -33,16 +36,19 @@ returns-clause-pass g c test =
     let m = c.items-others.ensures.flat in
     let r = c.in_ok-greater_items.ensures.made n.0 m.0 n.1 m.1 in
     let are = all_added c.new-items.result.items c.greater_items.new.out.items r.0 c.new-items.ensures.items r.1 in
-    join_passes c.args.self.now c.args.other.now n.0 m.0 (c.items.ensures.good n.0 n.1) (c.items-others.ensures.good m.0 m.1) (c.items.ensures.paths n.0 n.1) (c.items-others.ensures.paths m.0 m.1)
+    join_passes c.args.self.now c.args.other.now n.0 m.0 (c.items.ensures.good n.0 n.1)
+    (c.items-others.ensures.good m.0 m.1) (c.items.ensures.paths n.0 n.1) (c.items-others.ensures.paths m.0 m.1)
     c.faults-faults.result c.faults-faults.ensures r.0 c.of.result (c.of.ensures.is r.0 are) test (r.2.pass test)
 
 pub greater_items-requires-clause-fit : goal.greater_items-requires-clause-fit
 greater_items-requires-clause-fit g c n are =
     let good = c.items.ensures.good n are in
-    fits_whole c.args.self.now.faults good.0 c.whole-space.result good.1 (subst (λ (k : ℕ). IsWhole k c.whole-space.result) c.faults-faults.ensures c.whole-space.ensures.is) n good.2
+    fits_whole c.args.self.now.faults good.0 c.whole-space.result good.1
+    (subst (λ (k : ℕ). IsWhole k c.whole-space.result) c.faults-faults.ensures c.whole-space.ensures.is) n good.2
 
 pub greater_items-requires-clause-other_fit : goal.greater_items-requires-clause-other_fit
 greater_items-requires-clause-other_fit g c m others =
     let good = c.items-others.ensures.good m others in
     fits_whole c.args.other.now.faults good.0 c.whole-space.result good.1
-    (subst (λ (k : ℕ). IsWhole k c.whole-space.result) (c.faults-faults.ensures ∙ c.requires.same) c.whole-space.ensures.is) m good.2
+    (subst (λ (k : ℕ). IsWhole k c.whole-space.result)
+    (c.faults-faults.ensures ∙ c.requires.same) c.whole-space.ensures.is) m good.2

@@ -8,7 +8,8 @@ of-requires g c =
     let m = c.items-others.ensures.flat in
     let r = c.in_ok-join_items.ensures.made n.0 m.0 n.1 m.1 in
     let are = all_added c.in_ok-made.made.items c.join_items.new.out.items r.0 c.in_ok-made.ensures.items r.1 in
-    good_made c.faults-faults.result c.whole-space.result r.0 c.join_items.new.out.items c.whole-space.ensures.is r.2.fit are
+    good_made c.faults-faults.result c.whole-space.result r.0 c.join_items.new.out.items
+    c.whole-space.ensures.is r.2.fit are
 
 pub returns-clause-is : goal.returns-clause-is
 returns-clause-is g c =
@@ -16,8 +17,10 @@ returns-clause-is g c =
     let m = c.items-others.ensures.flat in
     let r = c.in_ok-join_items.ensures.made n.0 m.0 n.1 m.1 in
     let are = all_added c.in_ok-made.made.items c.join_items.new.out.items r.0 c.in_ok-made.ensures.items r.1 in
-    join_shown c.args.self.now c.args.other.now n.0 m.0 (c.items.ensures.good n.0 n.1) (c.items-others.ensures.good m.0 m.1) (c.items.ensures.paths n.0 n.1) (c.items-others.ensures.paths m.0 m.1)
-    c.faults-faults.result c.faults-faults.ensures r.0 c.of.result (c.of.ensures.is r.0 are) (λ (x : g.row.T.Denot) (y : g.row.U.Denot) (z : g.row.V.Denot). g.F.Fn.post c.args.f.now (
+    join_shown c.args.self.now c.args.other.now n.0 m.0 (c.items.ensures.good n.0 n.1)
+    (c.items-others.ensures.good m.0 m.1) (c.items.ensures.paths n.0 n.1) (c.items-others.ensures.paths m.0 m.1)
+    c.faults-faults.result c.faults-faults.ensures r.0 c.of.result (c.of.ensures.is r.0 are)
+    (λ (x : g.row.T.Denot) (y : g.row.U.Denot) (z : g.row.V.Denot). g.F.Fn.post c.args.f.now (
       x,
       (y, tt),
     ) z) c.requires.same
@@ -29,5 +32,6 @@ returns-clause-pass g c test =
     let m = c.items-others.ensures.flat in
     let r = c.in_ok-join_items.ensures.made n.0 m.0 n.1 m.1 in
     let are = all_added c.in_ok-made.made.items c.join_items.new.out.items r.0 c.in_ok-made.ensures.items r.1 in
-    join_passes c.args.self.now c.args.other.now n.0 m.0 (c.items.ensures.good n.0 n.1) (c.items-others.ensures.good m.0 m.1) (c.items.ensures.paths n.0 n.1) (c.items-others.ensures.paths m.0 m.1)
+    join_passes c.args.self.now c.args.other.now n.0 m.0 (c.items.ensures.good n.0 n.1)
+    (c.items-others.ensures.good m.0 m.1) (c.items.ensures.paths n.0 n.1) (c.items-others.ensures.paths m.0 m.1)
     c.faults-faults.result c.faults-faults.ensures r.0 c.of.result (c.of.ensures.is r.0 are) test (r.2.pass test)

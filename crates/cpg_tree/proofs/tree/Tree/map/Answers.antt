@@ -9,7 +9,8 @@ of-requires g c =
     let are = all_added c.in_ok-made.made.items c.map_items.new.out.items r.0 c.in_ok-made.ensures.items r.1 in (
       r.0,
       are,
-      good_mapped (λ (x : g.row.T.Denot) (z : g.row.U.Denot). g.F.Fn.post c.args.f.now (x, tt) z) c.args.self.now n.0 (c.items.ensures.good n.0 n.1) (c.items.ensures.paths n.0 n.1)
+      good_mapped (λ (x : g.row.T.Denot) (z : g.row.U.Denot). g.F.Fn.post c.args.f.now (x, tt) z) c.args.self.now n.0
+          (c.items.ensures.good n.0 n.1) (c.items.ensures.paths n.0 n.1)
           c.faults.result c.faults.ensures r.0 r.2,
     )
 
@@ -18,7 +19,8 @@ returns-clause-is g c =
     let n = c.items.ensures.flat in
     let r = c.in_ok-map_items.ensures.made n.0 n.1 in
     let are = all_added c.in_ok-made.made.items c.map_items.new.out.items r.0 c.in_ok-made.ensures.items r.1 in
-    map_shown (λ (x : g.row.T.Denot) (z : g.row.U.Denot). g.F.Fn.post c.args.f.now (x, tt) z) c.args.self.now n.0 (c.items.ensures.good n.0 n.1) (c.items.ensures.paths n.0 n.1)
+    map_shown (λ (x : g.row.T.Denot) (z : g.row.U.Denot). g.F.Fn.post c.args.f.now (x, tt) z) c.args.self.now n.0
+    (c.items.ensures.good n.0 n.1) (c.items.ensures.paths n.0 n.1)
     c.faults.result c.faults.ensures r.0 r.2 c.of.result (c.of.ensures.is r.0 are)
 
 pub returns-clause-pass : goal.returns-clause-pass
@@ -26,5 +28,6 @@ returns-clause-pass g c =
     let n = c.items.ensures.flat in
     let r = c.in_ok-map_items.ensures.made n.0 n.1 in
     let are = all_added c.in_ok-made.made.items c.map_items.new.out.items r.0 c.in_ok-made.ensures.items r.1 in
-    map_passes (λ (x : g.row.T.Denot) (z : g.row.U.Denot). g.F.Fn.post c.args.f.now (x, tt) z) c.args.self.now n.0 (c.items.ensures.good n.0 n.1) (c.items.ensures.paths n.0 n.1)
+    map_passes (λ (x : g.row.T.Denot) (z : g.row.U.Denot). g.F.Fn.post c.args.f.now (x, tt) z) c.args.self.now n.0
+    (c.items.ensures.good n.0 n.1) (c.items.ensures.paths n.0 n.1)
     c.faults.result c.faults.ensures r.0 r.2 c.of.result (c.of.ensures.is r.0 are)

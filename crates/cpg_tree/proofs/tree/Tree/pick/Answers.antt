@@ -9,7 +9,8 @@ of-requires g c =
     let b = c.items-off.ensures.flat in
     let r = c.in_ok-pick_items.ensures.made n.0 a.0 b.0 n.1 a.1 b.1 in
     let are = all_added c.in_ok-made.made.items c.pick_items.new.out.items r.0 c.in_ok-made.ensures.items r.1 in
-    good_made c.faults-faults.result c.whole-space.result r.0 c.pick_items.new.out.items c.whole-space.ensures.is r.2.fit are
+    good_made c.faults-faults.result c.whole-space.result r.0 c.pick_items.new.out.items
+    c.whole-space.ensures.is r.2.fit are
 
 pub returns-clause-is : goal.returns-clause-is
 returns-clause-is g c =
@@ -18,9 +19,12 @@ returns-clause-is g c =
     let b = c.items-off.ensures.flat in
     let r = c.in_ok-pick_items.ensures.made n.0 a.0 b.0 n.1 a.1 b.1 in
     let are = all_added c.in_ok-made.made.items c.pick_items.new.out.items r.0 c.in_ok-made.ensures.items r.1 in
-    pick_shown c.args.chooser.now c.args.yes.now c.args.no.now n.0 a.0 b.0 (c.items.ensures.good n.0 n.1) (c.items-on.ensures.good a.0 a.1) (c.items-off.ensures.good b.0 b.1)
-    (c.items.ensures.paths n.0 n.1) (c.items-on.ensures.paths a.0 a.1) (c.items-off.ensures.paths b.0 b.1) c.faults-faults.result c.faults-faults.ensures r.0 c.of.result (c.of.ensures.is r.0 are)
-    c.requires.first c.requires.second c.whole-space.result c.whole-space.ensures.is c.whole-space.ensures.lies r.2.fit r.2.made
+    pick_shown c.args.chooser.now c.args.yes.now c.args.no.now n.0 a.0 b.0 (c.items.ensures.good n.0 n.1)
+    (c.items-on.ensures.good a.0 a.1) (c.items-off.ensures.good b.0 b.1)
+    (c.items.ensures.paths n.0 n.1) (c.items-on.ensures.paths a.0 a.1) (c.items-off.ensures.paths b.0 b.1)
+    c.faults-faults.result c.faults-faults.ensures r.0 c.of.result (c.of.ensures.is r.0 are)
+    c.requires.first c.requires.second c.whole-space.result c.whole-space.ensures.is c.whole-space.ensures.lies
+    r.2.fit r.2.made
 
 pub returns-clause-pass : goal.returns-clause-pass
 returns-clause-pass g c test =
@@ -29,6 +33,8 @@ returns-clause-pass g c test =
     let b = c.items-off.ensures.flat in
     let r = c.in_ok-pick_items.ensures.made n.0 a.0 b.0 n.1 a.1 b.1 in
     let are = all_added c.in_ok-made.made.items c.pick_items.new.out.items r.0 c.in_ok-made.ensures.items r.1 in
-    pick_passes c.args.chooser.now c.args.yes.now c.args.no.now n.0 a.0 b.0 (c.items.ensures.good n.0 n.1) (c.items-on.ensures.good a.0 a.1) (c.items-off.ensures.good b.0 b.1)
-    (c.items.ensures.paths n.0 n.1) (c.items-on.ensures.paths a.0 a.1) (c.items-off.ensures.paths b.0 b.1) c.faults-faults.result c.faults-faults.ensures r.0 c.of.result
+    pick_passes c.args.chooser.now c.args.yes.now c.args.no.now n.0 a.0 b.0 (c.items.ensures.good n.0 n.1)
+    (c.items-on.ensures.good a.0 a.1) (c.items-off.ensures.good b.0 b.1)
+    (c.items.ensures.paths n.0 n.1) (c.items-on.ensures.paths a.0 a.1)
+    (c.items-off.ensures.paths b.0 b.1) c.faults-faults.result c.faults-faults.ensures r.0 c.of.result
     (c.of.ensures.is r.0 are) test (r.2.pass test)

@@ -6,8 +6,10 @@ use Rattle.cpg_violation.proofs.sieve.Sieve.+search.Goals as goal
 
 pub search-returns-in_ok-search_side-in-Cut-2-clause-all : goal.search-returns-in_ok-search_side-in-Cut-2-clause-all
 search-returns-in_ok-search_side-in-Cut-2-clause-all t c = rw (← c.self.view_is, c.in-Cut.is) (λ s i m k.
-    side_of (nat_le (number_of s c.in-Cut.variable) c.in-Cut.most) (places_in c.in-Cut.below.value s) (places_in c.in-Cut.above.value s) c.search_side-in-Cut.new.found.items i
-    (λ e h. c.in_ok-search_side-in-Cut-2.ensures.old i (c.in_ok-search_side-in-Cut.ensures.all s i m e (rw c.deref.ensures h)))
+    side_of (nat_le (number_of s c.in-Cut.variable) c.in-Cut.most) (places_in c.in-Cut.below.value s)
+    (places_in c.in-Cut.above.value s) c.search_side-in-Cut.new.found.items i
+    (λ e h. c.in_ok-search_side-in-Cut-2.ensures.old i
+    (c.in_ok-search_side-in-Cut.ensures.all s i m e (rw c.deref.ensures h)))
     (λ e h. c.in_ok-search_side-in-Cut-2.ensures.all s i m e (rw c.deref-in-Cut.ensures h)) k)
 
 pub search_side-returns-clause-all : goal.search_side-returns-clause-all
