@@ -23,7 +23,7 @@ use Rattle.cpg_cube.specs.Fit.{IsKnown}
 use Rattle.cpg_cube.specs.declared.literal.Literal.{Literal}
 use Rattle.cpg_cube.proofs.Mapped.{any_map}
 use Rattle.cpg_table.specs.Table.{NodeTable, columns_of}
-use Rattle.cpg_cube.specs.Column.{Column}
+use Rattle.cpg_cube.specs.declared.column.Column.{Column}
 use Rattle.cpg_table.proofs.Rows.{has_row}
 use Rattle.cpg_table.proofs.Settings.{Setting, Match, item_within, match_once, match_active, match_there}
 use Rattle.cpg_node.specs.Dispatcher.{Act}

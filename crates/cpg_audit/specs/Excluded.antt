@@ -6,7 +6,7 @@ use Rattle.cpg_base.specs.Activity.{item_active}
 use Rattle.cpg_cube.specs.declared.literal.Literal.{Literal}
 use Rattle.cpg_base.specs.Scenario.{Scenario}
 use Rattle.cpg_table.specs.Table.{NodeTable, columns_of}
-use Rattle.cpg_cube.specs.Column.{Column}
+use Rattle.cpg_cube.specs.declared.column.Column.{Column}
 use Rattle.cpg_log.specs.Log.{Log, logged_time}
 use Rattle.cpg_log.specs.declared.log.Logged.{Logged}
 

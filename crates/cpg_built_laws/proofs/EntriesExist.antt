@@ -10,7 +10,7 @@ use Rattle.cpg_base.proofs.Pairs.{AllPairs-nil, AllPairs-cons_by}
 use Rattle.cpg_base.proofs.ScenarioOrder.{before_irreflexive, before_total}
 use Rattle.cpg_order.specs.Scenario.{scenarios}
 use Rattle.cpg_order.proofs.Scenarios.{Contains-scenarios, scenario_lawful}
-use Rattle.cpg_cube.specs.Column.{Column}
+use Rattle.cpg_cube.specs.declared.column.Column.{Column}
 use Rattle.cpg_cube.specs.Fit.{lows}
 use Rattle.cpg_cube.specs.declared.literal.Literal.{Literal}
 use Rattle.cpg_run.specs.Carried.{carried}

@@ -10,7 +10,7 @@ use Rattle.cpg_base.specs.Graph.{Graph, process_count, condition_count, IsVariab
 use Rattle.cpg_base.specs.Numbers.{numbers_below, is_below}
 use Rattle.cpg_base.proofs.Below.{below_one_way, not_below_transitive}
 use Rattle.cpg_base.proofs.Sorted.{sorted, permutation_sorted, rises_sorted}
-use Rattle.cpg_cube.specs.Column.{Column}
+use Rattle.cpg_cube.specs.declared.column.Column.{Column}
 use Rattle.cpg_cube.specs.Cube.{low_in, matches}
 use Rattle.cpg_cube.specs.Keys.{lows_along, AreByLows}
 use Rattle.cpg_merging.specs.Merged.{AreMergeable, IsMergeOf}

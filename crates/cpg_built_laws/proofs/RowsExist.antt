@@ -8,7 +8,7 @@ use Rattle.cpg_base.specs.Graph.{Graph, process_count, item_count, producer}
 use Rattle.cpg_base.specs.Order.{place}
 use Rattle.cpg_base.proofs.Places.{place_in_order}
 use Rattle.cpg_order.proofs.Moments.{producer_in_range}
-use Rattle.cpg_cube.specs.Column.{Column}
+use Rattle.cpg_cube.specs.declared.column.Column.{Column}
 use Rattle.cpg_merging.specs.Merged.{IsMergeOf}
 use Rattle.cpg_run.specs.Carried.{row_at}
 use Rattle.cpg_run.specs.RowLaws.{IsTimed, SameRowsBefore, AreRowsBefore}

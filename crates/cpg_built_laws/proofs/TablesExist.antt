@@ -8,7 +8,7 @@ use Rattle.cpg_base.specs.Limits.{IsWithinLimits}
 use Rattle.cpg_base.specs.Numbers.{numbers_below}
 use Rattle.cpg_base.specs.WellFormed.{WellFormed}
 use Rattle.cpg_base.proofs.Lists.{Contains-first, Contains-rest, get_or-map-below}
-use Rattle.cpg_cube.specs.Column.{Column}
+use Rattle.cpg_cube.specs.declared.column.Column.{Column}
 use Rattle.cpg_head.specs.GraphHead.{head_of}
 use Rattle.cpg_table.specs.Items.{first_broadcast, own_of, starts_of, sends_of, hears_of, lists_of}
 use Rattle.cpg_table.specs.Lawful.{Tables, AreRowsOf}

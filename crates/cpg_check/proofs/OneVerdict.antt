@@ -14,7 +14,7 @@ use Rattle.cpg_cube.specs.Cube.{matches}
 use Rattle.cpg_head.specs.Head.{Head}
 use Rattle.cpg_table.specs.Lawful.{Tables}
 use Rattle.cpg_table.specs.Table.{NodeTable, table_at, columns_of}
-use Rattle.cpg_cube.specs.Column.{Column}
+use Rattle.cpg_cube.specs.declared.column.Column.{Column}
 use Rattle.cpg_table.specs.Valid.{breaks, breaks_at}
 use Rattle.cpg_table.specs.declared.fault.Fault.{Fault}
 use Rattle.cpg_table.specs.declared.rule.Rule.{Rule}

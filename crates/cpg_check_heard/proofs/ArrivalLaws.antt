@@ -12,7 +12,8 @@ use Rattle.cpg_base.specs.Graph.{Graph, condition_of}
 use Rattle.cpg_base.specs.Scenario.{Scenario, number_of}
 use Rattle.cpg_cube.specs.Cube.{matches}
 use Rattle.cpg_cube.specs.Fit.{IsKnown}
-use Rattle.cpg_cube.specs.Column.{Column, column_at}
+use Rattle.cpg_cube.specs.declared.column.Column.{Column}
+use Rattle.cpg_cube.specs.Column.{column_at}
 use Rattle.cpg_table.specs.Heard.{exactly, value_fact}
 use Rattle.cpg_check_heard.specs.declared.arrivals.Arrival.{Arrival}
 use Rattle.cpg_check_heard.specs.declared.bound.LiteralBound.{LiteralBound}

@@ -17,7 +17,8 @@ use Rattle.cpg_cube.specs.Narrow.{with_literal}
 use Rattle.cpg_cube.specs.Fit.{IsKnown}
 use Rattle.cpg_cube.proofs.CubeLaws.{with-is}
 use Rattle.cpg_cube.proofs.Narrow.{known-narrowed}
-use Rattle.cpg_cube.specs.Column.{Column, column_at}
+use Rattle.cpg_cube.specs.declared.column.Column.{Column}
+use Rattle.cpg_cube.specs.Column.{column_at}
 use Rattle.cpg_table.specs.Heard.{exactly, value_fact}
 use Rattle.cpg_violation.proofs.Tests.{with_true}
 use Rattle.cpg_violation.proofs.SieveLaws.{any_at}

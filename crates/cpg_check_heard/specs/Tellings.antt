@@ -11,7 +11,8 @@ use Rattle.cpg_base.specs.Scenario.{Scenario, IsScenario, number_of}
 use Rattle.cpg_cube.specs.Cube.{matches}
 use Rattle.cpg_cube.specs.declared.literal.Literal.{Literal}
 use Rattle.cpg_table.specs.Table.{NodeTable, columns_of}
-use Rattle.cpg_cube.specs.Column.{Column, column_at}
+use Rattle.cpg_cube.specs.declared.column.Column.{Column}
+use Rattle.cpg_cube.specs.Column.{column_at}
 use Rattle.cpg_table.specs.Heard.{exactly, value_fact}
 use Rattle.cpg_violation.specs.Lines.{IsLine}
 use Rattle.cpg_check_heard.specs.declared.bound.LiteralBound.{LiteralBound}

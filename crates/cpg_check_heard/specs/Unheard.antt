@@ -5,7 +5,7 @@ use Rattle.cpg_base.specs.Graph.{Graph}
 use Rattle.cpg_base.specs.Scenario.{Scenario}
 use Rattle.cpg_cube.specs.declared.literal.Literal.{Literal}
 use Rattle.cpg_table.specs.Table.{NodeTable}
-use Rattle.cpg_cube.specs.Column.{Column}
+use Rattle.cpg_cube.specs.declared.column.Column.{Column}
 use Rattle.cpg_table.specs.Heard.{facts, is_heard}
 use Rattle.cpg_table.specs.Valid.{breaks_heard}
 use Rattle.cpg_violation.specs.Broken.{is_broken}

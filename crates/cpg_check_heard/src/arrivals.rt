@@ -8,7 +8,7 @@ ghost use Rattle.cpg_base.specs.Scenario.{Scenario, IsScenario};
 ghost use Rattle.cpg_cube.specs.Cube.{matches};
 ghost use Rattle.cpg_cube.specs.Fit.{IsKnown};
 ghost use Rattle.cpg_table.specs.Shape.{heard_by};
-ghost use Rattle.cpg_cube.specs.Column.{Column};
+ghost use Rattle.cpg_cube.specs.declared.column.Column.{Column};
 ghost use Rattle.cpg_violation.specs.Lines.{IsLine};
 ghost use Rattle.cpg_check_heard.specs.Arrivals.{AreArrivals, IsArrival, do_tell};
 ghost use Rattle.cpg_check_heard.specs.Bounds.{variable_of};

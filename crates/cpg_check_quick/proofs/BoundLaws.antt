@@ -11,7 +11,7 @@ use Rattle.cpg_base.proofs.Lists.{Contains-nil, least_bound}
 use Rattle.cpg_cube.specs.declared.literal.Literal.{Literal}
 use Rattle.cpg_table.specs.Heard.{facts, is_heard, kept_high, kept_low}
 use Rattle.cpg_table.specs.Table.{NodeTable}
-use Rattle.cpg_cube.specs.Column.{Column}
+use Rattle.cpg_cube.specs.declared.column.Column.{Column}
 use Rattle.cpg_check_quick.specs.Bounds.{bounds_of, high_of, low_of, unknown_bounds}
 use Rattle.cpg_check_quick.specs.Hearing.{IsAllHeard, IsHeardIn}
 use Rattle.cpg_check_quick.specs.Speakers.{AreToldIn, IsToldIn}

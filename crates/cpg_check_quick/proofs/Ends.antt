@@ -11,7 +11,7 @@ use Rattle.cpg_base.proofs.Lists.{Contains-map, Contains-map_parts, list_any_par
 use Rattle.cpg_base.specs.Scenario.{Scenario, IsScenario, fault_of}
 use Rattle.cpg_cube.specs.Cube.{matches}
 use Rattle.cpg_table.specs.Table.{NodeTable, columns_of, at}
-use Rattle.cpg_cube.specs.Column.{Column}
+use Rattle.cpg_cube.specs.declared.column.Column.{Column}
 use Rattle.cpg_table.specs.Valid.{arrivals_of, ends_of, is_by}
 use Rattle.cpg_violation.specs.Violation.{AllHold, row_rules}
 use Rattle.cpg_violation.proofs.Matching.{match_where}

@@ -21,7 +21,7 @@ use Rattle.cpg_cube.specs.declared.literal.Literal.{Literal}
 use Rattle.cpg_table.specs.Heard.{exactly, facts, facts_of_end, facts_of_frame, frame_value, is_heard, kept_high}
 use Rattle.cpg_table.specs.Heard.{kept_low, matching, value_fact}
 use Rattle.cpg_table.specs.Table.{NodeTable, columns_of}
-use Rattle.cpg_cube.specs.Column.{Column}
+use Rattle.cpg_cube.specs.declared.column.Column.{Column}
 use Rattle.cpg_table.specs.Valid.{ends_of, is_by}
 use Rattle.cpg_table.specs.declared.rule.Rule.{Rule}
 use Rattle.cpg_violation.specs.Sure.{IsSure}

@@ -17,7 +17,7 @@ use Rattle.cpg_base.proofs.Lists.{Contains-filter_parts, list_any_false}
 use Rattle.cpg_base.specs.Scenario.{Scenario, IsScenario}
 use Rattle.cpg_cube.specs.Cube.{matches}
 use Rattle.cpg_table.specs.Table.{NodeTable, columns_of}
-use Rattle.cpg_cube.specs.Column.{Column}
+use Rattle.cpg_cube.specs.declared.column.Column.{Column}
 use Rattle.cpg_table.specs.Valid.{arrivals_of, breaks_inputs_of, ends_of, input_is_there, is_by}
 use Rattle.cpg_table.specs.declared.rule.Rule.{Rule}
 use Rattle.cpg_violation.specs.Sure.{IsSure}

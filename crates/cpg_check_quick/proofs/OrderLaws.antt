@@ -18,7 +18,8 @@ use Rattle.cpg_base.specs.Scenario.{Scenario, IsScenario, fault_of, number_of}
 use Rattle.cpg_base.proofs.NumbersOf.{number_of-fault}
 use Rattle.cpg_cube.specs.Cube.{matches}
 use Rattle.cpg_table.specs.Table.{NodeTable, columns_of}
-use Rattle.cpg_cube.specs.Column.{Column, column_at}
+use Rattle.cpg_cube.specs.declared.column.Column.{Column}
+use Rattle.cpg_cube.specs.Column.{column_at}
 use Rattle.cpg_table.specs.declared.rule.Rule.{Rule}
 use Rattle.cpg_row_trees.specs.PlacesState.{PlacesState}
 use Rattle.cpg_row_trees.specs.Places.{place_at}

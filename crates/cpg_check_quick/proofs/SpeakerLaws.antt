@@ -12,7 +12,8 @@ use Rattle.cpg_cube.specs.Cube.{holds, matches}
 use Rattle.cpg_cube.specs.declared.literal.Literal.{Literal}
 use Rattle.cpg_table.specs.Heard.{exactly, facts, frame_value, is_heard}
 use Rattle.cpg_table.specs.Table.{NodeTable, columns_of}
-use Rattle.cpg_cube.specs.Column.{Column, column_at}
+use Rattle.cpg_cube.specs.declared.column.Column.{Column}
+use Rattle.cpg_cube.specs.Column.{column_at}
 use Rattle.cpg_row_trees.specs.Places.{IsAmong, place_at}
 use Rattle.cpg_row_trees.proofs.TreeLaws.{place_matches, place_there}
 use Rattle.cpg_check_quick.specs.Hearing.{AreLeft, IsHeardIn}

@@ -6,7 +6,7 @@ use Rattle.cpg_order.specs.Links.{links_of}
 use Rattle.cpg_base.specs.Scenario.{Scenario, IsScenario}
 use Rattle.cpg_cube.specs.Cube.{matches}
 use Rattle.cpg_table.specs.Table.{NodeTable}
-use Rattle.cpg_cube.specs.Column.{Column}
+use Rattle.cpg_cube.specs.declared.column.Column.{Column}
 use Rattle.cpg_table.specs.Valid.{input_is_there}
 use Rattle.cpg_check_quick.specs.Courses.{AreCourses, IsCourse}
 use Rattle.cpg_check_quick.specs.Order.{IsBefore, IsOverBy, execution, frame}

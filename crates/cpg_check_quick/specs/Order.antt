@@ -6,7 +6,7 @@ use Rattle.cpg_base.specs.Duration.{duration}
 use Rattle.cpg_base.specs.Scenario.{Scenario, IsScenario, fault_of}
 use Rattle.cpg_cube.specs.Cube.{matches}
 use Rattle.cpg_table.specs.Table.{NodeTable, columns_of}
-use Rattle.cpg_cube.specs.Column.{Column}
+use Rattle.cpg_cube.specs.declared.column.Column.{Column}
 
 -- from each column of an item that matches, what lasts so long is over by the time
 abbrev pub IsOverBy : List NodeTable → ℕ → ℕ → ℕ → Scenario → Type 0

@@ -18,7 +18,7 @@ use Rattle.cpg_cover.specs.Cover.{is_left}
 use Rattle.cpg_cube.proofs.Mapped.{any_map}
 use Rattle.cpg_rules.specs.Admission.{IsAdmitted}
 use Rattle.cpg_table.specs.Table.{NodeTable, columns_of}
-use Rattle.cpg_cube.specs.Column.{Column}
+use Rattle.cpg_cube.specs.declared.column.Column.{Column}
 use Rattle.cpg_table.specs.Valid.{breaks, breaks_at}
 use Rattle.cpg_table.specs.declared.rule.Rule.{Rule}
 use Rattle.cpg_check_rows.specs.Present.{has_none, is_absent}

@@ -8,7 +8,8 @@ use Rattle.std.proofs.lemmas.List.{get_or-take, length-take, take-take}
 use Rattle.cpg_base.specs.Graph.{Graph}
 use Rattle.cpg_base.specs.Scenario.{Scenario, IsScenario}
 use Rattle.cpg_cube.specs.Cube.{matches}
-use Rattle.cpg_cube.specs.Column.{Column, column_at}
+use Rattle.cpg_cube.specs.declared.column.Column.{Column}
+use Rattle.cpg_cube.specs.Column.{column_at}
 use Rattle.cpg_table.specs.Valid.{breaks_single}
 use Rattle.cpg_row_trees.specs.PlacesState.{PlacesState}
 use Rattle.cpg_row_trees.specs.Trees.{IsRowTree}

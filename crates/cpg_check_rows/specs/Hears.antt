@@ -4,7 +4,7 @@ use Rattle.std.specs.Prelude.{ℕ, ◌≡◌, ◌≢◌, ◌<◌, List, Some, le
 use Rattle.cpg_base.specs.Graph.{Graph, item_count}
 use Rattle.cpg_base.specs.Scenario.{zero_scenario}
 use Rattle.cpg_table.specs.Table.{NodeTable, table_at}
-use Rattle.cpg_cube.specs.Column.{Column}
+use Rattle.cpg_cube.specs.declared.column.Column.{Column}
 use Rattle.cpg_table.specs.Valid.{hear_row, hear_rows}
 use Rattle.cpg_table.specs.Rules.{number_of_rule}
 use Rattle.cpg_table.specs.declared.fault.Fault.{Fault}

@@ -17,7 +17,7 @@ use Rattle.cpg_base.specs.First.{IsFirst}
 use Rattle.cpg_base.proofs.First.{first_same}
 use Rattle.cpg_cube.specs.Cube.{matches}
 use Rattle.cpg_cube.specs.declared.literal.Literal.{Literal}
-use Rattle.cpg_cube.specs.Column.{Column}
+use Rattle.cpg_cube.specs.declared.column.Column.{Column}
 use Rattle.cpg_check_time.specs.declared.delays.Delay.{Delay}
 use Rattle.cpg_check_time.specs.Delays.{IsMost, done_at, is_late, delays}
 use Rattle.cpg_check_time.proofs.Seeking.{both_any}

@@ -16,7 +16,7 @@ use Rattle.cpg_cube.specs.Fit.{IsKnown}
 use Rattle.cpg_rules.specs.Admission.{IsAdmitted}
 use Rattle.cpg_rules.specs.Guards.{Guards}
 use Rattle.cpg_table.specs.Table.{Row, NodeTable, columns_of, table_at}
-use Rattle.cpg_cube.specs.Column.{Column}
+use Rattle.cpg_cube.specs.declared.column.Column.{Column}
 use Rattle.cpg_head.specs.GraphHead.{head_of}
 use Rattle.cpg_table.specs.Lawful.{AreTablesOf, IsLawfulRow, IsLawfulColumn, rows_of, space_of}
 use Rattle.cpg_table.specs.Valid.{breaks, breaks_at, breaks_rule, breaks_present, asks_for_one}

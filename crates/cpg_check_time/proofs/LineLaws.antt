@@ -11,7 +11,8 @@ use Rattle.cpg_base.proofs.Lists.{Contains-nil}
 use Rattle.cpg_base.specs.Scenario.{Scenario}
 use Rattle.cpg_cube.specs.Cube.{matches}
 use Rattle.cpg_cube.specs.declared.literal.Literal.{Literal}
-use Rattle.cpg_cube.specs.Column.{Column, column_at}
+use Rattle.cpg_cube.specs.declared.column.Column.{Column}
+use Rattle.cpg_cube.specs.Column.{column_at}
 
 -- the columns at these places are found
 abbrev pub AreFound : List Column → List Column → List ℕ → Type 0

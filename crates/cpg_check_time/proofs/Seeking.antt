@@ -13,7 +13,7 @@ use Rattle.cpg_base.proofs.First.{first_same, first_or}
 use Rattle.cpg_cube.specs.Cube.{matches}
 use Rattle.cpg_cube.proofs.Mapped.{any_map}
 use Rattle.cpg_table.specs.Table.{NodeTable, columns_of, at}
-use Rattle.cpg_cube.specs.Column.{Column}
+use Rattle.cpg_cube.specs.declared.column.Column.{Column}
 use Rattle.cpg_violation.proofs.Columnwise.{any_filter}
 
 pub and_swap : (a b c : Bool) → (a && (b && c)) ≡ (b && (a && c))

@@ -6,7 +6,7 @@ use Rattle.cpg_base.specs.Graph.{Graph, home, is_sent, node_of}
 use Rattle.cpg_base.specs.Scenario.{Scenario, fault_of}
 use Rattle.cpg_cube.specs.Cube.{matches}
 use Rattle.cpg_table.specs.Table.{NodeTable, columns_of}
-use Rattle.cpg_cube.specs.Column.{Column}
+use Rattle.cpg_cube.specs.declared.column.Column.{Column}
 use Rattle.cpg_table.specs.Valid.{overlap}
 
 -- whether a column of a process and one of another match, and the executions that they start overlap

@@ -7,7 +7,7 @@ use Rattle.cpg_rules.specs.Guards.{is_passed, test_of}
 use Rattle.cpg_base.specs.Scenario.{Scenario}
 use Rattle.cpg_cube.specs.Cube.{matches}
 use Rattle.cpg_table.specs.Table.{NodeTable, columns_of}
-use Rattle.cpg_cube.specs.Column.{Column}
+use Rattle.cpg_cube.specs.declared.column.Column.{Column}
 use Rattle.cpg_check_time.specs.Delays.{is_late}
 use Rattle.cpg_check_time.specs.declared.delays.Delay.TheVariants.{Execution, Slot}
 

@@ -3,7 +3,8 @@ ghost use Rattle.std.specs.Prelude.{◌≡◌, ◌≤◌, ◌<◌, ◌++◌, ◌
 ghost use Rattle.std.specs.List.{list_any};
 ghost use Rattle.cpg_cube.specs.Cube.{matches};
 ghost use Rattle.cpg_base.specs.Scenario.{Scenario};
-ghost use Rattle.cpg_cube.specs.Column.{Column, column_at};
+ghost use Rattle.cpg_cube.specs.declared.column.Column.{Column};
+ghost use Rattle.cpg_cube.specs.Column.{column_at};
 ghost use Rattle.cpg_violation.specs.Lines.{IsLine};
 
 use cpg_base::OutOfMemory;

@@ -5,7 +5,7 @@ ghost use Rattle.cpg_base.specs.First.{IsFirst};
 ghost use Rattle.cpg_base.specs.Graph.{Graph};
 ghost use Rattle.cpg_base.specs.Numbers.{numbers_below};
 ghost use Rattle.cpg_base.specs.Scenario.{Scenario};
-ghost use Rattle.cpg_cube.specs.Column.{Column};
+ghost use Rattle.cpg_cube.specs.declared.column.Column.{Column};
 ghost use Rattle.cpg_head.specs.GraphHead.{head_of};
 ghost use Rattle.cpg_table.specs.Lawful.{AreTablesOf};
 ghost use Rattle.cpg_table.specs.Table.{NodeTable};

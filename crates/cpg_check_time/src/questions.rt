@@ -5,7 +5,7 @@ ghost use Rattle.cpg_base.specs.Graph.{Graph, process_count};
 ghost use Rattle.cpg_base.specs.First.{IsFirst};
 ghost use Rattle.cpg_base.specs.Scenario.{Scenario};
 ghost use Rattle.cpg_cube.specs.Cube.{matches};
-ghost use Rattle.cpg_cube.specs.Column.{Column};
+ghost use Rattle.cpg_cube.specs.declared.column.Column.{Column};
 ghost use Rattle.cpg_violation.specs.Lines.{IsLine};
 ghost use Rattle.cpg_violation.specs.Room.{HasRoom};
 ghost use Rattle.cpg_check_time.specs.Columns.{IsColumn};

@@ -14,7 +14,7 @@ use Rattle.cpg_base.specs.declared.item.Item.TheVariants.{Start, Message, Broadc
 use Rattle.cpg_base.specs.Bus.{slot_length}
 use Rattle.cpg_base.proofs.Lists.{same_filter, same_flat_map, numbers-Contains}
 use Rattle.cpg_table.specs.Table.{Row}
-use Rattle.cpg_cube.specs.Column.{Column}
+use Rattle.cpg_cube.specs.declared.column.Column.{Column}
 use Rattle.cpg_node.specs.Dispatcher.{Dispatcher, Act, next, zip_with}
 use Rattle.cpg_node.proofs.Next.{zip_with-map}
 use Rattle.cpg_cluster.specs.Cluster.{World, dispatcher_at, waits_on, answer_by, frame_of_item, frames_of_row}

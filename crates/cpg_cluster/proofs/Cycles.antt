@@ -20,7 +20,7 @@ use Rattle.cpg_base.proofs.Items.{item_cases}
 use Rattle.cpg_base.proofs.Lists.{Contains-map, Contains-flat_map, Contains-filter_parts, numbers-Contains}
 use Rattle.cpg_base.proofs.Lists.{greatest_above}
 use Rattle.cpg_base.proofs.Slots.{slot_place-lt}
-use Rattle.cpg_cube.specs.Column.{Column}
+use Rattle.cpg_cube.specs.declared.column.Column.{Column}
 use Rattle.cpg_table.specs.Table.{Row, NodeTable, table_at, empty_table, columns_of}
 use Rattle.cpg_table.specs.Shape.{processes_on}
 use Rattle.cpg_table.specs.Valid.{hear_row, later_by}

@@ -12,7 +12,7 @@ use Rattle.cpg_base.specs.Numbers.{numbers_below}
 use Rattle.cpg_base.proofs.Lists.{Contains-cases, Contains-nil, Contains-map_parts, Contains-flat_map_parts}
 use Rattle.cpg_base.proofs.Ordered.{Rises, Rises-append, Rises-filter, Rises-flat_map, numbers_go_up}
 use Rattle.cpg_table.specs.Table.{NodeTable}
-use Rattle.cpg_cube.specs.Column.{Column}
+use Rattle.cpg_cube.specs.declared.column.Column.{Column}
 use Rattle.cpg_table.specs.Shape.{processes_on}
 use Rattle.cpg_table.proofs.Settings.{Match, match_once}
 use Rattle.cpg_node.specs.Dispatcher.{Dispatcher, Own, Range, Running, Ended, next}

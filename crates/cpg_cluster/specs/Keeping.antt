@@ -10,7 +10,7 @@ use Rattle.std.specs.Vec.{vec_capacity}
 use Rattle.cpg_base.specs.Graph.{Graph, home, item_at, item_count}
 use Rattle.cpg_base.specs.Bus.{slot_length}
 use Rattle.cpg_table.specs.Table.{Row, NodeTable, table_at}
-use Rattle.cpg_cube.specs.Column.{Column}
+use Rattle.cpg_cube.specs.declared.column.Column.{Column}
 use Rattle.cpg_node.specs.Dispatcher.{Act, Frame, next, initial_dispatcher, zip_with}
 use Rattle.cpg_cluster.specs.Cluster.{Answer, Took, Waits}
 use Rattle.cpg_cluster.specs.Taking.{value_of_item, frames_from}

@@ -12,7 +12,7 @@ use Rattle.cpg_cube.specs.declared.literal.Literal.{Literal}
 use Rattle.cpg_cube.specs.Cube.{IsRising}
 use Rattle.cpg_cube.specs.Rising.{rises_from}
 use Rattle.cpg_cube.proofs.Rising.{rising_from, rises_by}
-use Rattle.cpg_cube.specs.Column.{Column}
+use Rattle.cpg_cube.specs.declared.column.Column.{Column}
 use Rattle.cpg_table.specs.Lawful.{IsLawfulLiteral, IsLawfulColumn}
 use Rattle.cpg_table.specs.declared.space.VariableSpace.{VariableSpace}
 use Rattle.cpg_codec.specs.Reading.{down}

@@ -19,7 +19,7 @@ use Rattle.cpg_table.specs.Items.{numbers_where, conditioned, starts_of, sends_o
 use Rattle.cpg_table.specs.Items.{first_message, first_broadcast}
 use Rattle.cpg_table.specs.Lawful.{IsLawfulColumn, IsLawfulRow, IsTableOf, column_count, rows_of, space_of}
 use Rattle.cpg_table.specs.Table.{Row, NodeTable, table_at}
-use Rattle.cpg_cube.specs.Column.{Column}
+use Rattle.cpg_cube.specs.declared.column.Column.{Column}
 use Rattle.cpg_codec.specs.Grammar.{IsSpace, fault_end}
 use Rattle.cpg_codec.specs.Lengths.{AllShort}
 use Rattle.cpg_codec.specs.Packs.{IsPackHead}

@@ -10,7 +10,7 @@ use Rattle.cpg_cube.specs.declared.literal.Literal.{Literal}
 use Rattle.cpg_head.specs.Head.{Head}
 use Rattle.cpg_head.specs.declared.head_parts.Extra.{Extra}
 use Rattle.cpg_table.specs.Table.{Row, NodeTable}
-use Rattle.cpg_cube.specs.Column.{Column}
+use Rattle.cpg_cube.specs.declared.column.Column.{Column}
 use Rattle.cpg_table.specs.Items.{first_broadcast, own_of, starts_of, sends_of, hears_of}
 use Rattle.cpg_table.specs.Lawful.{Tables, space_of, column_count, rows_of}
 use Rattle.cpg_table.specs.declared.space.VariableSpace.{VariableSpace}

@@ -7,7 +7,7 @@ use Rattle.cpg_head.specs.Head.{Head, version_of}
 use Rattle.cpg_head.specs.declared.head_parts.HeadProcess.{HeadProcess}
 use Rattle.cpg_head.specs.declared.head_parts.Extra.{Extra}
 use Rattle.cpg_table.specs.Table.{Row, NodeTable}
-use Rattle.cpg_cube.specs.Column.{Column}
+use Rattle.cpg_cube.specs.declared.column.Column.{Column}
 use Rattle.cpg_table.specs.Lawful.{Tables, rows_of}
 
 -- the text CPGT

@@ -23,7 +23,7 @@ use Rattle.cpg_order.specs.Urgency.{IsTopological}
 use Rattle.cpg_base.specs.Order.{place}
 use Rattle.cpg_order.proofs.Moments.{moment, moment_of_start, phase, phases, phase_below, sooner}
 use Rattle.cpg_base.proofs.Places.{Contains-order, same_place}
-use Rattle.cpg_cube.specs.Column.{Column}
+use Rattle.cpg_cube.specs.declared.column.Column.{Column}
 use Rattle.cpg_run.specs.Run.{Times, IsRun, heard_there, unfrozen_time}
 use Rattle.cpg_run.specs.Carried.{row_at, carried, carried_by_item, carried_at_start, carried_at_end, queued}
 use Rattle.cpg_run.specs.Known.{AreEarly, AreSmall}

@@ -19,7 +19,7 @@ use Rattle.cpg_order.proofs.DecidingLaws.{decides_earlier, deciding_is_active}
 use Rattle.cpg_base.proofs.Places.{Contains-before, Contains-order, on_node_before}
 use Rattle.cpg_cube.specs.Cube.{matches}
 use Rattle.cpg_cube.specs.declared.literal.Literal.{Literal}
-use Rattle.cpg_cube.specs.Column.{Column}
+use Rattle.cpg_cube.specs.declared.column.Column.{Column}
 use Rattle.cpg_run.proofs.KnownRanges.{range_known}
 use Rattle.cpg_run.specs.Carried.{row_at, carried_by_row, number_known, decided, heard, received, executed, passed}
 use Rattle.cpg_run.specs.Carried.{carried_at_start, carried_at_end}

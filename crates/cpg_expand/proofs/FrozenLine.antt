@@ -12,7 +12,7 @@ use Rattle.cpg_base.specs.Order.{before_on_node}
 use Rattle.cpg_order.specs.Guard.{Guard, outcome_at, way}
 use Rattle.cpg_base.specs.Scenario.{Scenario}
 use Rattle.cpg_cube.specs.declared.literal.Literal.{Literal}
-use Rattle.cpg_cube.specs.Column.{Column}
+use Rattle.cpg_cube.specs.declared.column.Column.{Column}
 use Rattle.cpg_run.specs.Run.{Times, IsRun, unfrozen_time, time_by}
 use Rattle.cpg_run.specs.Carried.{decided, heard, received, passed, carried_at_start}
 use Rattle.cpg_tree.specs.Space.{HasAtMostFaults}

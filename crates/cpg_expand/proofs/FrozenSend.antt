@@ -10,7 +10,7 @@ use Rattle.cpg_base.proofs.Lists.{greatest-cons}
 use Rattle.cpg_order.specs.Queue.{queued_before}
 use Rattle.cpg_base.specs.Scenario.{Scenario}
 use Rattle.cpg_cube.specs.declared.literal.Literal.{Literal}
-use Rattle.cpg_cube.specs.Column.{Column}
+use Rattle.cpg_cube.specs.declared.column.Column.{Column}
 use Rattle.cpg_run.specs.Run.{Times, IsRun, unfrozen_time}
 use Rattle.cpg_run.specs.Carried.{decided, carried_at_end, carried_at_send, sent_by_value, queued}
 use Rattle.cpg_run.proofs.Runs.{time_is}

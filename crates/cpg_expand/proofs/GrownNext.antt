@@ -16,7 +16,7 @@ use Rattle.cpg_order.specs.Urgency.{IsTopological}
 use Rattle.cpg_base.specs.Order.{place}
 use Rattle.cpg_order.proofs.Moments.{producer_in_range}
 use Rattle.cpg_base.proofs.Places.{Contains-order, same_place}
-use Rattle.cpg_cube.specs.Column.{Column}
+use Rattle.cpg_cube.specs.declared.column.Column.{Column}
 use Rattle.cpg_reach.specs.Walked.{on_node}
 use Rattle.cpg_run.specs.Run.{Times, IsRun}
 use Rattle.cpg_run.specs.Carried.{carried, queued}

@@ -16,7 +16,7 @@ use Rattle.cpg_base.proofs.Places.{place_in_order}
 use Rattle.cpg_rules.specs.Admission.{IsAdmitted}
 use Rattle.cpg_table.specs.Shape.{items_of}
 use Rattle.cpg_table.specs.Table.{Row}
-use Rattle.cpg_cube.specs.Column.{Column}
+use Rattle.cpg_cube.specs.declared.column.Column.{Column}
 use Rattle.cpg_table.proofs.NodeRows.{no_row}
 use Rattle.cpg_run.specs.Carried.{row_at}
 use Rattle.cpg_run.specs.Carrying.{IsCarryingRow, AreCarrying}

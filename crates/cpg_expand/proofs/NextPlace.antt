@@ -15,7 +15,7 @@ use Rattle.cpg_base.specs.Order.{place, before_on_node}
 use Rattle.cpg_order.proofs.Moments.{moment}
 use Rattle.cpg_base.proofs.Places.{Contains-order, get_or-place, place-lt}
 use Rattle.cpg_cube.specs.declared.literal.Literal.{Literal}
-use Rattle.cpg_cube.specs.Column.{Column}
+use Rattle.cpg_cube.specs.declared.column.Column.{Column}
 use Rattle.cpg_reach.specs.Walked.{on_node}
 use Rattle.cpg_run.specs.Run.{Times, IsRun, end_in, heard_there}
 use Rattle.cpg_run.specs.Carried.{passed}

@@ -12,7 +12,7 @@ use Rattle.cpg_order.specs.Deciding.{deciding}
 use Rattle.cpg_order.specs.Guard.{Guard, outcome_at, way}
 use Rattle.cpg_base.specs.Scenario.{Scenario}
 use Rattle.cpg_cube.specs.declared.literal.Literal.{Literal}
-use Rattle.cpg_cube.specs.Column.{Column}
+use Rattle.cpg_cube.specs.declared.column.Column.{Column}
 use Rattle.cpg_run.specs.Run.{Times, end_in}
 use Rattle.cpg_run.specs.Carried.{decided, heard, passed, carried_at_end}
 use Rattle.cpg_run.specs.Known.{AreSmall}

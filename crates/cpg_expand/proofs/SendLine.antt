@@ -10,7 +10,7 @@ use Rattle.cpg_order.specs.Queue.{queued_before}
 use Rattle.cpg_base.specs.Order.{before_on_node}
 use Rattle.cpg_base.specs.Scenario.{Scenario}
 use Rattle.cpg_cube.specs.declared.literal.Literal.{Literal}
-use Rattle.cpg_cube.specs.Column.{Column}
+use Rattle.cpg_cube.specs.declared.column.Column.{Column}
 use Rattle.cpg_run.specs.Carried.{number_known, decided, heard, received, passed, carried_at_start, carried_at_end}
 use Rattle.cpg_run.specs.Carried.{carried_at_send, sent_by_value, queued}
 use Rattle.cpg_tree.specs.Space.{HasAtMostFaults}

@@ -32,7 +32,7 @@ use Rattle.cpg_order.specs.Urgency.{IsTopological, IsUrgencyOrder}
 use Rattle.cpg_base.specs.Order.{place, before_on_node, comes_before}
 use Rattle.cpg_order.proofs.Along.{from_along}
 use Rattle.cpg_order.proofs.Moments.{moment, producer_in_range}
-use Rattle.cpg_cube.specs.Column.{Column}
+use Rattle.cpg_cube.specs.declared.column.Column.{Column}
 use Rattle.cpg_run.specs.Run.{Times, IsRun, end_in, time_in, send_bounds}
 use Rattle.cpg_run.specs.Carried.{decided, carried, carried_by_item, carried_at_end, carried_at_send}
 use Rattle.cpg_run.specs.Known.{AreEarly, AreSmall}

@@ -17,7 +17,7 @@ use Rattle.cpg_base.specs.Order.{place}
 use Rattle.cpg_order.proofs.DecidingLaws.{decides_earlier}
 use Rattle.cpg_order.proofs.Moments.{phase, phases, phase_below, phase_is_rank, moment, moment_of_end, moment_of_start}
 use Rattle.cpg_order.proofs.Moments.{sooner, broadcast_sooner, end_sooner}
-use Rattle.cpg_cube.specs.Column.{Column}
+use Rattle.cpg_cube.specs.declared.column.Column.{Column}
 use Rattle.cpg_run.specs.Run.{Times, end_in, heard_there}
 use Rattle.cpg_run.specs.Carried.{carried, carried_at_end}
 use Rattle.cpg_run.specs.Most.{IsMost}

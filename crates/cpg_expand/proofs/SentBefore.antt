@@ -21,7 +21,7 @@ use Rattle.cpg_base.proofs.Places.{comes_before_from_places}
 use Rattle.cpg_order.proofs.Queues.{queued_from}
 use Rattle.cpg_run.specs.Carried.{queued}
 use Rattle.cpg_run.proofs.Sends.{here_sent, in_next, Contains-take}
-use Rattle.cpg_cube.specs.Column.{Column}
+use Rattle.cpg_cube.specs.declared.column.Column.{Column}
 use Rattle.cpg_tree.specs.Tree.{TreeState}
 use Rattle.cpg_expand.specs.Agreeing.{HasValueFrom}
 use Rattle.cpg_expand.specs.Sent.{sent_before, sent_so_far}

@@ -18,7 +18,7 @@ use Rattle.cpg_cube.specs.declared.literal.Literal.{Literal}
 use Rattle.cpg_order.specs.Queue.{queued_before}
 use Rattle.cpg_base.specs.Order.{place}
 use Rattle.cpg_order.specs.Urgency.{IsTopological}
-use Rattle.cpg_cube.specs.Column.{Column}
+use Rattle.cpg_cube.specs.declared.column.Column.{Column}
 use Rattle.cpg_run.specs.Run.{Times, IsRun, unfrozen_time}
 use Rattle.cpg_run.specs.Carried.{decided, sent_by_value, carried_at_end, carried_at_send, queued}
 use Rattle.cpg_run.specs.Frozen.{IsFrozenTime, WouldHave}

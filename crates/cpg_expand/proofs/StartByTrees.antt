@@ -30,7 +30,7 @@ use Rattle.cpg_order.proofs.Acyclic.{input_goes_up, source_in_order}
 use Rattle.cpg_rules.specs.Guards.{Guards, tree_of}
 use Rattle.cpg_rules.proofs.Ways.{ways_are_deciding}
 use Rattle.cpg_run.proofs.CarriedBefore.{hears_earlier, producer_of_message}
-use Rattle.cpg_cube.specs.Column.{Column}
+use Rattle.cpg_cube.specs.declared.column.Column.{Column}
 use Rattle.cpg_run.specs.Run.{Times, IsRun, end_in, time_in, frame_there, input_there, heard_there, start_bounds}
 use Rattle.cpg_run.specs.Known.{AreSmall}
 use Rattle.cpg_run.proofs.Runs.{acts_start, before_below, end_active, end_is, has_end, has_time, hearing_below}

@@ -27,7 +27,7 @@ use Rattle.cpg_order.proofs.Along.{from_along}
 use Rattle.cpg_order.proofs.DecidingLaws.{decides_earlier, deciding_is_active}
 use Rattle.cpg_rules.proofs.Ways.{ways_are_deciding}
 use Rattle.cpg_cube.specs.declared.literal.Literal.{Literal}
-use Rattle.cpg_cube.specs.Column.{Column}
+use Rattle.cpg_cube.specs.declared.column.Column.{Column}
 use Rattle.cpg_run.specs.Run.{Times, end_in, input_bounds, heard_there}
 use Rattle.cpg_run.specs.Carried.{carried_by_row, decided, heard, passed, carried_at_start, carried_at_end}
 use Rattle.cpg_run.proofs.CarriedBefore.{producer_of_message, hears_earlier}

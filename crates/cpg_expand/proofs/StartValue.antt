@@ -20,7 +20,7 @@ use Rattle.cpg_rules.proofs.Ways.{ways_are_deciding}
 use Rattle.cpg_run.specs.Run.{Times, IsRun, end_in, input_bounds, input_there, heard_there, unfrozen_time, time_by}
 use Rattle.cpg_run.specs.Run.{end_by}
 use Rattle.cpg_base.proofs.Durations.{duration_short}
-use Rattle.cpg_cube.specs.Column.{Column}
+use Rattle.cpg_cube.specs.declared.column.Column.{Column}
 use Rattle.cpg_run.specs.Carried.{carried_at_start, carried_at_end}
 use Rattle.cpg_tree.specs.Space.{HasAtMostFaults}
 use Rattle.cpg_tree.specs.Tree.{TreeState}

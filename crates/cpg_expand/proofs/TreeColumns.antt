@@ -17,7 +17,8 @@ use Rattle.cpg_cube.specs.Cube.{matches, is_whole}
 use Rattle.cpg_base.specs.Variable.{top}
 use Rattle.cpg_cube.specs.Fit.{IsCube}
 use Rattle.cpg_merging.specs.Merged.{AreMet, AreOrdered, AreMergeable, IsLeastMatch, IsMergeOf}
-use Rattle.cpg_cube.specs.Column.{Column, times_in}
+use Rattle.cpg_cube.specs.declared.column.Column.{Column}
+use Rattle.cpg_cube.specs.Column.{times_in}
 use Rattle.cpg_merging.proofs.MergingEnds.{are_met, are_ordered}
 use Rattle.cpg_merging.proofs.MergingLists.{AreGood}
 use Rattle.cpg_merging.proofs.MergingPairs.{IsGood}

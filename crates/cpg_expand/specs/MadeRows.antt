@@ -4,7 +4,7 @@ use Rattle.cpg_base.specs.Graph.{Graph, item_count, process_count}
 use Rattle.cpg_cube.specs.Keys.{AreByLows}
 use Rattle.cpg_merging.specs.Merged.{IsMergeOf}
 use Rattle.cpg_table.specs.Table.{Row}
-use Rattle.cpg_cube.specs.Column.{Column}
+use Rattle.cpg_cube.specs.declared.column.Column.{Column}
 use Rattle.cpg_tree.specs.Tree.{TreeState}
 use Rattle.cpg_expand.specs.Forest.{no_tree}
 use Rattle.cpg_expand.specs.TreeRows.{AreListedOf}

@@ -8,7 +8,7 @@ use Rattle.cpg_bus.specs.Plan.{queue_of}
 use Rattle.cpg_bus.specs.Share.{share_of}
 use Rattle.cpg_base.specs.Scenario.{Scenario}
 use Rattle.cpg_base.specs.Order.{place}
-use Rattle.cpg_cube.specs.Column.{Column}
+use Rattle.cpg_cube.specs.declared.column.Column.{Column}
 use Rattle.cpg_run.specs.Run.{Times}
 use Rattle.cpg_run.specs.Carried.{queued}
 use Rattle.cpg_run.specs.Most.{IsMost}

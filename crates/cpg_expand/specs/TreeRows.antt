@@ -2,7 +2,7 @@
 use Rattle.std.specs.Prelude.{ℕ, ◌≡◌, List, Option, None, get_or, All, IsPermutation}
 use Rattle.cpg_base.specs.Graph.{Graph}
 use Rattle.cpg_base.specs.Scenario.{Scenario, IsScenario}
-use Rattle.cpg_cube.specs.Column.{Column}
+use Rattle.cpg_cube.specs.declared.column.Column.{Column}
 use Rattle.cpg_run.specs.Run.{Times, IsRun}
 use Rattle.cpg_run.specs.Carried.{carried}
 use Rattle.cpg_tree_columns.specs.Columns.{columns_of_paths, IsTidyColumn}

@@ -4,7 +4,7 @@ use Rattle.cpg_base.specs.Graph.{Graph, process_count, item_count, item_at, prod
 use Rattle.cpg_base.specs.Activity.{active, item_active}
 use Rattle.cpg_base.specs.Scenario.{Scenario}
 use Rattle.cpg_base.specs.Order.{place}
-use Rattle.cpg_cube.specs.Column.{Column}
+use Rattle.cpg_cube.specs.declared.column.Column.{Column}
 use Rattle.cpg_run.specs.Run.{Times}
 use Rattle.cpg_run.specs.Carried.{carried_by_row, carried_at_end}
 use Rattle.cpg_expand.specs.Agreeing.{HasValueFrom}

@@ -16,7 +16,7 @@ use Rattle.cpg_base.proofs.Lists.{list_any_parts}
 use Rattle.cpg_base.specs.Scenario.{Scenario, IsScenario, fault_of}
 use Rattle.cpg_cube.specs.Cube.{matches}
 use Rattle.cpg_table.specs.Table.{NodeTable, columns_of}
-use Rattle.cpg_cube.specs.Column.{Column}
+use Rattle.cpg_cube.specs.declared.column.Column.{Column}
 use Rattle.cpg_table.specs.Valid.{IsValid, breaks, breaks_present, breaks_inputs_of, breaks_inputs, breaks_due}
 use Rattle.cpg_table.specs.declared.rule.Rule.TheVariants.{Present, Inputs, Due}
 use Rattle.cpg_hyper.specs.declared.part.Part.{Part}

@@ -6,7 +6,7 @@ use Rattle.cpg_base.specs.Variable.{variable_at}
 use Rattle.cpg_base.specs.declared.variable.Variable.{Variable}
 use Rattle.cpg_base.specs.declared.variable.Variable.TheVariants.{Count, Value}
 use Rattle.cpg_cube.specs.declared.literal.Literal.{Literal}
-use Rattle.cpg_cube.specs.Column.{Column}
+use Rattle.cpg_cube.specs.declared.column.Column.{Column}
 use Rattle.cpg_label.specs.Labels.{Labels, process_name, condition_name}
 
 -- a range of fault counts

@@ -13,7 +13,7 @@ use Rattle.cpg_base.proofs.Places.{place_in_order}
 use Rattle.cpg_cube.specs.declared.literal.Literal.{Literal}
 use Rattle.cpg_table.specs.Shape.{items_of}
 use Rattle.cpg_table.specs.Table.{Row}
-use Rattle.cpg_cube.specs.Column.{Column}
+use Rattle.cpg_cube.specs.declared.column.Column.{Column}
 use Rattle.cpg_list.specs.Made.{AreCubesOf, AreCarried, AreMade, IsBefore, passed_by, queued_by, node_before}
 use Rattle.cpg_list.specs.Made.{sent_before}
 use Rattle.cpg_run.specs.Found.{columns_of_rows}

@@ -26,7 +26,7 @@ use Rattle.cpg_cube.specs.Fit.{lows, IsCube}
 use Rattle.cpg_merging.specs.Merged.{AreMergeable, IsMergeOf}
 use Rattle.cpg_table.specs.Shape.{items_of}
 use Rattle.cpg_table.specs.Table.{Row}
-use Rattle.cpg_cube.specs.Column.{Column}
+use Rattle.cpg_cube.specs.declared.column.Column.{Column}
 use Rattle.cpg_run.specs.Carried.{row_at}
 use Rattle.cpg_list.specs.Learning.{EarlierTell}
 use Rattle.cpg_list.specs.Made.{AreMade, IsRowSet}

@@ -23,7 +23,7 @@ use Rattle.cpg_base.proofs.Places.{from_before, places_from_comes_before, comes_
 use Rattle.cpg_base.proofs.Places.{get_or-place, same_place, place-lt}
 use Rattle.cpg_cube.specs.declared.literal.Literal.{Literal}
 use Rattle.cpg_table.specs.Table.{Row}
-use Rattle.cpg_cube.specs.Column.{Column}
+use Rattle.cpg_cube.specs.declared.column.Column.{Column}
 use Rattle.cpg_bus.specs.Plan.{queue_of}
 use Rattle.cpg_bus.proofs.Queued.{rank_at, in_queue, queue-Contains, queue_rises, below_first, in_first}
 use Rattle.cpg_run.specs.Carried.{row_at, decided, heard, received, passed, queued, number_known, carried_at_end}

@@ -6,7 +6,7 @@ use Rattle.cpg_order.specs.Urgency.{IsTopological}
 use Rattle.cpg_base.specs.Order.{place}
 use Rattle.cpg_base.specs.Scenario.{Scenario}
 use Rattle.cpg_cube.specs.declared.literal.Literal.{Literal}
-use Rattle.cpg_cube.specs.Column.{Column}
+use Rattle.cpg_cube.specs.declared.column.Column.{Column}
 use Rattle.cpg_run.specs.Carried.{passed, queued}
 use Rattle.cpg_list.specs.Made.{AreCubesOf, AreEndsOf, passed_by, queued_by}
 use Rattle.cpg_run.specs.RowLaws.{SameRowsBefore}

@@ -19,7 +19,7 @@ use Rattle.cpg_bus.specs.Plan.{queue_of}
 use Rattle.cpg_bus.proofs.Queued.{in_queue}
 use Rattle.cpg_order.specs.Queue.{queued_before}
 use Rattle.cpg_base.specs.Order.{before_on_node}
-use Rattle.cpg_cube.specs.Column.{Column}
+use Rattle.cpg_cube.specs.declared.column.Column.{Column}
 use Rattle.cpg_run.specs.Carried.{number_known, decided, heard, received, passed, queued, sent_by_value, carried}
 use Rattle.cpg_run.specs.Carried.{carried_by_item, carried_at_start, carried_at_end}
 use Rattle.cpg_list.specs.Made.{queued_by, AreEndsOf}

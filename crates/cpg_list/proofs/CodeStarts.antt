@@ -23,7 +23,7 @@ use Rattle.cpg_cube.specs.declared.literal.Literal.{Literal}
 use Rattle.cpg_run.specs.Run.{Times, IsRun, unfrozen_time}
 use Rattle.cpg_run.proofs.Runs.{time_is}
 use Rattle.cpg_run.proofs.RunUnique.{run_unique}
-use Rattle.cpg_cube.specs.Column.{Column}
+use Rattle.cpg_cube.specs.declared.column.Column.{Column}
 use Rattle.cpg_run.specs.Carried.{number_known, decided, heard, received, executed, passed, carried, carried_by_item}
 use Rattle.cpg_list.specs.Learning.{IsTimedIfActive, start_after, received_unless_frozen}
 use Rattle.cpg_list.specs.Made.{AreCubesOf, AreCubesUpTo, passed_by}

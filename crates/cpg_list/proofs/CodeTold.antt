@@ -13,7 +13,8 @@ use Rattle.cpg_cube.specs.Cube.{matches}
 use Rattle.cpg_base.specs.Variable.{top}
 use Rattle.cpg_cube.specs.declared.literal.Literal.{Literal}
 use Rattle.cpg_merging.specs.Merged.{AreWithin}
-use Rattle.cpg_cube.specs.Column.{Column, times_in}
+use Rattle.cpg_cube.specs.declared.column.Column.{Column}
+use Rattle.cpg_cube.specs.Column.{times_in}
 use Rattle.cpg_run.specs.Carried.{carried_by_row}
 use Rattle.cpg_list.specs.Learning.{Within, heard_of, received_by}
 use Rattle.cpg_list.specs.Narrowing.{carried_in_columns, IsNarrowed}

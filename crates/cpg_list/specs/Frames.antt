@@ -1,7 +1,7 @@
 -- What frames tell a node in a scenario.
 use Rattle.std.specs.Prelude.{ℕ, ◌≡◌, ◌++◌, List, Option, Contains, get_or, None}
 use Rattle.cpg_base.specs.Graph.{Graph, inputs, broadcast_item, message_item}
-use Rattle.cpg_cube.specs.Column.{Column}
+use Rattle.cpg_cube.specs.declared.column.Column.{Column}
 use Rattle.cpg_cube.specs.declared.literal.Literal.{Literal}
 use Rattle.cpg_order.specs.Deciding.{deciding}
 use Rattle.cpg_run.specs.Carried.{carried_by_row, decided, heard, received, passed}

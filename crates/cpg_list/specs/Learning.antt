@@ -12,7 +12,8 @@ use Rattle.cpg_base.specs.Order.{place}
 use Rattle.cpg_cube.specs.declared.literal.Literal.{Literal}
 use Rattle.cpg_run.specs.Run.{Times}
 use Rattle.cpg_merging.specs.Merged.{AreWithin}
-use Rattle.cpg_cube.specs.Column.{Column, times_in}
+use Rattle.cpg_cube.specs.declared.column.Column.{Column}
+use Rattle.cpg_cube.specs.Column.{times_in}
 use Rattle.cpg_run.specs.Rows.{IsCubeOf}
 use Rattle.cpg_run.specs.Carried.{row_at, carried_by_row, decided, heard, received, sent_by_value}
 

@@ -4,7 +4,7 @@ use Rattle.cpg_base.specs.Graph.{Graph, node_of}
 use Rattle.cpg_base.specs.Order.{before_on_node, place}
 use Rattle.cpg_base.specs.Scenario.{Scenario, IsScenario}
 use Rattle.cpg_bus.specs.Plan.{plan_of}
-use Rattle.cpg_cube.specs.Column.{Column}
+use Rattle.cpg_cube.specs.declared.column.Column.{Column}
 use Rattle.cpg_cube.specs.declared.literal.Literal.{Literal}
 use Rattle.cpg_order.specs.Queue.{queued_before}
 use Rattle.cpg_order.specs.Urgency.{IsTopological}

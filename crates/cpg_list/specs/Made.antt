@@ -12,7 +12,7 @@ use Rattle.cpg_cube.specs.declared.literal.Literal.{Literal}
 use Rattle.cpg_merging.specs.Merged.{IsMergeOf}
 use Rattle.cpg_table.specs.Shape.{items_of}
 use Rattle.cpg_table.specs.Table.{Row}
-use Rattle.cpg_cube.specs.Column.{Column}
+use Rattle.cpg_cube.specs.declared.column.Column.{Column}
 use Rattle.cpg_bus.specs.Plan.{queue_of}
 use Rattle.cpg_run.specs.Carried.{row_at, passed, queued, carried_at_end}
 use Rattle.cpg_run.specs.Found.{columns_of_rows}

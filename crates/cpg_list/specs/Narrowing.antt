@@ -8,7 +8,7 @@ use Rattle.cpg_cube.specs.Narrow.{narrowed_by}
 use Rattle.cpg_cube.specs.Cube.{matches}
 use Rattle.cpg_cube.specs.Fit.{lows}
 use Rattle.cpg_cube.specs.declared.literal.Literal.{Literal}
-use Rattle.cpg_cube.specs.Column.{Column}
+use Rattle.cpg_cube.specs.declared.column.Column.{Column}
 use Rattle.cpg_run.specs.Rows.{IsCubeOf}
 
 -- a cube narrowed by literals, one after another

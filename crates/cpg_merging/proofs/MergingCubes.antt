@@ -16,7 +16,7 @@ use Rattle.cpg_base.specs.Variable.{top}
 use Rattle.cpg_cube.proofs.Ranges.{IsNarrow, rising_rest, rising_first, low_in-here, high_in-here, high_in-later}
 use Rattle.cpg_cube.proofs.Ranges.{high_in-none, range_of_literal, narrow}
 use Rattle.cpg_cube.proofs.CubeLows.{low_in-later, low_in-none}
-use Rattle.cpg_cube.specs.Column.{Column}
+use Rattle.cpg_cube.specs.declared.column.Column.{Column}
 use Rattle.cpg_merging.specs.Merged.{HaveNoWhole}
 use Rattle.cpg_merging.specs.Merging.{shorn, all_shorn, without, raised}
 use Rattle.cpg_cube.proofs.Ranges.{same_literal}

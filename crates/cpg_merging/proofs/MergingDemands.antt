@@ -11,7 +11,7 @@ use Rattle.cpg_base.specs.Graph.{Graph, process_count, IsVariable}
 use Rattle.cpg_base.specs.Variable.{top}
 use Rattle.cpg_base.proofs.Lists.{Contains-map}
 use Rattle.cpg_cube.specs.Cube.{low_in, high_in}
-use Rattle.cpg_cube.specs.Column.{Column}
+use Rattle.cpg_cube.specs.declared.column.Column.{Column}
 use Rattle.cpg_merging.specs.Demands.{low_of, demand_of, AgreeByTime}
 use Rattle.cpg_merging.specs.Merging.{without, TouchAt, IsSettledOn}
 use Rattle.cpg_merging.specs.Totals.{DoNotFall}

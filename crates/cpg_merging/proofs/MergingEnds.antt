@@ -24,7 +24,8 @@ use Rattle.cpg_cube.specs.Keys.{lows_along, AreByLows}
 use Rattle.cpg_cube.proofs.KeyLows.{lows_are_key}
 use Rattle.cpg_cube.proofs.CubeLows.{low_in-later, lows-lawful, lows-match, lows-least}
 use Rattle.cpg_cube.proofs.CubeLaws.{least_match}
-use Rattle.cpg_cube.specs.Column.{Column, times_in}
+use Rattle.cpg_cube.specs.declared.column.Column.{Column}
+use Rattle.cpg_cube.specs.Column.{times_in}
 use Rattle.cpg_merging.specs.Merged.{IsColumn, AreMet, AreOrdered, IsMerged, IsWider, AreMergeable, IsMergeOf}
 use Rattle.cpg_merging.specs.Merging.{all_shorn, IsJoinOf, TouchAt, AreSettled}
 use Rattle.cpg_merging.proofs.MergingPairs.{IsGood, matches_wider}

@@ -8,7 +8,7 @@ use Rattle.cpg_base.proofs.Lists.{Contains-filter, Contains-map, Contains-nil}
 use Rattle.std.proofs.lemmas.List.{nil_from_length}
 use Rattle.cpg_cube.specs.declared.literal.Literal.{Literal}
 use Rattle.cpg_cube.specs.Cube.{low_in, high_in}
-use Rattle.cpg_cube.specs.Column.{Column}
+use Rattle.cpg_cube.specs.declared.column.Column.{Column}
 use Rattle.cpg_merging.specs.Demands.{low_of}
 use Rattle.cpg_merging.specs.Kinds.{AreTold, HoldCandidates, is_candidate, kind_of, variable_of}
 use Rattle.cpg_merging.specs.Merging.{without, TouchAt, IsSettledOn}

@@ -10,7 +10,8 @@ use Rattle.cpg_base.proofs.Lists.{Contains-first, Contains-rest, Contains-cases}
 use Rattle.cpg_base.specs.Scenario.{Scenario}
 use Rattle.cpg_cube.specs.declared.literal.Literal.{Literal}
 use Rattle.cpg_cube.specs.Cube.{matches, low_in, high_in}
-use Rattle.cpg_cube.specs.Column.{Column, times_in}
+use Rattle.cpg_cube.specs.declared.column.Column.{Column}
+use Rattle.cpg_cube.specs.Column.{times_in}
 use Rattle.cpg_merging.specs.Merged.{IsWider}
 use Rattle.cpg_merging.specs.Merging.{without, beside_cmp, is_followed, joined, walked, IsJoinOf, TouchAt}
 use Rattle.cpg_merging.proofs.MergingCubes.{without-low, without-high}

@@ -20,7 +20,8 @@ use Rattle.cpg_cube.proofs.Ranges.{IsNarrow}
 use Rattle.cpg_cube.specs.Fit.{lows}
 use Rattle.cpg_cube.proofs.Boxes.{made_number}
 use Rattle.cpg_cube.proofs.CubeLows.{lows-lawful, lows-match}
-use Rattle.cpg_cube.specs.Column.{Column, times_in}
+use Rattle.cpg_cube.specs.declared.column.Column.{Column}
+use Rattle.cpg_cube.specs.Column.{times_in}
 use Rattle.cpg_merging.specs.Merging.{without, beside_cmp, column_cmp, is_followed, joined, walked, IsSettledOn}
 use Rattle.cpg_merging.proofs.MergingCubes.{without-low, without-high, without-low_here, without-high_here, same_cube}
 use Rattle.cpg_merging.proofs.MergingPairs.{IsGood, low-le-high, both-low, both-high, both-high_here, matches_in_ranges}

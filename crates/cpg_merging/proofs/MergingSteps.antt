@@ -18,7 +18,8 @@ use Rattle.cpg_cube.specs.Cube.{matches, is_whole}
 use Rattle.cpg_base.specs.Variable.{top}
 use Rattle.cpg_cube.specs.Fit.{IsCube, lows}
 use Rattle.cpg_cube.proofs.CubeLows.{met_by, lows-lawful, lows-match}
-use Rattle.cpg_cube.specs.Column.{Column, times_in}
+use Rattle.cpg_cube.specs.declared.column.Column.{Column}
+use Rattle.cpg_cube.specs.Column.{times_in}
 use Rattle.cpg_merging.specs.Merged.{AreMergeable}
 use Rattle.cpg_merging.specs.Merging.{shorn, is_followed, is_any_followed_from, is_any_followed, joined, column_cmp}
 use Rattle.cpg_merging.specs.Merging.{walked, walked_over, all_shorn, IsShorn, IsJoinOf, IsSettledOn, IsPassed}

@@ -2,7 +2,7 @@
 -- 0 in all.
 use Rattle.std.specs.Prelude.{ℕ, ◌%◌, ◌≡◌, ◌≢◌, Bool, false, List, length, get_or, sum_by, Contains}
 use Rattle.cpg_cube.specs.declared.literal.Literal.{Literal}
-use Rattle.cpg_cube.specs.Column.{Column}
+use Rattle.cpg_cube.specs.declared.column.Column.{Column}
 use Rattle.cpg_merging.specs.declared.kinds.ColumnKind.{ColumnKind}
 use Rattle.cpg_merging.specs.Demands.{low_of}
 use Rattle.cpg_merging.specs.Totals.{mixed, place_in, IsMarked}

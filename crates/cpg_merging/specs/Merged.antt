@@ -7,7 +7,8 @@ use Rattle.cpg_cube.specs.declared.literal.Literal.{Literal}
 use Rattle.cpg_cube.specs.Cube.{matches, low_in, high_in, is_whole, DifferAt}
 use Rattle.cpg_base.specs.Variable.{top}
 use Rattle.cpg_cube.specs.Fit.{IsCube}
-use Rattle.cpg_cube.specs.Column.{Column, times_in}
+use Rattle.cpg_cube.specs.declared.column.Column.{Column}
+use Rattle.cpg_cube.specs.Column.{times_in}
 
 -- the first scenario that a column matches
 abbrev pub IsLeastMatch : Graph → List ℕ → Column → Scenario → Type 0

@@ -9,7 +9,8 @@ use Rattle.cpg_base.specs.Graph.{Graph, IsVariable}
 use Rattle.cpg_base.specs.Scenario.{Scenario, IsScenario}
 use Rattle.cpg_cube.specs.declared.literal.Literal.{Literal}
 use Rattle.cpg_cube.specs.Cube.{low_in, high_in, is_whole}
-use Rattle.cpg_cube.specs.Column.{Column, times_in}
+use Rattle.cpg_cube.specs.declared.column.Column.{Column}
+use Rattle.cpg_cube.specs.Column.{times_in}
 use Rattle.cpg_cube.specs.declared.listing.Listing.{Listing}
 use Rattle.cpg_merging.specs.Merged.{IsWider, AreMergeable, HaveNoWhole}
 

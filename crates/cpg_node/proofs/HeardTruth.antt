@@ -18,7 +18,7 @@ use Rattle.cpg_base.proofs.NumbersOf.{number_of-fault}
 use Rattle.cpg_cube.specs.Cube.{holds, matches}
 use Rattle.cpg_cube.specs.declared.literal.Literal.{Literal}
 use Rattle.cpg_table.specs.Table.{NodeTable, columns_of}
-use Rattle.cpg_cube.specs.Column.{Column}
+use Rattle.cpg_cube.specs.declared.column.Column.{Column}
 use Rattle.cpg_table.specs.Heard.{matching, facts_of_end, facts_of_frame, facts, is_heard, kept_low, kept_high}
 use Rattle.cpg_table.proofs.Settings.{Match}
 use Rattle.cpg_table.proofs.Told.{end_literals, frame_facts, Learnt, learnt_true}

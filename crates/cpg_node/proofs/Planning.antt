@@ -12,7 +12,7 @@ use Rattle.std.proofs.lemmas.List.{map-append, append_assoc}
 use Rattle.std.proofs.lemmas.List.Elements.{filter-append}
 use Rattle.cpg_base.proofs.Lists.{Contains-filter, Contains-filter_parts, Contains-map, same_filter}
 use Rattle.cpg_table.specs.Table.{Row}
-use Rattle.cpg_cube.specs.Column.{Column}
+use Rattle.cpg_cube.specs.declared.column.Column.{Column}
 use Rattle.cpg_node.specs.Dispatcher.{OwnTable, Range, Act, times_in, has_heard, no_column, acts_of_columns, acts_at}
 use Rattle.cpg_node.specs.Plan.{Planned, plan_of_columns, plan_from, plan_of, no_row, takes, act_of, SameAtEachTime}
 

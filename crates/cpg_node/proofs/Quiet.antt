@@ -8,7 +8,7 @@ use Rattle.std.proofs.lemmas.List.Elements.{All-cons, All-append, All-head, All-
 use Rattle.std.proofs.lemmas.List.Elements.{Contains-append_right, Contains-append_cases, Contains-get_or}
 use Rattle.cpg_base.proofs.Lists.{Contains-first, Contains-rest, Contains-cases, Contains-nil, Contains-map}
 use Rattle.cpg_base.proofs.Lists.{Contains-flat_map}
-use Rattle.cpg_cube.specs.Column.{Column}
+use Rattle.cpg_cube.specs.declared.column.Column.{Column}
 use Rattle.cpg_head.specs.declared.head_parts.HeadProcess.{HeadProcess}
 use Rattle.cpg_head.specs.Head.{IsHeadProcess}
 use Rattle.cpg_table.specs.Items.{own_front, own_from}

@@ -8,7 +8,7 @@ use Rattle.std.proofs.lemmas.List.Elements.{filter-append}
 use Rattle.std.proofs.lemmas.List.Sums.{sum_by-append, sum_by-cons}
 use Rattle.cpg_table.specs.Lawful.{column_count}
 use Rattle.cpg_table.specs.Table.{Row}
-use Rattle.cpg_cube.specs.Column.{Column}
+use Rattle.cpg_cube.specs.declared.column.Column.{Column}
 use Rattle.cpg_node.specs.Dispatcher.{Dispatcher, Range, Frame, Act, is_after, next, has_heard, acts_of_columns}
 use Rattle.cpg_node.specs.Dispatcher.{acts_of_turn, heard_after, turn, times_in}
 use Rattle.cpg_node.proofs.Next.{next_is}

@@ -10,7 +10,7 @@ use Rattle.cpg_base.specs.declared.limits.TheConstants.{MOST_COLUMNS}
 use Rattle.cpg_base.proofs.Lists.{Contains-cases, Contains-nil, Contains-flat_map_parts, Contains-map_parts}
 use Rattle.cpg_base.proofs.Ordered.{Rises, Rises-append}
 use Rattle.cpg_table.specs.Table.{Row, NodeTable}
-use Rattle.cpg_cube.specs.Column.{Column}
+use Rattle.cpg_cube.specs.declared.column.Column.{Column}
 use Rattle.cpg_head.specs.declared.head_parts.HeadProcess.{HeadProcess}
 use Rattle.cpg_head.specs.Head.{IsHeadProcess}
 use Rattle.cpg_table.specs.Items.{own_front, own_from}

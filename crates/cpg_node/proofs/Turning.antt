@@ -19,7 +19,7 @@ use Rattle.cpg_node.specs.Dispatcher.{possible_ends, candidates, is_after, least
 use Rattle.cpg_node.specs.Dispatcher.{due_reports, hear_end, hear_frame, acts_at, heard_after, acts_of_turn}
 use Rattle.cpg_node.specs.Dispatcher.{ends_in_turn, turn}
 use Rattle.cpg_table.specs.Table.{Row}
-use Rattle.cpg_cube.specs.Column.{Column}
+use Rattle.cpg_cube.specs.declared.column.Column.{Column}
 use Rattle.cpg_node.specs.State.{NodeState, earlier, IsTimed, AreTimed}
 use Rattle.cpg_node.specs.Plan.{Planned, IsLine, fixed_times, SameAtEachTime, plan_of, act_of, takes}
 use Rattle.cpg_node.proofs.Least.{least_passing, least_same}

@@ -20,7 +20,7 @@ use Rattle.cpg_order.proofs.DecidingLaws.{decides_earlier}
 use Rattle.cpg_base.proofs.Places.{on_node_before}
 use Rattle.cpg_cube.specs.declared.literal.Literal.{Literal}
 use Rattle.cpg_cube.specs.Cube.{matches}
-use Rattle.cpg_cube.specs.Column.{Column}
+use Rattle.cpg_cube.specs.declared.column.Column.{Column}
 use Rattle.cpg_run.specs.Carried.{carried_by_row, number_known, decided, heard, received, executed, passed}
 use Rattle.cpg_run.specs.Carried.{carried_at_start, carried_at_end, sent_by_value, queued, carried_at_send}
 use Rattle.cpg_run.specs.Carried.{carried_by_item, carried}

@@ -22,7 +22,8 @@ use Rattle.cpg_base.specs.Variable.{top}
 use Rattle.cpg_cube.specs.Fit.{IsCube}
 use Rattle.cpg_table.specs.Heard.{exactly, matching, kept_low, kept_high}
 use Rattle.cpg_table.specs.Table.{NodeTable, columns_of}
-use Rattle.cpg_cube.specs.Column.{Column, times_in}
+use Rattle.cpg_cube.specs.declared.column.Column.{Column}
+use Rattle.cpg_cube.specs.Column.{times_in}
 use Rattle.cpg_run.specs.Exact.{HasRunTimes}
 use Rattle.cpg_run.specs.Laws.{Given}
 use Rattle.cpg_run.specs.Supported.{Supported, known, known_by_item, known_at_start, known_at_end, up_to}

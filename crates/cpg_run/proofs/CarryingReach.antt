@@ -30,7 +30,7 @@ use Rattle.cpg_base.specs.Variable.{top}
 use Rattle.cpg_cube.proofs.Ranges.{narrow, range_of_literal}
 use Rattle.cpg_table.specs.Heard.{kept_low, kept_high}
 use Rattle.cpg_merging.specs.Merged.{IsLeastMatch}
-use Rattle.cpg_cube.specs.Column.{Column}
+use Rattle.cpg_cube.specs.declared.column.Column.{Column}
 use Rattle.cpg_run.proofs.Hearing.{kept_low_below, kept_high_above}
 use Rattle.cpg_run.specs.Carrying.{ContainsKept, AreCarrying}
 use Rattle.cpg_run.proofs.CarryingTimed.{carrying_active}

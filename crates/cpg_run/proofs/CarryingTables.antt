@@ -5,7 +5,7 @@ use Rattle.cpg_order.specs.Reach.{Reach, IsReach, reach_of, views}
 use Rattle.cpg_cube.specs.declared.literal.Literal.{Literal}
 use Rattle.cpg_merging.specs.Merged.{IsMerged}
 use Rattle.cpg_table.specs.Table.{NodeTable, columns_of}
-use Rattle.cpg_cube.specs.Column.{Column}
+use Rattle.cpg_cube.specs.declared.column.Column.{Column}
 use Rattle.cpg_table.specs.declared.rule.Rule.{Rule}
 use Rattle.cpg_run.specs.Exact.{IsFormed, IsExact}
 use Rattle.cpg_run.specs.Laws.{Keeps}

@@ -12,7 +12,8 @@ use Rattle.cpg_base.proofs.Lists.{Contains-first, Contains-map, Contains-filter,
 use Rattle.cpg_base.specs.Scenario.{Scenario, IsScenario}
 use Rattle.cpg_cube.specs.Cube.{matches}
 use Rattle.cpg_merging.specs.Merged.{IsLeastMatch}
-use Rattle.cpg_cube.specs.Column.{Column, times_in}
+use Rattle.cpg_cube.specs.declared.column.Column.{Column}
+use Rattle.cpg_cube.specs.Column.{times_in}
 use Rattle.cpg_run.specs.Run.{Times, IsRun, time_by}
 use Rattle.cpg_run.proofs.RunExists.{a_run}
 use Rattle.cpg_run.proofs.Runs.{time_parts}

@@ -11,7 +11,7 @@ use Rattle.cpg_base.proofs.Pairs.{AllPairs-nil, AllPairs-cons_by, AllPairs-appen
 use Rattle.cpg_base.specs.Scenario.{Scenario, IsScenario}
 use Rattle.cpg_cube.specs.declared.literal.Literal.{Literal}
 use Rattle.cpg_cube.specs.Fit.{lows}
-use Rattle.cpg_cube.specs.Column.{Column}
+use Rattle.cpg_cube.specs.declared.column.Column.{Column}
 use Rattle.cpg_run.specs.Carried.{carried}
 use Rattle.cpg_run.specs.Rows.{IsCubeOf, IsEntryIn, AreEntriesOf}
 use Rattle.cpg_run.proofs.CubesOf.{same_least}

@@ -5,7 +5,7 @@ use Rattle.cpg_base.proofs.Lists.{Contains-map, Contains-map_parts, Contains-fil
 use Rattle.cpg_base.specs.Order.{place}
 use Rattle.cpg_base.specs.Scenario.{Scenario, IsScenario}
 use Rattle.cpg_cube.specs.Cube.{matches}
-use Rattle.cpg_cube.specs.Column.{Column}
+use Rattle.cpg_cube.specs.declared.column.Column.{Column}
 use Rattle.cpg_run.specs.Carried.{row_at, carried}
 use Rattle.cpg_run.specs.RowLaws.{IsTimed, RowsHaveTimes}
 use Rattle.cpg_run.specs.Rows.{AreRows}

@@ -5,7 +5,7 @@ use Rattle.cpg_base.specs.Graph.{Graph, item_count, producer}
 use Rattle.cpg_base.specs.Order.{place}
 use Rattle.cpg_base.specs.Scenario.{Scenario}
 use Rattle.cpg_merging.specs.Merged.{IsMergeOf}
-use Rattle.cpg_cube.specs.Column.{Column}
+use Rattle.cpg_cube.specs.declared.column.Column.{Column}
 use Rattle.cpg_run.specs.Carried.{row_at, carried}
 use Rattle.cpg_run.specs.Rows.{IsCubeOf, IsEntryIn, AreEntriesOf, IsRowOf, AreRows}
 use Rattle.cpg_run.specs.RowLaws.{IsTimed, IsEarlier, SameRowsBefore, AreRowsBefore, HaveTimesOf}

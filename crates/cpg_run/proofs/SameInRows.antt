@@ -10,7 +10,7 @@ use Rattle.cpg_base.proofs.Lists.{Contains-first, Contains-cases, Contains-nil, 
 use Rattle.cpg_base.proofs.Lists.{Contains-filter_parts, in_option}
 use Rattle.cpg_base.specs.Scenario.{Scenario, IsScenario}
 use Rattle.cpg_cube.specs.Cube.{matches}
-use Rattle.cpg_cube.specs.Column.{Column}
+use Rattle.cpg_cube.specs.declared.column.Column.{Column}
 use Rattle.cpg_run.specs.Run.{Times, IsRun, time_in}
 use Rattle.cpg_run.proofs.Runs.{time_is, has_time, time_parts}
 use Rattle.cpg_run.specs.Carried.{row_at, carried_by_row}

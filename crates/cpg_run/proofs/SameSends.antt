@@ -23,7 +23,7 @@ use Rattle.cpg_order.proofs.Queues.{queued_parts}
 use Rattle.cpg_order.proofs.SameActivation.{takes_same}
 use Rattle.cpg_base.proofs.NumbersOf.{one_value, number_of-value}
 use Rattle.cpg_cube.specs.Cube.{holds, matches}
-use Rattle.cpg_cube.specs.Column.{Column}
+use Rattle.cpg_cube.specs.declared.column.Column.{Column}
 use Rattle.cpg_table.specs.Heard.{exactly}
 use Rattle.cpg_run.specs.Run.{Times, IsRun, time_in, send_bounds}
 use Rattle.cpg_run.proofs.RunExists.{a_run}

@@ -29,7 +29,7 @@ use Rattle.cpg_base.proofs.NumbersOf.{one_value, number_of-value, number_of-faul
 use Rattle.cpg_order.proofs.UrgencyIsTopological.{urgency_is_topological}
 use Rattle.cpg_cube.specs.Cube.{holds, matches}
 use Rattle.cpg_table.specs.Heard.{exactly}
-use Rattle.cpg_cube.specs.Column.{Column}
+use Rattle.cpg_cube.specs.declared.column.Column.{Column}
 use Rattle.cpg_run.specs.Alike.{Admitted}
 use Rattle.cpg_run.specs.Run.{Times, IsRun, end_in, input_there, heard_there, start_bounds, input_bounds}
 use Rattle.cpg_run.specs.Run.{processor_bounds, hearing_bounds, bounds_of_item, unfrozen_time}

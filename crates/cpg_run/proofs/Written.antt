@@ -29,7 +29,7 @@ use Rattle.cpg_order.specs.Reach.{most_loads}
 use Rattle.cpg_order.proofs.ReachExists.{some_reach}
 use Rattle.cpg_merging.specs.Merged.{IsLeastMatch}
 use Rattle.cpg_table.specs.Table.{Row, NodeTable, columns_in, columns_of}
-use Rattle.cpg_cube.specs.Column.{Column}
+use Rattle.cpg_cube.specs.declared.column.Column.{Column}
 use Rattle.cpg_table.specs.Writing.{row_for, IsWritable, AreWritable}
 use Rattle.cpg_table.proofs.NodeRows.{no_row}
 use Rattle.cpg_run.specs.Alike.{Admitted}

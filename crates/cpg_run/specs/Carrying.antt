@@ -10,7 +10,7 @@ use Rattle.cpg_cube.specs.declared.literal.Literal.{Literal}
 use Rattle.cpg_table.specs.Heard.{kept_low, kept_high}
 use Rattle.cpg_merging.specs.Merged.{AreMet, AreOrdered, HaveNoWhole, AreWithin, IsMerged}
 use Rattle.cpg_table.specs.Table.{NodeTable, columns_of}
-use Rattle.cpg_cube.specs.Column.{Column}
+use Rattle.cpg_cube.specs.declared.column.Column.{Column}
 use Rattle.cpg_table.specs.declared.rule.Rule.{Rule}
 use Rattle.cpg_run.specs.Exact.{IsExact}
 use Rattle.cpg_run.specs.Laws.{Keeps, NothingIsLate}

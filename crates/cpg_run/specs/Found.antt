@@ -7,7 +7,7 @@ use Rattle.cpg_base.specs.Limits.{IsWithinLimits}
 use Rattle.cpg_order.specs.Reach.{Reach, IsReach, is_too_wide, rows_of_item}
 use Rattle.cpg_table.specs.Shape.{items_of}
 use Rattle.cpg_table.specs.Table.{Row}
-use Rattle.cpg_cube.specs.Column.{Column}
+use Rattle.cpg_cube.specs.declared.column.Column.{Column}
 use Rattle.cpg_table.specs.Writing.{AreWritable, AreTablesWith, row_for}
 use Rattle.cpg_run.specs.declared.built.Built.{Built}
 use Rattle.cpg_run.specs.Alike.{Admitted}

@@ -9,7 +9,7 @@ use Rattle.cpg_cube.specs.Fit.{lows}
 use Rattle.cpg_cube.specs.declared.literal.Literal.{Literal}
 use Rattle.cpg_table.specs.Heard.{kept_low, kept_high}
 use Rattle.cpg_merging.specs.Merged.{IsMergeOf}
-use Rattle.cpg_cube.specs.Column.{Column}
+use Rattle.cpg_cube.specs.declared.column.Column.{Column}
 use Rattle.cpg_run.specs.Run.{Times, IsRun}
 use Rattle.cpg_run.specs.Carried.{row_at, carried}
 

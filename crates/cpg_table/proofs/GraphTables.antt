@@ -16,7 +16,7 @@ use Rattle.cpg_base.proofs.ConditionProcesses.{condition_of_process_of}
 use Rattle.cpg_head.specs.GraphHead.{head_process, head_of}
 use Rattle.cpg_table.specs.Items.{own_process, own_from, own_of}
 use Rattle.cpg_table.specs.Table.{Row, NodeTable, table_at}
-use Rattle.cpg_cube.specs.Column.{Column}
+use Rattle.cpg_cube.specs.declared.column.Column.{Column}
 use Rattle.cpg_table.specs.Shape.{HasShape, SpeakOf, processes_on}
 use Rattle.cpg_table.specs.Lawful.{IsLawfulLiteral, IsLawfulColumn, IsLawfulRow, space_of, AreTablesOf}
 use Rattle.cpg_head.proofs.HeadWithin.{has_condition, conditions_counted}

@@ -22,7 +22,7 @@ use Rattle.cpg_table.specs.Items.{starts_of, sends_of, hears_of, lists_of}
 use Rattle.cpg_table.specs.Lawful.{IsLawfulLiteral, IsLawfulColumn, IsLawfulRow, AreRowsOf, space_of}
 use Rattle.cpg_table.specs.Shape.{items_of}
 use Rattle.cpg_table.specs.Table.{Row}
-use Rattle.cpg_cube.specs.Column.{Column}
+use Rattle.cpg_cube.specs.declared.column.Column.{Column}
 use Rattle.cpg_table.specs.Valid.{later_by}
 use Rattle.cpg_table.proofs.GraphItems.{starts_are, sends_are, hears_are}
 use Rattle.cpg_head.proofs.HeadWithin.{conditions_counted}

@@ -6,7 +6,7 @@ use Rattle.std.specs.List.{flat_map}
 use Rattle.std.proofs.lemmas.List.{drop_more}
 use Rattle.std.proofs.lemmas.List.Sums.{sum_by-append, sum_by-cons}
 use Rattle.cpg_table.specs.Table.{Row, NodeTable, empty_table, table_at, columns_in, columns_of}
-use Rattle.cpg_cube.specs.Column.{Column}
+use Rattle.cpg_cube.specs.declared.column.Column.{Column}
 use Rattle.cpg_table.specs.Lawful.{column_count, rows_of, AreTablesOf}
 use Rattle.cpg_head.specs.Head.{Head}
 use Rattle.cpg_base.specs.declared.limits.TheConstants.{MOST_LOAD}

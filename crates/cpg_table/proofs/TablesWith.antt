@@ -16,7 +16,7 @@ use Rattle.cpg_head.specs.GraphHead.{head_of}
 use Rattle.cpg_table.specs.Lawful.{Tables, AreTablesOf}
 use Rattle.cpg_table.specs.Shape.{HasShape, items_of, heard_by}
 use Rattle.cpg_table.specs.Table.{Row, NodeTable, table_at, empty_table, columns_of}
-use Rattle.cpg_cube.specs.Column.{Column}
+use Rattle.cpg_cube.specs.declared.column.Column.{Column}
 use Rattle.cpg_table.specs.Valid.{later_by, hear_row, hear_rows}
 use Rattle.cpg_table.proofs.GraphItems.{hears_are}
 use Rattle.cpg_table.proofs.GraphTables.{has_shape}

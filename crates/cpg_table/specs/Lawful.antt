@@ -5,7 +5,7 @@ use Rattle.cpg_cube.specs.Cube.{IsRising}
 use Rattle.cpg_cube.specs.declared.literal.Literal.{Literal}
 use Rattle.cpg_head.specs.Head.{Head, IsHead}
 use Rattle.cpg_table.specs.Table.{Row, NodeTable, table_at}
-use Rattle.cpg_cube.specs.Column.{Column}
+use Rattle.cpg_cube.specs.declared.column.Column.{Column}
 use Rattle.cpg_table.specs.Shape.{items_of}
 use Rattle.cpg_table.specs.Items.{first_broadcast, starts_of, sends_of, hears_of, own_of}
 use Rattle.cpg_table.specs.declared.space.VariableSpace.{VariableSpace}

@@ -14,7 +14,7 @@ use Rattle.cpg_table.specs.Items.{ItemLists, lists_of}
 use Rattle.cpg_table.specs.Lawful.{Tables, IsTableOf, AreTablesOf, rows_of}
 use Rattle.cpg_table.specs.Shape.{items_of}
 use Rattle.cpg_table.specs.Table.{Row, NodeTable, table_at, columns_of}
-use Rattle.cpg_cube.specs.Column.{Column}
+use Rattle.cpg_cube.specs.declared.column.Column.{Column}
 use Rattle.cpg_table.specs.Valid.{later_by, hear_rows}
 
 -- the row of an item, if each stands at the number of its item

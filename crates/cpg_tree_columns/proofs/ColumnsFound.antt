@@ -16,7 +16,7 @@ use Rattle.cpg_tree.specs.Space.{is_open_below, is_open_above, below_cut, above_
 use Rattle.cpg_tree.specs.declared.item.TreeItem.{TreeItem}
 use Rattle.cpg_tree.specs.Flat.{flat}
 use Rattle.cpg_tree.proofs.Flats.{flat-same}
-use Rattle.cpg_cube.specs.Column.{Column}
+use Rattle.cpg_cube.specs.declared.column.Column.{Column}
 use Rattle.cpg_cube.specs.declared.cube.Narrowing.{Narrowing}
 use Rattle.cpg_cube.specs.Undo.{IsUndo, restored}
 use Rattle.cpg_tree.specs.Decision.{HasCuts, IsFit, IsGood}

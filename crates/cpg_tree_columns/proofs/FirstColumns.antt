@@ -17,7 +17,7 @@ use Rattle.cpg_base.proofs.Lists.{Contains-first, Contains-rest, Contains-cases,
 use Rattle.cpg_base.proofs.Pairs.{AllPairs-first, AllPairs-rest}
 use Rattle.cpg_base.proofs.ScenarioOrder.{not_before_transitive}
 use Rattle.cpg_cube.specs.declared.literal.Literal.{Literal}
-use Rattle.cpg_cube.specs.Column.{Column}
+use Rattle.cpg_cube.specs.declared.column.Column.{Column}
 use Rattle.cpg_cube.specs.Cube.{matches, low_in}
 use Rattle.cpg_cube.specs.Fit.{IsKnown, lows, is_met}
 use Rattle.cpg_cube.specs.Keys.{AreByLows, lows_along}

@@ -16,7 +16,7 @@ use Rattle.cpg_cube.specs.Fit.{lows, is_met}
 use Rattle.cpg_cube.specs.Keys.{lows_along, IsFirstByLows}
 use Rattle.cpg_cube.proofs.CubeLows.{lows-least}
 use Rattle.cpg_cube.proofs.KeyLows.{lows_are_key}
-use Rattle.cpg_cube.specs.Column.{Column}
+use Rattle.cpg_cube.specs.declared.column.Column.{Column}
 use Rattle.cpg_tree_columns.specs.Columns.{column_of, columns_of_paths, IsTidyColumn}
 use Rattle.cpg_tree.specs.Tree.{Path}
 use Rattle.cpg_tree_columns.specs.Greatest.{HasNumberAt}

@@ -11,7 +11,7 @@ use Rattle.cpg_base.specs.Variable.{top}
 use Rattle.cpg_base.proofs.Lists.{Contains-cases, Contains-nil, all_from, numbers-Contains, Contains-flat_map_parts}
 use Rattle.cpg_base.proofs.Sums.{sum_by-below_first, sum_by-le_each}
 use Rattle.cpg_cube.specs.declared.literal.Literal.{Literal}
-use Rattle.cpg_cube.specs.Column.{Column}
+use Rattle.cpg_cube.specs.declared.column.Column.{Column}
 use Rattle.cpg_cube.specs.Cube.{low_in, is_whole}
 use Rattle.cpg_cube.specs.Fit.{IsCube, IsKnown, is_open, is_met, asked_faults}
 use Rattle.cpg_cube.proofs.CubeLows.{budget_of_cube}

@@ -10,7 +10,7 @@ use Rattle.cpg_base.specs.Scenario.{Scenario}
 use Rattle.cpg_base.specs.First.{IsFirst, earlier}
 use Rattle.cpg_base.proofs.First.{first_same, first_or}
 use Rattle.cpg_cube.specs.Cube.{matches}
-use Rattle.cpg_cube.specs.Column.{Column}
+use Rattle.cpg_cube.specs.declared.column.Column.{Column}
 use Rattle.cpg_violation.specs.Broken.{is_broken}
 
 both_or : (m a b : Bool) → ((m && a) || (m && b)) ≡ (m && (a || b))

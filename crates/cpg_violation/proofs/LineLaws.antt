@@ -5,7 +5,7 @@ use Rattle.std.specs.List.{fold}
 use Rattle.std.proofs.lemmas.Bool.{cases_eq}
 use Rattle.std.proofs.lemmas.List.{drop_more, get_or-set_same, get_or-set_other, length-set}
 use Rattle.std.proofs.lemmas.List.Elements.{All-weaker, All-more}
-use Rattle.cpg_cube.specs.Column.{Column}
+use Rattle.cpg_cube.specs.declared.column.Column.{Column}
 use Rattle.cpg_table.specs.Table.{NodeTable, columns_of}
 use Rattle.cpg_violation.specs.Lines.{AreLines, IsLine}
 use Rattle.cpg_violation.specs.declared.lines.SievedLine.{SievedLine}

@@ -10,7 +10,7 @@ use Rattle.cpg_base.proofs.Lists.{Contains-map, Contains-map_parts, Contains-fil
 use Rattle.cpg_base.specs.Scenario.{Scenario}
 use Rattle.cpg_cube.specs.Cube.{matches}
 use Rattle.cpg_table.specs.Table.{NodeTable, columns_of, at}
-use Rattle.cpg_cube.specs.Column.{Column}
+use Rattle.cpg_cube.specs.declared.column.Column.{Column}
 use Rattle.cpg_table.specs.Valid.{ends_of, is_by, breaks_inputs_of}
 
 module _ (tables : List NodeTable) where

@@ -11,7 +11,8 @@ use Rattle.std.proofs.lemmas.List.Elements.{Contains-push_cases, Contains-append
 use Rattle.cpg_base.proofs.Lists.{list_any_parts, list_any_true, same_truth}
 use Rattle.cpg_base.specs.Scenario.{Scenario, number_of}
 use Rattle.cpg_cube.specs.Cube.{matches}
-use Rattle.cpg_cube.specs.Column.{Column, column_at}
+use Rattle.cpg_cube.specs.declared.column.Column.{Column}
+use Rattle.cpg_cube.specs.Column.{column_at}
 use Rattle.cpg_violation.specs.Parted.{Parted, Cut}
 use Rattle.cpg_violation.specs.Sieves.{places_in, Sifts, is_at}
 

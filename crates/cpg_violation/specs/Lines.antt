@@ -2,7 +2,7 @@
 use Rattle.std.specs.Prelude.{ℕ, ◌≡◌, ◌<◌, ◌≤◌, ◌^◌, ◌-◌, List, All, length, get_or, min, max}
 use Rattle.std.specs.List.{fold}
 use Rattle.cpg_table.specs.Table.{NodeTable, columns_of}
-use Rattle.cpg_cube.specs.Column.{Column}
+use Rattle.cpg_cube.specs.declared.column.Column.{Column}
 use Rattle.cpg_violation.specs.Sieves.{IsSieveOf}
 use Rattle.cpg_violation.specs.declared.lines.SievedLine.{SievedLine}
 

@@ -2,7 +2,7 @@ use Rattle.std.proofs.Common.{All, sym, ap, ◌∙◌, subst}
 use Rattle.std.specs.List.{list_any}
 use Rattle.std.proofs.lemmas.List.Elements.{All-append}
 use Rattle.cpg_cube.specs.Cube.{matches}
-use Rattle.cpg_cube.specs.Column.{Column}
+use Rattle.cpg_cube.specs.declared.column.Column.{Column}
 use Rattle.cpg_cube.specs.Fit.{IsKnown}
 use Rattle.cpg_audit.proofs.IdleLaws.{idle_more}
 use Rattle.cpg_audit.proofs.idle.all_idle.Goals as goal

@@ -1,7 +1,7 @@
 use Rattle.std.proofs.Common.{subst}
 use Rattle.std.proofs.lemmas.List.Elements.{All-weaker}
 use Rattle.cpg_base.specs.Graph.{Graph}
-use Rattle.cpg_cube.specs.Column.{Column}
+use Rattle.cpg_cube.specs.declared.column.Column.{Column}
 use Rattle.cpg_cube.specs.Fit.{IsKnown}
 use Rattle.cpg_tree_columns.specs.Columns.{IsTidyColumn}
 use Rattle.cpg_tree.specs.Variables.{is_variable}

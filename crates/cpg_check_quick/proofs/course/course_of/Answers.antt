@@ -1,7 +1,7 @@
 use Rattle.std.proofs.Common.{◌≡◌, ◌∙◌, ◌≤◌, All, List, ap, subst}
 use Rattle.std.proofs.lemmas.Bool.{OnTrue_at}
 use Rattle.cpg_base.specs.Graph.{Graph}
-use Rattle.cpg_cube.specs.Column.{Column}
+use Rattle.cpg_cube.specs.declared.column.Column.{Column}
 use Rattle.cpg_violation.proofs.SpaceLaws.{few_of}
 use Rattle.cpg_row_trees.proofs.TreeLaws.{tree_of_row}
 use Rattle.cpg_check_quick.proofs.course.course_of.Goals as goal

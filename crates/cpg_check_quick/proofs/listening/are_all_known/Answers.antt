@@ -1,7 +1,7 @@
 use Rattle.std.proofs.Common.{◌≡◌, All, get_or, true, false}
 use Rattle.std.proofs.lemmas.Bool.{OnTrue_at}
 use Rattle.cpg_cube.specs.declared.literal.Literal.{Literal}
-use Rattle.cpg_cube.specs.Column.{Column}
+use Rattle.cpg_cube.specs.declared.column.Column.{Column}
 use Rattle.cpg_violation.proofs.SureLaws.{each_all, each_more}
 use Rattle.cpg_check_quick.proofs.listening.are_all_known.Goals as goal
 

@@ -1,6 +1,6 @@
 use Rattle.std.proofs.Common.{◌≡◌, All, get_or, take, true, false}
 use Rattle.cpg_cube.specs.declared.literal.Literal.{Literal}
-use Rattle.cpg_cube.specs.Column.{Column}
+use Rattle.cpg_cube.specs.declared.column.Column.{Column}
 use Rattle.cpg_check_quick.proofs.listening.are_all_known.Given as goal
 
 abbrev pub invariant-loop-column : goal.invariant-loop-column

@@ -2,7 +2,7 @@ use Rattle.std.proofs.Common.{◌≡◌, All, take, true}
 use Rattle.cpg_base.specs.Bus.{next_slot}
 use Rattle.cpg_base.specs.Scenario.{Scenario, IsScenario}
 use Rattle.cpg_cube.specs.Cube.{matches}
-use Rattle.cpg_cube.specs.Column.{Column}
+use Rattle.cpg_cube.specs.declared.column.Column.{Column}
 use Rattle.cpg_check_quick.proofs.slots.are_in_slots.Given as goal
 
 abbrev pub invariant-loop-column : goal.invariant-loop-column

@@ -5,7 +5,7 @@ use Rattle.cpg_base.specs.Graph.{home}
 use Rattle.cpg_base.specs.Scenario.{Scenario, IsScenario}
 use Rattle.cpg_cube.specs.Cube.{matches}
 use Rattle.cpg_table.specs.Table.{columns_of}
-use Rattle.cpg_cube.specs.Column.{Column}
+use Rattle.cpg_cube.specs.declared.column.Column.{Column}
 use Rattle.cpg_tree.proofs.Passes.{of_true}
 use Rattle.cpg_check_quick.specs.Order.{sending}
 use Rattle.cpg_check_quick.proofs.ClashLaws.{sure_own_slots}

@@ -1,5 +1,5 @@
 use Rattle.std.proofs.Common.{◌≡◌, refl}
-use Rattle.cpg_cube.specs.Column.{Column}
+use Rattle.cpg_cube.specs.declared.column.Column.{Column}
 use Rattle.cpg_check_quick.proofs.OrderLaws.{told_at}
 use Rattle.cpg_check_quick.proofs.SpeakerLaws.{only_place}
 use Rattle.cpg_check_quick.proofs.speakers.alone.Goals as goal

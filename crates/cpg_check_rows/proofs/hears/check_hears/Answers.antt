@@ -4,7 +4,7 @@ use Rattle.cpg_base.specs.Graph.{home, item_count}
 use Rattle.cpg_head.specs.GraphHead.{head_of}
 use Rattle.cpg_violation.proofs.HeadLaws.{tables_of_graph}
 use Rattle.cpg_table.specs.Lawful.{AreTablesOf}
-use Rattle.cpg_cube.specs.Column.{Column}
+use Rattle.cpg_cube.specs.declared.column.Column.{Column}
 use Rattle.cpg_table.specs.Valid.{later_by}
 use Rattle.cpg_check_rows.specs.Hears.{IsFirstHear, IsHeardWell, due_columns}
 use Rattle.cpg_table.proofs.RowColumns.{columns_few}

@@ -6,7 +6,7 @@ use Rattle.cpg_base.specs.First.{IsFirst}
 use Rattle.cpg_base.specs.Scenario.{Scenario}
 use Rattle.cpg_cube.specs.Cube.{matches}
 use Rattle.cpg_cover.specs.Cover.{is_left}
-use Rattle.cpg_cube.specs.Column.{Column}
+use Rattle.cpg_cube.specs.declared.column.Column.{Column}
 use Rattle.cpg_check_rows.proofs.PresentLaws.{absent_from, live_where}
 use Rattle.cpg_check_rows.proofs.present.least_uncarried.Goals as goal
 

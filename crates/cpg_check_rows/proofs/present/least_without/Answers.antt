@@ -5,7 +5,7 @@ use Rattle.cpg_cube.specs.Fit.{IsKnown}
 use Rattle.cpg_cover.specs.Cover.{is_left}
 use Rattle.cpg_cover.proofs.Kept.{all_unmapped}
 use Rattle.cpg_rules.specs.Guards.{tree_of}
-use Rattle.cpg_cube.specs.Column.{Column}
+use Rattle.cpg_cube.specs.declared.column.Column.{Column}
 use Rattle.cpg_violation.specs.Activity.{comes_to}
 use Rattle.cpg_check_rows.proofs.PresentLaws.{all_mapped, active_found}
 use Rattle.cpg_check_rows.proofs.present.least_without.Goals as goal

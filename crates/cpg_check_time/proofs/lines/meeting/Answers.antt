@@ -4,7 +4,8 @@ use Rattle.std.proofs.lemmas.List.Elements.{All-nil}
 use Rattle.cpg_base.proofs.Lists.{Contains-nil}
 use Rattle.cpg_base.specs.Scenario.{Scenario}
 use Rattle.cpg_cube.specs.Cube.{matches}
-use Rattle.cpg_cube.specs.Column.{Column, column_at}
+use Rattle.cpg_cube.specs.declared.column.Column.{Column}
+use Rattle.cpg_cube.specs.Column.{column_at}
 use Rattle.cpg_check_time.proofs.LineLaws.{AreFound, found_more, among_more, same_found}
 use Rattle.cpg_check_time.proofs.lines.meeting.Goals as goal
 

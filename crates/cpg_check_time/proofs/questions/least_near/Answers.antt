@@ -4,7 +4,7 @@ use Rattle.std.proofs.lemmas.List.Elements.{All-weaker, All-contains}
 use Rattle.cpg_base.specs.First.{IsFirst}
 use Rattle.cpg_base.proofs.First.{first_same}
 use Rattle.cpg_cover.proofs.Kept.{all_unmapped}
-use Rattle.cpg_cube.specs.Column.{Column}
+use Rattle.cpg_cube.specs.declared.column.Column.{Column}
 use Rattle.cpg_violation.proofs.Violations.{long_order}
 use Rattle.cpg_check_time.specs.Columns.{IsColumn}
 use Rattle.cpg_check_time.proofs.questions.least_near.Goals as goal

@@ -2,7 +2,7 @@ use Rattle.std.proofs.Common.{map, subst, Bor}
 use Rattle.std.specs.List.{list_any}
 use Rattle.std.proofs.lemmas.List.{take_all}
 use Rattle.cpg_base.specs.First.{IsFirst}
-use Rattle.cpg_cube.specs.Column.{Column}
+use Rattle.cpg_cube.specs.declared.column.Column.{Column}
 use Rattle.cpg_cover.proofs.AlongLaws.{lawful_if_some}
 use Rattle.cpg_check_time.proofs.Seeking.{first_mapped}
 use Rattle.cpg_check_time.proofs.questions.least_of.Goals as goal

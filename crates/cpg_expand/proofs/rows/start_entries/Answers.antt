@@ -2,7 +2,7 @@ use Rattle.std.proofs.Common.{◌≡◌, false, All}
 use Rattle.std.proofs.lemmas.List.Elements.{All-weaker}
 use Rattle.cpg_cube.specs.Cube.{is_whole}
 use Rattle.cpg_cube.specs.declared.literal.Literal.{Literal}
-use Rattle.cpg_cube.specs.Column.{Column}
+use Rattle.cpg_cube.specs.declared.column.Column.{Column}
 use Rattle.cpg_tree_columns.specs.Columns.{IsTidyColumn}
 use Rattle.cpg_tree.proofs.Passing.{known_from}
 use Rattle.cpg_expand.proofs.TreeColumns.{listed_all, mergeable}

@@ -1,7 +1,7 @@
 use Rattle.std.proofs.Common.{◌≡◌, ◌∙◌, get_or, sym, ap, subst}
 use Rattle.std.specs.Option.{option_to_list}
 use Rattle.cpg_cube.specs.Cube.{matches}
-use Rattle.cpg_cube.specs.Column.{Column}
+use Rattle.cpg_cube.specs.declared.column.Column.{Column}
 use Rattle.cpg_list.specs.Narrowing.{met}
 use Rattle.cpg_list.specs.TimeOrder.{FindsHit}
 use Rattle.cpg_list.proofs.CodeTold.{told_none, told_found, told_missing}

@@ -1,7 +1,7 @@
 use Rattle.std.proofs.Common.{◌∙◌, ◌<◌, length, get_or, sym, ap, rules, []}
 use Rattle.std.proofs.lemmas.List.{get_or_default}
 use Rattle.cpg_cube.specs.Cube.{matches}
-use Rattle.cpg_cube.specs.Column.{Column}
+use Rattle.cpg_cube.specs.declared.column.Column.{Column}
 use Rattle.cpg_list.specs.TimeOrder.{TimedColumn}
 use Rattle.cpg_list.proofs.CodeTimes.{missed_end, missed_time, passed_more}
 use Rattle.cpg_list.proofs.timed.hit.Goals as goal

@@ -2,7 +2,7 @@ use Rattle.std.proofs.Common.{IsPermutation, sym, ap, ◌∙◌, subst, true≢f
 use Rattle.std.proofs.lemmas.Bool.{OnTrue_from}
 use Rattle.cpg_cube.specs.declared.listing.Listing.{Listing}
 use Rattle.cpg_cube.specs.Keys.{AreByLows}
-use Rattle.cpg_cube.specs.Column.{Column}
+use Rattle.cpg_cube.specs.declared.column.Column.{Column}
 use Rattle.cpg_merging.specs.Merged.{IsMergeOf}
 use Rattle.cpg_merging.specs.Merging.{IsShorn, AreSettled, all_shorn}
 use Rattle.cpg_merging.proofs.MergingSteps.{shorn_columns}

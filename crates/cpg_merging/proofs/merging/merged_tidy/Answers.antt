@@ -1,7 +1,7 @@
 use Rattle.std.proofs.Common.{IsPermutation, sym, subst}
 use Rattle.std.proofs.lemmas.Bool.{OnTrue_at, OnTrue_from}
 use Rattle.cpg_cube.specs.Keys.{AreByLows}
-use Rattle.cpg_cube.specs.Column.{Column}
+use Rattle.cpg_cube.specs.declared.column.Column.{Column}
 use Rattle.cpg_merging.specs.Merged.{IsMergeOf}
 use Rattle.cpg_merging.specs.Merging.{AreSettled}
 use Rattle.cpg_merging.proofs.MergingCubes.{tidy_kept}

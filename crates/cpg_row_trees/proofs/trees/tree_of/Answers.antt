@@ -1,6 +1,6 @@
 use Rattle.std.proofs.Common.{◌≡◌, ◌∙◌, Bor, List, map, arith, ap}
 use Rattle.cpg_cube.specs.declared.literal.Literal.{Literal}
-use Rattle.cpg_cube.specs.Column.{Column}
+use Rattle.cpg_cube.specs.declared.column.Column.{Column}
 use Rattle.cpg_row_trees.proofs.TreeLaws.{as_long, row_tree_of}
 use Rattle.cpg_row_trees.proofs.trees.tree_of.Goals as goal
 

@@ -4,7 +4,7 @@ use Rattle.std.proofs.lemmas.List.Elements.{All-weaker}
 use Rattle.cpg_base.specs.Graph.{home}
 use Rattle.cpg_base.specs.Bus.{slot_length}
 use Rattle.cpg_table.specs.Table.{Row}
-use Rattle.cpg_cube.specs.Column.{Column}
+use Rattle.cpg_cube.specs.declared.column.Column.{Column}
 use Rattle.cpg_table.specs.Valid.{later_by}
 use Rattle.cpg_table.specs.Writing.{row_for, IsWritable}
 use Rattle.cpg_table.proofs.NodeRows.{no_row, long, writable, slot_short}

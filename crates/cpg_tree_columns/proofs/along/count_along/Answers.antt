@@ -1,6 +1,6 @@
 use Rattle.std.proofs.Common.{ℕ, Option, sym, ap, subst}
 use Rattle.std.proofs.lemmas.Option.{IfSome_then}
-use Rattle.cpg_cube.specs.Column.{Column}
+use Rattle.cpg_cube.specs.declared.column.Column.{Column}
 use Rattle.cpg_cube.specs.Keys.{AreByLows}
 use Rattle.cpg_tree.specs.TreeNode.{TreeNode}
 use Rattle.cpg_tree_columns.specs.Columns.{columns_of_paths}

@@ -1,6 +1,6 @@
 use Rattle.std.proofs.Common.{ℕ, Option, sym, subst}
 use Rattle.std.specs.Option.{IfSome}
-use Rattle.cpg_cube.specs.Column.{Column}
+use Rattle.cpg_cube.specs.declared.column.Column.{Column}
 use Rattle.cpg_cube.specs.Keys.{AreByLows}
 use Rattle.cpg_tree_columns.specs.Columns.{columns_of_paths}
 use Rattle.cpg_tree_columns.proofs.listing.listing_along.Goals as goal

@@ -5,7 +5,7 @@ use Rattle.std.proofs.lemmas.List.Elements.{Contains-get_or}
 use Rattle.cpg_base.specs.Scenario.{Scenario, IsLeast}
 use Rattle.cpg_cube.specs.Fit.{lows}
 use Rattle.cpg_cube.specs.Keys.{IsFirstByLows}
-use Rattle.cpg_cube.specs.Column.{Column}
+use Rattle.cpg_cube.specs.declared.column.Column.{Column}
 use Rattle.cpg_tree_columns.specs.Columns.{columns_of_paths, IsTidyColumn}
 use Rattle.cpg_tree_columns.specs.Greatest.{HasNumberAt}
 use Rattle.cpg_tree.specs.Tree.{Path}

@@ -2,7 +2,7 @@ use Rattle.std.proofs.Common.{◌≡◌, ◌≤◌, ◌+◌, All, true, subst}
 use Rattle.cpg_base.specs.Duration.{duration, due}
 use Rattle.cpg_base.specs.Scenario.{Scenario, IsScenario, fault_of}
 use Rattle.cpg_cube.specs.Cube.{matches}
-use Rattle.cpg_cube.specs.Column.{Column}
+use Rattle.cpg_cube.specs.declared.column.Column.{Column}
 use Rattle.cpg_tree.proofs.Passes.{of_true}
 use Rattle.cpg_violation.proofs.TimeLaws.{due_sure}
 use Rattle.cpg_violation.proofs.quick_due.is_sure.Goals as goal

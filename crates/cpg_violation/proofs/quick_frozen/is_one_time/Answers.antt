@@ -1,5 +1,5 @@
 use Rattle.std.proofs.Common.{◌≡◌}
-use Rattle.cpg_cube.specs.Column.{Column}
+use Rattle.cpg_cube.specs.declared.column.Column.{Column}
 use Rattle.cpg_violation.proofs.SureLaws.{each_all}
 use Rattle.cpg_violation.proofs.quick_frozen.is_one_time.Goals as goal
 

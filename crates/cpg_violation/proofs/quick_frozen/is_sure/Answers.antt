@@ -1,5 +1,5 @@
 use Rattle.std.proofs.Common.{◌≡◌, All, subst}
-use Rattle.cpg_cube.specs.Column.{Column}
+use Rattle.cpg_cube.specs.declared.column.Column.{Column}
 use Rattle.cpg_tree.proofs.Passes.{of_true}
 use Rattle.cpg_violation.proofs.TimeLaws.{frozen_sure}
 use Rattle.cpg_violation.proofs.quick_frozen.is_sure.Goals as goal

@@ -3,7 +3,7 @@ use Rattle.cpg_base.proofs.Lists.{Contains-filter_parts, numbers-Contains}
 use Rattle.cpg_base.specs.Graph.{is_heard_by, item_at, item_count}
 use Rattle.cpg_base.specs.Numbers.{numbers_below}
 use Rattle.cpg_cube.specs.Fit.{IsKnown}
-use Rattle.cpg_cube.specs.Column.{Column}
+use Rattle.cpg_cube.specs.declared.column.Column.{Column}
 use Rattle.cpg_violation.specs.Lines.{IsLine}
 use Rattle.cpg_violation.proofs.Violations.{columns_known}
 use Rattle.cpg_check_heard.specs.declared.bound.LiteralBound.{LiteralBound}

@@ -2,7 +2,7 @@ use Rattle.std.proofs.Common.{◌≡◌, ◌<◌, ◌≤◌, ◌∙◌, All, ari
 use Rattle.cpg_base.specs.Duration.{duration}
 use Rattle.cpg_base.specs.Graph.{item_count, node_of, process_count, process_of_variable}
 use Rattle.cpg_table.specs.Table.{columns_of}
-use Rattle.cpg_cube.specs.Column.{Column}
+use Rattle.cpg_cube.specs.declared.column.Column.{Column}
 use Rattle.cpg_check_heard.proofs.Endings.{ended_by}
 use Rattle.cpg_check_heard.proofs.TellerLists.{teller_at}
 use Rattle.cpg_check_heard.proofs.hearing.Hearing.has_ended.Goals as goal

@@ -1,7 +1,7 @@
 use Rattle.std.proofs.Common.{◌≡◌, All, true}
 use Rattle.std.proofs.lemmas.Bool.{OnTrue_at}
 use Rattle.cpg_cube.specs.Cube.{matches}
-use Rattle.cpg_cube.specs.Column.{Column}
+use Rattle.cpg_cube.specs.declared.column.Column.{Column}
 use Rattle.cpg_check_quick.specs.Order.{IsOverBy}
 use Rattle.cpg_check_quick.proofs.OrderLaws.{over_all}
 use Rattle.cpg_violation.proofs.SureLaws.{each_all, each_more}

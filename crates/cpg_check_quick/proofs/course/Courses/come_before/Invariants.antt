@@ -3,7 +3,7 @@ use Rattle.cpg_base.specs.Graph.{Graph}
 use Rattle.cpg_base.specs.Scenario.{Scenario, IsScenario}
 use Rattle.cpg_cube.specs.Cube.{matches}
 use Rattle.cpg_table.specs.Table.{NodeTable}
-use Rattle.cpg_cube.specs.Column.{Column}
+use Rattle.cpg_cube.specs.declared.column.Column.{Column}
 use Rattle.cpg_check_quick.specs.Courses.{AreCourses}
 use Rattle.cpg_check_quick.specs.Order.{IsOverBy}
 use Rattle.cpg_check_quick.proofs.course.Courses.come_before.Given as goal

@@ -1,6 +1,6 @@
 use Rattle.std.proofs.Common.{Contains, List, subst, sym}
 use Rattle.std.proofs.lemmas.Bool.{OnTrue_at}
-use Rattle.cpg_cube.specs.Column.{Column}
+use Rattle.cpg_cube.specs.declared.column.Column.{Column}
 use Rattle.cpg_check_quick.specs.Hearing.{IsAllHeard}
 use Rattle.cpg_violation.proofs.SureLaws.{each_all, each_more}
 use Rattle.cpg_check_quick.proofs.listening.Listener.hears_all.Goals as goal
